@@ -1,0 +1,182 @@
+-- Laws of a command's grounds: which applies first, what it tells that none does, and what a refusal names. Each follows from the
+-- tests, in their order. Assumes nothing.
+use Prim.Native.Nat.{ℕ, _+_, _<_, _≤_}
+use mathlib.Core.Path.{_≡_, refl, subst₂}
+use native.Mathlib.Omega.{arith}
+use mathlib.Core.Bool.{Bool, true, false, or-true}
+use mathlib.Core.List.{List, [], _∷_, _++_}
+use lib.Dec.{eqb, ltb}
+use lib.ListN.{length}
+use borrow.Author.Tests.{lt-ltb, le-ltb, ltb-false, leb-false, eqb-false, not-false}
+use Rattle.network.specs.declared.Check.{Check}
+use Rattle.network.specs.declared.Check.the-variants.{Passes, Refused}
+use Rattle.network.specs.Divisor.{lcm}
+use Rattle.network.specs.Network.{Net, Command, statesLine, callsByOffset, callsByRide, ends, unknown}
+use Rattle.network.specs.Network.{maxLines, maxPeriod, maxCycle, maxStop, maxOffset, maxCalls}
+use Rattle.network.specs.Network.{cycle, callsAt, callsAnywhere, word, operandBytes, lineOperand, stopOperand, rideOffset}
+use Rattle.network.specs.Grounds.{Ground, _at_when_, first, cutOff, periodOutOfRange, someLineSilent, callGrounds, grounds}
+use Rattle.network.proofs.Laws.Lists.{zero-ne-one, or-neither, allBelow-at}
+
+pub first-none : first [] ≡ Passes
+unfolding first
+first-none = refl
+
+-- A ground that applies refuses
+pub first-hit : (number place : ℕ) (t : Bool) (gs : List Ground) → t ≡ true → first ((number at place when t) ∷ gs) ≡ Refused number place
+unfolding first
+first-hit number place t gs e = rw e
+
+-- One that doesn't leaves the rest
+pub first-miss : (number place : ℕ) (t : Bool) (gs : List Ground) → t ≡ false → first ((number at place when t) ∷ gs) ≡ first gs
+unfolding first
+first-miss number place t gs e = rw e
+
+-- Where all pass, the first doesn't apply and the rest pass
+pub first-passes : (number place : ℕ) (t : Bool) (gs : List Ground) → first ((number at place when t) ∷ gs) ≡ Passes → (t ≡ false) × (first gs ≡ Passes)
+unfolding first
+first-passes number place true gs e = absurd (zero-ne-one (cc))
+first-passes number place false gs e = (refl, e)
+
+-- Grounds after others: tried where none of those applies
+pub first-append-hit : (gs hs : List Ground) (number place : ℕ) → first gs ≡ Refused number place → first (gs ++ hs) ≡ Refused number place
+unfolding first
+first-append-hit [] hs number place e = absurd (zero-ne-one (cc))
+first-append-hit ((n at p when true) ∷ gs) hs number place e = e
+first-append-hit ((n at p when false) ∷ gs) hs number place e = first-append-hit gs hs number place e
+
+pub first-append-miss : (gs hs : List Ground) → first gs ≡ Passes → first (gs ++ hs) ≡ first hs
+unfolding first
+first-append-miss [] hs e = refl
+first-append-miss ((n at p when true) ∷ gs) hs e = absurd (zero-ne-one (cc))
+first-append-miss ((n at p when false) ∷ gs) hs e = first-append-miss gs hs e
+
+-- Where all of two lists pass, so do those of the first
+pub first-append-passes : (gs hs : List Ground) → first (gs ++ hs) ≡ Passes → (first gs ≡ Passes) × (first hs ≡ Passes)
+unfolding first
+first-append-passes [] hs e = (refl, e)
+first-append-passes ((n at p when true) ∷ gs) hs e = absurd (zero-ne-one (cc))
+first-append-passes ((n at p when false) ∷ gs) hs e = first-append-passes gs hs e
+
+-- The range of a period
+pub period-too-short : (period : ℕ) → period < 1 → periodOutOfRange period ≡ true
+unfolding periodOutOfRange
+period-too-short period h = rw (lt-ltb period 1 h)
+
+pub period-too-long : (period : ℕ) → maxPeriod < period → periodOutOfRange period ≡ true
+unfolding periodOutOfRange
+period-too-long period h = rw (lt-ltb maxPeriod period h) (or-true (ltb period 1))
+
+pub period-in-range : (period : ℕ) → 1 ≤ period → period ≤ maxPeriod → periodOutOfRange period ≡ false
+unfolding periodOutOfRange
+period-in-range period h k = rw (le-ltb period 1 h, le-ltb maxPeriod period k)
+
+-- ---- what it tells of a command that no ground applies
+
+not-cut-off : (c : Command) (behind : List ℕ) → cutOff c behind ≡ false → operandBytes c ≤ length behind
+unfolding cutOff
+not-cut-off c behind = ltb-false (length behind) (operandBytes c)
+
+pub record LineFits (n : Net) (behind : List ℕ) : Type 0 where
+  pub operands : 2 ≤ length behind
+  pub room : length (n .periods) < maxLines
+  pub period-pos : 0 < word behind 0
+  pub period : word behind 0 ≤ maxPeriod
+  pub cycle-max : lcm (cycle n) (word behind 0) ≤ maxCycle
+
+pub line-passes : (n : Net) (p : ℕ) (behind : List ℕ) → first (grounds statesLine n p behind) ≡ Passes → LineFits n behind
+unfolding grounds periodOutOfRange operandBytes
+line-passes n p behind e₀ =
+    let (cut, e₁) = first-passes _ _ _ _ e₀ in
+    let (full, e₂) = first-passes _ _ _ _ e₁ in
+    let (range, e₃) = first-passes _ _ _ _ e₂ in
+    let (low, high) = or-neither _ _ range in
+    let (long, e₄) = first-passes _ _ _ _ e₃ in
+    record {
+      operands = not-cut-off statesLine behind cut;
+      room = leb-false _ _ full;
+      period-pos = ltb-false _ _ low;
+      period = ltb-false _ _ high;
+      cycle-max = ltb-false _ _ long;
+    }
+
+pub record CallFits (c : Command) (n : Net) (behind : List ℕ) : Type 0 where
+  pub operands : operandBytes c ≤ length behind
+  pub line : lineOperand behind < length (n .periods)
+  pub stop : stopOperand behind ≤ maxStop
+  pub fresh : callsAt (lineOperand behind) (stopOperand behind) (n .calls) ≡ false
+  pub room : length (n .calls) < maxCalls
+
+pub call-passes : (c : Command) (n : Net) (p : ℕ) (behind : List ℕ) → first (callGrounds c n p behind) ≡ Passes → CallFits c n behind
+unfolding callGrounds
+call-passes c n p behind e₀ =
+    let (cut, e₁) = first-passes _ _ _ _ e₀ in
+    let (unstated, e₂) = first-passes _ _ _ _ e₁ in
+    let (far, e₃) = first-passes _ _ _ _ e₂ in
+    let (again, e₄) = first-passes _ _ _ _ e₃ in
+    let (full, e₅) = first-passes _ _ _ _ e₄ in
+    record {
+      operands = not-cut-off c behind cut;
+      line = leb-false _ _ unstated;
+      stop = ltb-false _ _ far;
+      fresh = again;
+      room = leb-false _ _ full;
+    }
+
+pub ride-passes : (n : Net) (p : ℕ) (behind : List ℕ) → first (grounds callsByRide n p behind) ≡ Passes
+    → CallFits callsByRide n behind × (rideOffset n behind ≤ maxOffset)
+unfolding grounds
+ride-passes n p behind e₀ =
+    let (shared, e₁) = first-append-passes (callGrounds callsByRide n p behind) _ e₀ in
+    let (none, e₂) = first-passes _ _ _ _ e₁ in
+    let (late, e₃) = first-passes _ _ _ _ e₂ in
+    (call-passes callsByRide n p behind shared, ltb-false _ _ late)
+
+-- 43 and 46 are as long, so that what they share is the same
+pub call-grounds-alike : (n : Net) (p : ℕ) (behind : List ℕ) → callGrounds callsByRide n p behind ≡ callGrounds callsByOffset n p behind
+unfolding callGrounds cutOff operandBytes
+call-grounds-alike n p behind = refl
+
+pub record EndFits (n : Net) (behind : List ℕ) : Type 0 where
+  pub some-line : 0 < length (n .periods)
+  pub every-line-calls : (i : ℕ) → i < length (n .periods) → callsAnywhere i (n .calls) ≡ true
+  pub last : length behind ≡ 0
+
+pub end-passes : (n : Net) (p : ℕ) (behind : List ℕ) → first (grounds ends n p behind) ≡ Passes → EndFits n behind
+unfolding grounds someLineSilent
+end-passes n p behind e₀ =
+    let (unfit, e₁) = first-passes _ _ _ _ e₀ in
+    let (empty, silent) = or-neither (eqb (length (n .periods)) 0) (someLineSilent n) unfit in
+    let (more, e₂) = first-passes _ _ _ _ e₁ in
+    record {
+      some-line = omega (arith, eqb-false (length (n .periods)) 0 empty);
+      every-line-calls = λ i. allBelow-at (λ line. callsAnywhere line (n .calls)) (length (n .periods)) i (not-false _ silent);
+      last = omega (arith, leb-false 1 (length behind) more);
+    }
+
+-- ---- what a refusal names: a number of document 01's fourteen, and the command's place or, by ground 14, the next
+
+abbrev AllNamed : (ℕ → ℕ → Type 0) → List Ground → Type 0
+AllNamed P [] = Unit {0}
+AllNamed P ((number at place when t) ∷ gs) = P number place × AllNamed P gs
+
+first-named : (P : ℕ → ℕ → Type 0) (gs : List Ground) (number place : ℕ) → AllNamed P gs → first gs ≡ Refused number place
+    → P number place
+unfolding first
+first-named P [] number place h e = absurd (zero-ne-one (cc))
+first-named P ((m at q when true) ∷ gs) number place h e = let i : m ≡ number = cc in let j : q ≡ place = cc in subst₂ P i j (h .0)
+first-named P ((m at q when false) ∷ gs) number place h e = first-named P gs number place (h .1) e
+
+abbrev Named : ℕ → ℕ → ℕ → Type 0
+Named p number place = (1 ≤ number) × (number ≤ 14) × (place ≤ p + 1)
+
+grounds-named : (c : Command) (n : Net) (p : ℕ) (behind : List ℕ) → AllNamed (Named p) (grounds c n p behind)
+unfolding grounds callGrounds
+grounds-named statesLine n p behind = omega arith
+grounds-named callsByOffset n p behind = omega arith
+grounds-named callsByRide n p behind = omega arith
+grounds-named ends n p behind = omega arith
+grounds-named unknown n p behind = omega arith
+
+pub refused-named : (c : Command) (n : Net) (p : ℕ) (behind : List ℕ) (number place : ℕ)
+    → first (grounds c n p behind) ≡ Refused number place → (1 ≤ number) × (number ≤ 14) × (place ≤ p + 1)
+refused-named c n p behind number place = first-named (Named p) (grounds c n p behind) number place (grounds-named c n p behind)

@@ -1,0 +1,139 @@
+-- Laws of the tests over lists and ranges, by which a loop's invariant goes on from a part of a row to the next: each is one induction.
+-- Assumes nothing.
+use Prim.Native.Nat.{ℕ, zero, suc, _+_, _-_, _<_, _≤_, suc-le-suc}
+use mathlib.Core.Path.{_≡_, refl, sym, ap, _∙_}
+use mathlib.Core.Bool.{Bool, true, false, _&&_, _||_, and-false, or-assoc, or-false, or-true}
+use mathlib.Core.List.{List, [], _∷_, _++_}
+use mathlib.Core.Logic.{_⊎_, inl, inr}
+use native.Mathlib.Nat.{le-refl, le-antisymm, le-of-suc-le-suc, eq-or-lt-of-le, zero-lt-suc}
+use native.Mathlib.Numerals.{add-one}
+use native.Mathlib.Omega.{arith}
+use lib.ListN.{length, getD, take, drop, set, length-drop}
+use lib.Seq.{take-suc, take-suc-set, take-all}
+use Rattle.network.specs.Lists.{pick, any, allBelow, countBelow}
+
+-- For two constructors that an equation takes for one: `cc` then proves that 0 is 1
+pub zero-ne-one : _≡_ {A = ℕ} 0 1 → ⊥
+zero-ne-one e = omega arith
+
+-- A test of two parts, from its parts
+pub and-both : (a b : Bool) → a ≡ true → b ≡ true → (a && b) ≡ true
+and-both a b e f = rw (e, f)
+
+pub and-not-left : (a b : Bool) → a ≡ false → (a && b) ≡ false
+and-not-left a b e = rw e
+
+pub and-not-right : (a b : Bool) → b ≡ false → (a && b) ≡ false
+and-not-right a b e = rw e (and-false a)
+
+pub or-left : (a b : Bool) → a ≡ true → (a || b) ≡ true
+or-left a b e = rw e
+
+pub or-right : (a b : Bool) → b ≡ true → (a || b) ≡ true
+or-right a b e = rw e (or-true a)
+
+pub or-none : (a b : Bool) → a ≡ false → b ≡ false → (a || b) ≡ false
+or-none a b e f = rw (e, f)
+
+-- A test of two parts that fails, into its parts
+pub or-neither : (a b : Bool) → (a || b) ≡ false → (a ≡ false) × (b ≡ false)
+or-neither true b e = absurd (zero-ne-one (cc))
+or-neither false b e = (refl, e)
+
+module _ {A : Type 0} (p : A → Bool) where
+  pub any-append : (xs ys : List A) → any p (xs ++ ys) ≡ (any p xs || any p ys)
+  unfolding any
+  any-append [] ys = refl
+  any-append (x ∷ xs) ys = ap (λ t. p x || t) (any-append xs ys) ∙ sym (or-assoc (p x) (any p xs) (any p ys))
+
+  -- one place more of a row
+  pub any-take-next : (l : List A) (i : ℕ) (d : A) → i < length l → any p (take (i + 1) l) ≡ (any p (take i l) || p (getD l i d))
+  unfolding any
+  any-take-next l i d h =
+      rw (add-one, take-suc l i d) (any-append (take i l) (getD l i d ∷ []) ∙ ap (λ t. any p (take i l) || t) (or-false _))
+
+  -- none so far, and not the next
+  pub any-take-none : (l : List A) (i : ℕ) (d : A) → i < length l → any p (take i l) ≡ false → p (getD l i d) ≡ false → any p (take (i + 1) l) ≡ false
+  any-take-none l i d h e f = any-take-next l i d h ∙ rw (e, f) refl
+
+  -- a place of the row that passes
+  pub any-take-found : (l : List A) (i n : ℕ) (d : A) → i < length l → i < n → p (getD l i d) ≡ true → any p (take n l) ≡ true
+  unfolding any
+  any-take-found [] i n d h k e = absurd (omega arith)
+  any-take-found (x ∷ l) i zero d h k e = absurd (omega arith)
+  any-take-found (x ∷ l) zero (suc n) d h k e = rw e refl
+  any-take-found (x ∷ l) (suc i) (suc n) d h k e = ap (λ t. p x || t) (any-take-found l i n d (omega arith) (omega arith) e) ∙ or-true (p x)
+
+  -- no place of the row passes, once all are passed by
+  pub any-take-end : (l : List A) (i n : ℕ) → i ≤ n → n ≤ i → any p (take i l) ≡ false → false ≡ any p (take n l)
+  any-take-end l i n h k e = sym (ap (λ (m : ℕ). any p (take m l)) (le-antisymm k h) ∙ e)
+
+-- A row of which one place more counts, which was just written
+pub take-set-next : {A : Type 0} (l : List A) (i : ℕ) (a : A) → i < length l → take (i + 1) (set l i a) ≡ take i l ++ (a ∷ [])
+take-set-next l i a h = rw add-one (take-suc-set l i a h)
+
+-- Every number below `n` passes, so this one does
+pub allBelow-at : (p : ℕ → Bool) (n i : ℕ) → allBelow p n ≡ true → i < n → p i ≡ true
+unfolding allBelow
+allBelow-at p zero i e h = absurd (omega arith)
+allBelow-at p (suc n) i e h = go (allBelow p n) (allBelow-at p n i) e (eq-or-lt-of-le (le-of-suc-le-suc h))
+  where
+    go : (t : Bool) → (t ≡ true → i < n → p i ≡ true) → (t && p n) ≡ true → (i ≡ n) ⊎ (i < n) → p i ≡ true
+    go true f k (inl j) = ap p j ∙ k
+    go true f k (inr l) = f refl l
+    go false f k d = absurd (zero-ne-one (cc))
+
+-- One number more passes
+pub allBelow-next : (p : ℕ → Bool) (n : ℕ) → allBelow p n ≡ true → p n ≡ true → allBelow p (n + 1) ≡ true
+unfolding allBelow
+allBelow-next p n e f = rw add-one (and-both (allBelow p n) (p n) e f)
+
+-- One number below that doesn't pass is enough
+pub allBelow-fails : (p : ℕ → Bool) (n i : ℕ) → i < n → p i ≡ false → allBelow p n ≡ false
+unfolding allBelow
+allBelow-fails p zero i h e = absurd (omega arith)
+allBelow-fails p (suc n) i h e = go (allBelow-fails p n i) (eq-or-lt-of-le (le-of-suc-le-suc h))
+  where
+    go : (i < n → p i ≡ false → allBelow p n ≡ false) → (i ≡ n) ⊎ (i < n) → (allBelow p n && p n) ≡ false
+    go f (inl j) = and-not-right (allBelow p n) (p n) (sym (ap p j) ∙ e)
+    go f (inr l) = and-not-left (allBelow p n) (p n) (f l e)
+
+-- One number more is counted
+pub countBelow-next : (p : ℕ → Bool) (n : ℕ) → countBelow p (n + 1) ≡ countBelow p n + pick (p n) 1 0
+unfolding countBelow
+countBelow-next p n = rw add-one refl
+
+-- At most all of them pass
+pub countBelow-le : (p : ℕ → Bool) (n : ℕ) → countBelow p n ≤ n
+unfolding countBelow
+countBelow-le p zero = omega arith
+countBelow-le p (suc n) = let ih = countBelow-le p n in go (p n) ih
+  where
+    go : (t : Bool) → countBelow p n ≤ n → countBelow p n + pick t 1 0 ≤ suc n
+    go true h = omega arith
+    go false h = omega arith
+
+module _ {A : Type 0} (a d : A) where
+  -- What holds of every element and of one more
+  pub snoc-all : (P : A → Type 0) (xs : List A) → ((i : ℕ) → i < length xs → P (getD xs i d)) → P a
+      → (i : ℕ) → i < length (xs ++ (a ∷ [])) → P (getD (xs ++ (a ∷ [])) i d)
+  snoc-all P [] f g zero h = g
+  snoc-all P [] f g (suc i) h = absurd (omega arith)
+  snoc-all P (x ∷ xs) f g zero h = f 0 (zero-lt-suc _)
+  snoc-all P (x ∷ xs) f g (suc i) h = snoc-all P xs (λ j l. f (suc j) (suc-le-suc l)) g i (le-of-suc-le-suc h)
+
+  -- What holds of every two elements in their order, and of each and one more
+  pub snoc-pairs : (R : A → A → Type 0) (xs : List A) → ((j k : ℕ) → j < k → k < length xs → R (getD xs j d) (getD xs k d))
+      → ((j : ℕ) → j < length xs → R (getD xs j d) a)
+      → (j k : ℕ) → j < k → k < length (xs ++ (a ∷ [])) → R (getD (xs ++ (a ∷ [])) j d) (getD (xs ++ (a ∷ [])) k d)
+  snoc-pairs R [] f g j k h l = absurd (omega arith)
+  snoc-pairs R (x ∷ xs) f g j zero h l = absurd (omega arith)
+  snoc-pairs R (x ∷ xs) f g zero (suc k) h l =
+      snoc-all (R x) xs (λ i m. f 0 (suc i) (zero-lt-suc i) (suc-le-suc m)) (g 0 (zero-lt-suc _)) k (le-of-suc-le-suc l)
+  snoc-pairs R (x ∷ xs) f g (suc j) (suc k) h l =
+      snoc-pairs R xs (λ i m o q. f (suc i) (suc m) (suc-le-suc o) (suc-le-suc q)) (λ i m. g (suc i) (suc-le-suc m)) j k
+      (le-of-suc-le-suc h) (le-of-suc-le-suc l)
+
+-- The part of a list behind its first places, as a slice has it
+pub take-rest : {A : Type 0} (k : ℕ) (l : List A) → take (length l - k) (drop k l) ≡ drop k l
+take-rest k l = take-all (length l - k) (drop k l) (rw length-drop (le-refl _))

@@ -1,0 +1,244 @@
+-- Laws of reading a file: it is read from one command's place to the next, and each command that passes makes the network one line or one
+-- call longer, which bounds the place. Assumes nothing.
+use Prim.Native.Nat.{ℕ, zero, suc, _+_, _*_, _≤_, _<_}
+use mathlib.Core.Path.{_≡_, refl, ap, _∙_, subst}
+use mathlib.Core.Bool.{Bool, true, false}
+use mathlib.Core.List.{List, [], _∷_, _++_}
+use native.Mathlib.Omega.{arith}
+use lib.Dec.{ltb, leb}
+use lib.ListN.{length, getD, take, drop, length-append, length-take, length-drop}
+use lib.Seq.{getD-take}
+use borrow.Author.Tests.{ltb-true, ltb-false, leb-true, leb-false, lt-ltb, le-ltb, le-leb, lt-leb}
+use Rattle.network.specs.declared.Call.{Call}
+use Rattle.network.specs.declared.Check.{Check}
+use Rattle.network.specs.declared.Check.the-variants.{Passes, Refused}
+use Rattle.network.specs.Network.{Net, emptyNet, Command, statesLine, callsByOffset, callsByRide, ends, unknown}
+use Rattle.network.specs.Network.{maxLines, maxCalls, command, operandBytes, word, lineOperand, stopOperand}
+use Rattle.network.specs.Network.{statedOffset, rideOffset, withLine, withCall, callOf, extend}
+use Rattle.network.specs.Grounds.{first, grounds, callGrounds, cutOff}
+use Rattle.network.specs.Reading.{Reading, accepted, refused, proceed, readFrom, readFile}
+use Rattle.network.proofs.Laws.Lists.{zero-ne-one}
+use Rattle.network.proofs.Laws.Grounds.{line-passes, call-passes, ride-passes, end-passes, refused-named}
+
+-- The operands of the command before are passed over
+pub readFrom-skip : (n : Net) (p k : ℕ) (bs : List ℕ) → k ≤ length bs → readFrom n p k bs ≡ readFrom n (p + k) 0 (drop k bs)
+unfolding readFrom
+readFrom-skip n p zero bs h = ap (λ (q : ℕ). readFrom n q 0 bs) (omega arith)
+readFrom-skip n p (suc k) [] h = absurd (omega arith)
+readFrom-skip n p (suc k) (b ∷ bs) h =
+    readFrom-skip n (p + 1) k bs (omega arith) ∙ ap (λ (q : ℕ). readFrom n q 0 (drop k bs)) (omega arith)
+
+-- A command that passes has its operands
+pub passes-operands : (c : Command) (n : Net) (p : ℕ) (behind : List ℕ) → first (grounds c n p behind) ≡ Passes
+    → operandBytes c ≤ length behind
+unfolding grounds operandBytes
+passes-operands statesLine n p behind e = line-passes n p behind e .operands
+passes-operands callsByOffset n p behind e = call-passes callsByOffset n p behind e .operands
+passes-operands callsByRide n p behind e = ride-passes n p behind e .0 .operands
+passes-operands ends n p behind e = omega arith
+passes-operands unknown n p behind e = omega arith
+
+-- ---- how many lines and calls are stated before a place
+
+pub record Counted (n : Net) (p : ℕ) : Type 0 where
+  pub place : p ≡ 3 * length (n .periods) + 5 * length (n .calls)
+  pub lines : length (n .periods) ≤ maxLines
+  pub calls : length (n .calls) ≤ maxCalls
+
+counted-empty : Counted emptyNet 0
+counted-empty = omega arith
+
+counted-line : (n : Net) (p : ℕ) (period : ℕ) → length (n .periods) < maxLines → Counted n p → Counted (withLine n period) (p + 1 + 2)
+unfolding withLine
+counted-line n p period room r =
+    let e : length (n .periods ++ (period ∷ [])) ≡ length (n .periods) + 1 = length-append (n .periods) (period ∷ []) in
+    record { place = omega arith; lines = omega arith; calls = r .calls }
+
+counted-call : (n : Net) (p : ℕ) (c : Call) → length (n .calls) < maxCalls → Counted n p → Counted (withCall n c) (p + 1 + 4)
+unfolding withCall
+counted-call n p c room r =
+    let e : length (n .calls ++ (c ∷ [])) ≡ length (n .calls) + 1 = length-append (n .calls) (c ∷ []) in
+    record { place = omega arith; lines = r .lines; calls = omega arith }
+
+-- The next command's place, behind one that passes
+counted-next : (c : Command) (n : Net) (p : ℕ) (behind : List ℕ) → first (grounds c n p behind) ≡ Passes → (c ≡ ends → ⊥)
+    → Counted n p → Counted (extend c n behind) (p + 1 + operandBytes c)
+unfolding extend grounds operandBytes first
+counted-next statesLine n p behind e h r = counted-line n p _ (line-passes n p behind e .room) r
+counted-next callsByOffset n p behind e h r = counted-call n p _ (call-passes callsByOffset n p behind e .room) r
+counted-next callsByRide n p behind e h r = counted-call n p _ (ride-passes n p behind e .0 .room) r
+counted-next ends n p behind e h r = absurd (h refl)
+counted-next unknown n p behind e h r = absurd (zero-ne-one (cc))
+
+-- ---- the places to which the reader comes, and how it ends
+
+-- Reading `file` comes to place `p`, where `rest` stands and a command is due, with the network `n` before it
+pub data Reached (file : List ℕ) : Net → ℕ → List ℕ → Type 0 where
+  start : Reached file emptyNet 0 file
+  next : {n : Net} {p b : ℕ} {behind : List ℕ}
+      → Reached file n p (b ∷ behind)
+      → first (grounds (command b) n p behind) ≡ Passes
+      → (command b ≡ ends → ⊥)
+      → Reached file (extend (command b) n behind) (p + 1 + operandBytes (command b)) (drop (operandBytes (command b)) behind)
+
+-- The command at which the reading is decided
+pub data Last (file : List ℕ) : Reading → Type 0 where
+  runs-out : {n : Net} {p : ℕ} → Reached file n p [] → Last file (refused 1 p)
+  refuses : {n : Net} {p b : ℕ} {behind : List ℕ} {number place : ℕ}
+      → Reached file n p (b ∷ behind)
+      → first (grounds (command b) n p behind) ≡ Refused number place
+      → Last file (refused number place)
+  accepts : {n : Net} {p b : ℕ} {behind : List ℕ}
+      → Reached file n p (b ∷ behind)
+      → first (grounds ends n p behind) ≡ Passes
+      → Last file (accepted n)
+
+-- What a command does with the reading behind it: nothing, where it refuses or ends, and else it hands it on
+proceed-cases : (P : (Reading → Reading) → Type 0) (q : Check) (c : Command) (n : Net)
+    → ((number place : ℕ) → q ≡ Refused number place → P (λ onward. refused number place))
+    → (c ≡ ends → q ≡ Passes → P (λ onward. accepted n))
+    → ((c ≡ ends → ⊥) → q ≡ Passes → P (λ onward. onward))
+    → P (proceed q c n)
+unfolding proceed
+proceed-cases P (Refused number place) c n f g h = f number place refl
+proceed-cases P Passes statesLine n f g h = h (λ e. zero-ne-one (cc)) refl
+proceed-cases P Passes callsByOffset n f g h = h (λ e. zero-ne-one (cc)) refl
+proceed-cases P Passes callsByRide n f g h = h (λ e. zero-ne-one (cc)) refl
+proceed-cases P Passes ends n f g h = g refl refl
+proceed-cases P Passes unknown n f g h = h (λ e. zero-ne-one (cc)) refl
+
+-- By the number of bytes that are left
+last-from : (file : List ℕ) (fuel : ℕ) (n : Net) (p : ℕ) (rest : List ℕ) → length rest ≤ fuel → Reached file n p rest
+    → Last file (readFrom n p 0 rest)
+unfolding readFrom
+last-from file zero n p [] h r = runs-out r
+last-from file zero n p (b ∷ behind) h r = absurd (omega arith)
+last-from file (suc fuel) n p [] h r = runs-out r
+last-from file (suc fuel) n p (b ∷ behind) h r =
+    let c : Command = command b in
+    let onward : Reading = readFrom (extend c n behind) (p + 1) (operandBytes c) behind in
+    let left = length-drop (operandBytes c) behind in
+    proceed-cases (λ f. Last file (f onward)) (first (grounds c n p behind)) c n
+    (λ number place e. refuses r e)
+    (λ i e. accepts r (rw i at e))
+    (λ i e. let whole = passes-operands c n p behind e in rw readFrom-skip (last-from file fuel _ _ _ (omega arith) (next r e i)))
+
+pub readFile-last : (file : List ℕ) → Last file (readFile file)
+unfolding readFile
+readFile-last file = last-from file (length file) emptyNet 0 file (omega arith) start
+
+module _ {file : List ℕ} where
+  pub reached-counted : {n : Net} {p : ℕ} {rest : List ℕ} → Reached file n p rest → Counted n p
+  reached-counted start = counted-empty
+  reached-counted (next {n = n} {p = p} {b = b} {behind = behind} r e c) =
+      counted-next (command b) n p behind e c (reached-counted r)
+
+  reached-length : {n : Net} {p : ℕ} {rest : List ℕ} → Reached file n p rest → p + length rest ≡ length file
+  reached-length start = omega arith
+  reached-length (next {n = n} {p = p} {b = b} {behind = behind} r e c) =
+      let ih : p + suc (length behind) ≡ length file = reached-length r in
+      omega (arith, passes-operands (command b) n p behind e, length-drop (operandBytes (command b)) behind)
+
+-- ---- what a reading tells
+
+-- A refusal's place is at most 3 * 16 + 5 * 256, or one more by ground 14
+last-named : {file : List ℕ} {number place : ℕ} → Last file (refused number place) → (1 ≤ number) × (number ≤ 14) × (place ≤ 1329)
+last-named (runs-out r) = omega (arith, reached-counted r)
+last-named {number = number} {place = place} (refuses {n = n} {p = p} {b = b} {behind = behind} r f) =
+    omega (arith, reached-counted r, refused-named (command b) n p behind number place f)
+
+pub refused-place : (file : List ℕ) (number place : ℕ) → readFile file ≡ refused number place → place ≤ 1329
+refused-place file number place e = last-named (rw e at (readFile-last file)) .2
+
+pub refused-number : (file : List ℕ) (number place : ℕ) → readFile file ≡ refused number place → (1 ≤ number) × (number ≤ 14)
+refused-number file number place e = omega (arith, last-named (rw e at (readFile-last file)))
+
+last-length : {file : List ℕ} {n : Net} → Last file (accepted n) → length file ≡ 3 * length (n .periods) + 5 * length (n .calls) + 1
+last-length {n = n} (accepts {p = p} {behind = behind} r f) =
+    omega (arith, reached-counted r, reached-length r, end-passes n p behind f .last)
+
+pub accepted-length : (file : List ℕ) (n : Net) → readFile file ≡ accepted n
+    → length file ≡ 3 * length (n .periods) + 5 * length (n .calls) + 1
+accepted-length file n e = last-length (rw e at (readFile-last file))
+
+-- ---- the first 4,096 bytes decide: a command that is read stands at 1,328 or before, and looks at four bytes behind it at most
+
+ltb-take : (m k : ℕ) (l : List ℕ) → k ≤ m → ltb (length (take m l)) k ≡ ltb (length l) k
+ltb-take m k l h = go (ltb (length l) k) refl
+  where
+    go : (t : Bool) → ltb (length l) k ≡ t → ltb (length (take m l)) k ≡ t
+    go true e = omega (arith, length-take m l, ltb-true, lt-ltb)
+    go false e = omega (arith, length-take m l, ltb-false, le-ltb)
+
+leb-take : (m k : ℕ) (l : List ℕ) → k ≤ m → leb k (length (take m l)) ≡ leb k (length l)
+leb-take m k l h = go (leb k (length l)) refl
+  where
+    go : (t : Bool) → leb k (length l) ≡ t → leb k (length (take m l)) ≡ t
+    go true e = omega (arith, length-take m l, leb-true, le-leb)
+    go false e = omega (arith, length-take m l, leb-false, lt-leb)
+
+module _ (m : ℕ) (enough : 4 ≤ m) (behind : List ℕ) where
+  at-take : (i : ℕ) → i < 4 → getD (take m behind) i 0 ≡ getD behind i 0
+  at-take i h = getD-take m behind i 0 (omega arith)
+
+  word-take : (i : ℕ) → i < 3 → word (take m behind) i ≡ word behind i
+  unfolding word
+  word-take i h = rw (at-take i (omega arith), at-take (i + 1) (omega arith))
+
+  line-take : lineOperand (take m behind) ≡ lineOperand behind
+  unfolding lineOperand
+  line-take = at-take 0 (omega arith)
+
+  stop-take : stopOperand (take m behind) ≡ stopOperand behind
+  unfolding stopOperand
+  stop-take = at-take 1 (omega arith)
+
+  ride-take : (n : Net) → rideOffset n (take m behind) ≡ rideOffset n behind
+  unfolding rideOffset
+  ride-take n = rw (line-take, word-take 2 (omega arith))
+
+  extend-take : (c : Command) (n : Net) → extend c n (take m behind) ≡ extend c n behind
+  unfolding extend callOf statedOffset
+  extend-take statesLine n = rw (word-take 0 (omega arith))
+  extend-take callsByOffset n = rw (line-take, stop-take, word-take 2 (omega arith))
+  extend-take callsByRide n = rw (line-take, stop-take, ride-take)
+  extend-take ends n = refl
+  extend-take unknown n = refl
+
+  cut-off-take : (c : Command) → cutOff c (take m behind) ≡ cutOff c behind
+  unfolding cutOff operandBytes
+  cut-off-take statesLine = ltb-take m 2 behind (omega arith)
+  cut-off-take callsByOffset = ltb-take m 4 behind enough
+  cut-off-take callsByRide = ltb-take m 4 behind enough
+  cut-off-take ends = ltb-take m 0 behind (omega arith)
+  cut-off-take unknown = ltb-take m 0 behind (omega arith)
+
+  call-grounds-take : (c : Command) (n : Net) (p : ℕ) → callGrounds c n p (take m behind) ≡ callGrounds c n p behind
+  unfolding callGrounds
+  call-grounds-take c n p = rw (cut-off-take c, line-take, stop-take)
+
+  grounds-take : (c : Command) (n : Net) (p : ℕ) → grounds c n p (take m behind) ≡ grounds c n p behind
+  unfolding grounds
+  grounds-take statesLine n p = rw (cut-off-take statesLine, word-take 0 (omega arith))
+  grounds-take callsByOffset n p = call-grounds-take callsByOffset n p
+  grounds-take callsByRide n p = rw (call-grounds-take callsByRide n p, line-take, ride-take)
+  grounds-take ends n p = rw (leb-take m 1 behind (omega arith))
+  grounds-take unknown n p = refl
+
+readFrom-take : (n : Net) (p k m : ℕ) (bs : List ℕ) → Counted n (p + k) → 1333 ≤ p + m → readFrom n p k (take m bs) ≡ readFrom n p k bs
+unfolding readFrom
+readFrom-take n p k zero bs r h = absurd (omega arith)
+readFrom-take n p k (suc m) [] r h = refl
+readFrom-take n p (suc k) (suc m) (b ∷ bs) r h = readFrom-take n (p + 1) k m bs (subst (Counted n) (omega arith) r) (omega arith)
+readFrom-take n p zero (suc m) (b ∷ bs) r h =
+    let c : Command = command b in
+    let onward : List ℕ → Reading = readFrom (extend c n bs) (p + 1) (operandBytes c) in
+    rw (grounds-take m (omega arith) bs c n p, extend-take m (omega arith) bs c n)
+    (proceed-cases (λ f. f (onward (take m bs)) ≡ f (onward bs)) (first (grounds c n p bs)) c n
+    (λ number place e. refl)
+    (λ i e. refl)
+    (λ i e. readFrom-take _ _ _ m bs (counted-next c n p bs e i (subst (Counted n) (omega arith) r)) (omega arith)))
+
+pub first-4096 : (file : List ℕ) → readFile (take 4096 file) ≡ readFile file
+unfolding readFile
+first-4096 file = readFrom-take emptyNet 0 0 4096 file counted-empty (omega arith)

@@ -1,0 +1,146 @@
+-- Every network that the reader accepts is within the limits of document 01: each command that passes keeps them, and the last shows what
+-- only a whole network has. And the laws of its common cycle, which are those of a least common multiple. Assumes nothing.
+use Prim.Native.Nat.{ℕ, suc, _+_, _≤_, _<_}
+use mathlib.Core.Path.{_≡_, refl}
+use mathlib.Core.Bool.{false, _&&_}
+use mathlib.Core.List.{List, [], _∷_}
+use native.Mathlib.Omega.{arith}
+use lib.Dec.{eqb}
+use lib.ListN.{length, getD, length-append}
+use lib.Seq.{getD-drop, take-length}
+use borrow.Author.Tests.{eq-eqb}
+use Rattle.network.specs.declared.Call.{Call}
+use Rattle.network.specs.declared.Check.the-variants.{Passes}
+use Rattle.network.specs.Divisor.{Divides, cycleFrom, commonCycle}
+use Rattle.network.specs.Network.{Net, emptyNet, Command, statesLine, callsByOffset, callsByRide, ends, unknown}
+use Rattle.network.specs.Network.{maxPeriod, maxCycle, maxStop, maxOffset, cycle, callsAt, command, operandBytes}
+use Rattle.network.specs.Network.{word, lineOperand, stopOperand, statedOffset, withLine, withCall, callOf, extend}
+use Rattle.network.specs.Grounds.{first, grounds}
+use Rattle.network.specs.Reading.{readFile, accepted}
+use Rattle.network.specs.Valid.{IsBytes, noCall, Valid}
+use Rattle.network.proofs.Laws.Lists.{zero-ne-one, and-both, any-take-found, snoc-all, snoc-pairs}
+use Rattle.network.proofs.Laws.Divisor.{commonCycle-snoc, period-divides-commonCycle, commonCycle-least, commonCycle-pos}
+use Rattle.network.proofs.Laws.Grounds.{LineFits, CallFits, line-passes, call-passes, ride-passes, end-passes}
+use Rattle.network.proofs.Laws.Reading.{Reached, start, next, Last, accepts, reached-counted, readFile-last}
+
+-- What `Valid` asks of a network on the way, besides the numbers of lines and calls
+record Sound (n : Net) : Type 0 where
+  period-pos : (i : ℕ) → i < length (n .periods) → 0 < getD (n .periods) i 0
+  period : (i : ℕ) → i < length (n .periods) → getD (n .periods) i 0 ≤ maxPeriod
+  cycle-max : cycle n ≤ maxCycle
+  call-line : (k : ℕ) → k < length (n .calls) → getD (n .calls) k noCall .line < length (n .periods)
+  call-stop : (k : ℕ) → k < length (n .calls) → getD (n .calls) k noCall .stop ≤ maxStop
+  call-offset : (k : ℕ) → k < length (n .calls) → getD (n .calls) k noCall .offset ≤ maxOffset
+  once :
+      (j k : ℕ)
+      → j < k
+      → k < length (n .calls)
+      → getD (n .calls) j noCall .line ≡ getD (n .calls) k noCall .line
+      → getD (n .calls) j noCall .stop ≡ getD (n .calls) k noCall .stop
+      → ⊥
+
+sound-empty : Sound emptyNet
+unfolding cycle commonCycle cycleFrom
+sound-empty = omega arith
+
+sound-line : (n : Net) (behind : List ℕ) → LineFits n behind → Sound n → Sound (withLine n (word behind 0))
+unfolding withLine cycle
+sound-line n behind f s =
+    let t : ℕ = word behind 0 in
+    record {
+      period-pos = snoc-all t 0 (λ q. 0 < q) (n .periods) (s .period-pos) (f .period-pos);
+      period = snoc-all t 0 (λ q. q ≤ maxPeriod) (n .periods) (s .period) (f .period);
+      cycle-max = rw (commonCycle-snoc (n .periods) t) (f .cycle-max);
+      call-line = λ k h. omega (arith, s .call-line k h, length-append (n .periods) (t ∷ []));
+      call-stop = s .call-stop;
+      call-offset = s .call-offset;
+      once = s .once;
+    }
+
+-- A line that does not yet call at a stop
+not-called : (line stop : ℕ) (cs : List Call) (j : ℕ) → callsAt line stop cs ≡ false → j < length cs → getD cs j noCall .line ≡ line
+    → getD cs j noCall .stop ≡ stop → ⊥
+unfolding callsAt
+not-called line stop cs j e h f g =
+    let passes = and-both _ _ (eq-eqb _ _ f) (eq-eqb _ _ g) in
+    let called = any-take-found (λ (c : Call). eqb (c .line) line && eqb (c .stop) stop) cs j (length cs) noCall h h passes in
+    let again = rw take-length at called in
+    zero-ne-one (cc)
+
+sound-call : (c : Command) (n : Net) (behind : List ℕ) (offset : ℕ) → CallFits c n behind → offset ≤ maxOffset → Sound n
+    → Sound (withCall n (callOf behind offset))
+unfolding withCall callOf cycle
+sound-call c n behind offset f o s =
+    let call : Call = callOf behind offset in
+    record {
+      period-pos = s .period-pos;
+      period = s .period;
+      cycle-max = s .cycle-max;
+      call-line = snoc-all call noCall (λ d. d .line < length (n .periods)) (n .calls) (s .call-line) (f .line);
+      call-stop = snoc-all call noCall (λ d. d .stop ≤ maxStop) (n .calls) (s .call-stop) (f .stop);
+      call-offset = snoc-all call noCall (λ d. d .offset ≤ maxOffset) (n .calls) (s .call-offset) o;
+      once = snoc-pairs call noCall (λ d e. d .line ≡ e .line → d .stop ≡ e .stop → ⊥) (n .calls) (s .once)
+          (λ j h. not-called (lineOperand behind) (stopOperand behind) (n .calls) j (f .fresh) h);
+    }
+
+stated-max : (bs : List ℕ) → IsBytes bs → statedOffset bs ≤ maxOffset
+unfolding IsBytes statedOffset word
+stated-max bs h = omega (arith, h 2, h 3)
+
+sound-next : (c : Command) (n : Net) (p : ℕ) (behind : List ℕ) → first (grounds c n p behind) ≡ Passes → (c ≡ ends → ⊥)
+    → IsBytes behind → Sound n → Sound (extend c n behind)
+unfolding extend grounds first
+sound-next statesLine n p behind e h b s = sound-line n behind (line-passes n p behind e) s
+sound-next callsByOffset n p behind e h b s =
+    sound-call callsByOffset n behind _ (call-passes callsByOffset n p behind e) (stated-max behind b) s
+sound-next callsByRide n p behind e h b s = let f = ride-passes n p behind e in sound-call callsByRide n behind _ (f .0) (f .1) s
+sound-next ends n p behind e h b s = absurd (h refl)
+sound-next unknown n p behind e h b s = absurd (zero-ne-one (cc))
+
+module _ {file : List ℕ} (bytes : IsBytes file) where
+  reached-bytes : {n : Net} {p : ℕ} {rest : List ℕ} → Reached file n p rest → IsBytes rest
+  unfolding IsBytes
+  reached-bytes start = bytes
+  reached-bytes (next {b = b} {behind = behind} r e c) =
+      λ i. rw (getD-drop (operandBytes (command b)) behind i 0) (reached-bytes r (suc (operandBytes (command b) + i)))
+
+  reached-sound : {n : Net} {p : ℕ} {rest : List ℕ} → Reached file n p rest → Sound n
+  unfolding IsBytes
+  reached-sound start = sound-empty
+  reached-sound (next {n = n} {p = p} {b = b} {behind = behind} r e c) =
+      sound-next (command b) n p behind e c (λ i. reached-bytes r (suc i)) (reached-sound r)
+
+  last-valid : {n : Net} → Last file (accepted n) → Valid n
+  last-valid {n = n} (accepts {p = p} {behind = behind} r e) =
+      let s : Sound n = reached-sound r in
+      let f = end-passes n p behind e in
+      record {
+        some-line = f .some-line;
+        lines = reached-counted r .lines;
+        period-pos = s .period-pos;
+        period = s .period;
+        cycle-max = s .cycle-max;
+        calls = reached-counted r .calls;
+        call-line = s .call-line;
+        call-stop = s .call-stop;
+        call-offset = s .call-offset;
+        once = s .once;
+        every-line-calls = f .every-line-calls;
+      }
+
+pub accepted-valid : (file : List ℕ) (n : Net) → IsBytes file → readFile file ≡ accepted n → Valid n
+accepted-valid file n bytes e = last-valid bytes (rw e at (readFile-last file))
+
+-- ---- the common cycle of a network
+
+pub cycle-multiple : (n : Net) (i : ℕ) → i < length (n .periods) → Divides (getD (n .periods) i 0) (cycle n)
+unfolding cycle
+cycle-multiple n = period-divides-commonCycle (n .periods)
+
+pub cycle-least : (n : Net) (m : ℕ) → ((i : ℕ) → i < length (n .periods) → Divides (getD (n .periods) i 0) m) → Divides (cycle n) m
+unfolding cycle
+cycle-least n = commonCycle-least (n .periods)
+
+pub cycle-pos : {n : Net} → Valid n → 0 < cycle n
+unfolding cycle
+cycle-pos {n} v = commonCycle-pos (n .periods) (v .period-pos)

@@ -1,0 +1,39 @@
+-- `network::divisor::lcm` meets its contract: the divisor of a positive number is positive, and a quotient is at most what was divided.
+-- Assumes nothing.
+use Prim.Native.Nat.{ℕ, _*_, _/_, _≤_, _<_}
+use mathlib.Core.Path.{_≡_, sym, ap, subst}
+use native.Mathlib.Nat.{div-le-self, mul-le-mul, lt-of-le-of-lt, le-trans}
+use native.Mathlib.Omega.{arith}
+use lib.Dec.{lit<}
+use Rattle.network.specs.Divisor as divisor
+use Rattle.network.proofs.Laws.Divisor.{gcd-pos-left}
+use Rattle.network.proofs.divisor.lcm.Statement.{statement}
+use Rattle.network.proofs.divisor.lcm.Tie as tie
+use Rattle.network.proofs.divisor.lcm.Reads as reads
+use Rattle.network.proofs.divisor.lcm.Lts as lts
+use Rattle.network.proofs.divisor.gcd.Reads as gcd-reads
+
+-- src/divisor.rt:18:9
+gcd-requires : tie.Need-gcd-requires
+gcd-requires c κs = tt
+
+-- src/divisor.rt:18:5
+div-result : tie.Need-div-result
+div-result c = rw (c .gcd .ensures) (gcd-pos-left (c .before .args .a) (c .before .args .b) (c .before .pre .0))
+
+-- src/divisor.rt:18:5
+mul-result : tie.Need-mul-result
+mul-result c =
+    record {
+      fits = lt-of-le-of-lt
+          (mul-le-mul (le-trans (div-le-self (c .before .args .a) (c .gcd .result)) (c .before .pre .1)) (c .before .pre .2))
+          (lit< tt);
+    }
+
+-- src/divisor.rt:14:1
+returns : tie.Need-returns
+unfolding divisor.lcm
+returns c = ap (λ (g : ℕ). c .before .args .a / g * c .before .args .b) (c .gcd .ensures)
+
+pub lcm-spec : {M : Type 1} → statement M
+lcm-spec = tie.close (tie.spec gcd-requires div-result mul-result returns)

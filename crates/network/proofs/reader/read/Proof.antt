@@ -1,0 +1,79 @@
+-- `network::reader::read` meets its contract: it answers what `read_network` read. Assumes nothing.
+use Prim.Native.Nat.{ℕ}
+use mathlib.Core.Path.{_≡_, refl, sym, ap, _∙_}
+use mathlib.Core.List.{List, [], _∷_}
+use borrow.Author.Needs.{needs}
+use lib.ListN.{length}
+use Rattle.network.specs.declared.Check.{Check}
+use Rattle.network.specs.declared.Network.{Network}
+use Rattle.network.specs.Network.{servedStops, cycle}
+use Rattle.network.specs.Reading.{Outcome, values, readAnswer, readOutcome}
+use Rattle.network.specs.Stored.{netOf, Sound, readingOf}
+use Rattle.network.proofs.Laws.Stored.{held-lines, held-calls}
+use Rattle.network.proofs.reader.read.Statement.{statement}
+use Rattle.network.proofs.reader.read.Tie as tie
+use Rattle.network.proofs.reader.read.Reads as reads
+use Rattle.network.proofs.reader.read.Lts as lts
+use Rattle.network.proofs.reader.read_network.Reads as read-network-reads
+use Rattle.network.proofs.reader.served_stops.Reads as served-stops-reads
+
+values-are :
+    (n : Network) (stops : ℕ)
+    → Sound n
+    → stops ≡ servedStops (netOf n)
+    → values (n .lines ∷ stops ∷ n .calls ∷ n .cycle ∷ [])
+    ≡ values (length (netOf n .periods) ∷ servedStops (netOf n) ∷ length (netOf n .calls) ∷ cycle (netOf n) ∷ [])
+values-are n stops s e = cc (held-lines n s, held-calls n s, s .cycle-is)
+
+-- src/reader.rt:277:9
+read-network-requires : tie.Need-read-network-requires
+read-network-requires c κs = search needs
+
+-- src/reader.rt:281:26
+enum-known-check : tie.Need-enum-known-check
+enum-known-check c = search needs
+
+-- src/reader.rt:283:20
+enum-told : tie.Need-enum-told
+enum-told c = search needs
+
+-- src/reader.rt:283:20
+cast-t8 : tie.Need-cast-t8
+cast-t8 c = search needs
+
+-- src/reader.rt:284:20
+served-stops-requires : tie.Need-served-stops-requires
+served-stops-requires c κs = search needs
+
+-- src/reader.rt:285:20
+cast-t10 : tie.Need-cast-t10
+cast-t10 c = search needs
+
+-- src/reader.rt:274:1
+returns : tie.Need-returns
+unfolding readAnswer readOutcome readingOf
+returns c =
+    let r = c .before .before .before .before .read-network in
+    sym (ap readOutcome (sym (r .ensures .1) ∙ ap (λ (k : Check). readingOf k (r .result .network)) (c .before .check .given .1)))
+
+-- src/reader.rt:274:1
+returns-2 : tie.Need-returns-2
+unfolding readAnswer readOutcome readingOf
+returns-2 c =
+    let r = c .before .before .before .before .before .before .read-network in
+    let n = r .result .network in
+    values-are n (c .before .served-stops .result) (r .ensures .0) (c .before .served-stops .ensures)
+    ∙ sym (ap readOutcome (sym (r .ensures .1) ∙ ap (λ (k : Check). readingOf k n) (c .before .before .before .enum-told .given .1)))
+
+pub read-spec : {M : Type 1} → statement M
+read-spec =
+    tie.close
+    (tie.spec
+    read-network-requires
+    enum-known-check
+    enum-told
+    cast-t8
+    served-stops-requires
+    cast-t10
+    returns
+    returns-2)

@@ -1,0 +1,32 @@
+-- Document 01, "Gap and rating" and "The network file": the greatest common divisor, by repeated remainder, the least common
+-- multiple, and the common cycle of a list of periods.
+use Prim.Native.Nat.{ℕ, zero, suc, _*_, _/_, _%_}
+use mathlib.Core.Path.{_≡_}
+use mathlib.Core.List.{List, [], _∷_}
+
+-- `d` divides `n`: `n` is `k` times `d` for some `k`
+unfoldable pub Divides : ℕ → ℕ → Type 0
+Divides d n = (k : ℕ) × (n ≡ k * d)
+
+-- Repeated remainder, at most so many times. The second number falls each time, so that many as it says are enough
+unfoldable pub gcdWithin : ℕ → ℕ → ℕ → ℕ
+gcdWithin zero a b = a
+gcdWithin (suc k) a zero = a
+gcdWithin (suc k) a (suc b) = gcdWithin k (suc b) (a % suc b)
+
+-- The greatest common divisor
+unfoldable pub gcd : ℕ → ℕ → ℕ
+gcd a b = gcdWithin b a b
+
+-- The least common multiple
+unfoldable pub lcm : ℕ → ℕ → ℕ
+lcm a b = a / gcd a b * b
+
+-- The least common multiple of a number and a list of numbers
+unfoldable pub cycleFrom : ℕ → List ℕ → ℕ
+cycleFrom c [] = c
+cycleFrom c (p ∷ ps) = cycleFrom (lcm c p) ps
+
+-- The common cycle: the least common multiple of all periods
+unfoldable pub commonCycle : List ℕ → ℕ
+commonCycle ps = cycleFrom 1 ps

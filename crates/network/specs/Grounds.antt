@@ -1,0 +1,67 @@
+-- Document 01, "Grounds for refusing", the file's author: each command's grounds, in the order in which they are tried.
+use Prim.Native.Nat.{ℕ, _+_}
+use mathlib.Core.Bool.{Bool, true, false, not, _&&_, _||_}
+use mathlib.Core.List.{List, [], _∷_, _++_}
+use lib.Dec.{eqb, leb, ltb}
+use lib.ListN.{length}
+use Rattle.network.specs.declared.Check.{Check}
+use Rattle.network.specs.declared.Check.the-variants.{Passes, Refused}
+use Rattle.network.specs.Divisor.{lcm}
+use Rattle.network.specs.Lists.{allBelow}
+use Rattle.network.specs.Network.{Net, Command, statesLine, callsByOffset, callsByRide, ends, unknown}
+use Rattle.network.specs.Network.{maxLines, maxPeriod, maxCycle, maxStop, maxOffset, maxCalls}
+use Rattle.network.specs.Network.{cycle, callsAt, callsAnywhere, word, operandBytes, lineOperand, stopOperand, rideOffset}
+
+-- A ground has its number, the place that a refusal names, and the test by which it applies
+infix 1 _at_when_
+pub data Ground : Type 0 where
+  _at_when_ : ℕ → ℕ → Bool → Ground
+
+-- The first ground that applies
+unfoldable pub first : List Ground → Check
+first [] = Passes
+first ((number at place when true) ∷ gs) = Refused number place
+first ((number at place when false) ∷ gs) = first gs
+
+-- In what follows a command's byte is at place `p`, and `behind` is what stands in the file behind that byte.
+
+-- The operands are cut off
+unfoldable pub cutOff : Command → List ℕ → Bool
+cutOff c behind = ltb (length behind) (operandBytes c)
+
+unfoldable pub periodOutOfRange : ℕ → Bool
+periodOutOfRange period = ltb period 1 || ltb maxPeriod period
+
+-- A line without call
+unfoldable pub someLineSilent : Net → Bool
+someLineSilent n = not (allBelow (λ line. callsAnywhere line (n .calls)) (length (n .periods)))
+
+-- The grounds that 43 and 46 share
+unfoldable pub callGrounds : Command → Net → ℕ → List ℕ → List Ground
+callGrounds c n p behind =
+    (3 at p when cutOff c behind) ∷
+    (7 at p when leb (length (n .periods)) (lineOperand behind)) ∷
+    (8 at p when ltb maxStop (stopOperand behind)) ∷
+    (9 at p when callsAt (lineOperand behind) (stopOperand behind) (n .calls)) ∷
+    (10 at p when leb maxCalls (length (n .calls))) ∷
+    []
+
+-- The grounds of a command
+unfoldable pub grounds : Command → Net → ℕ → List ℕ → List Ground
+grounds unknown n p behind = (2 at p when true) ∷ []
+grounds statesLine n p behind =
+    (3 at p when cutOff statesLine behind) ∷
+    (4 at p when leb maxLines (length (n .periods))) ∷
+    (5 at p when periodOutOfRange (word behind 0)) ∷
+    (6 at p when ltb maxCycle (lcm (cycle n) (word behind 0))) ∷
+    []
+grounds callsByOffset n p behind = callGrounds callsByOffset n p behind
+grounds callsByRide n p behind =
+    callGrounds callsByRide n p behind ++
+    (11 at p when not (callsAnywhere (lineOperand behind) (n .calls))) ∷
+    (12 at p when ltb maxOffset (rideOffset n behind)) ∷
+    []
+grounds ends n p behind =
+    (13 at p when eqb (length (n .periods)) 0 || someLineSilent n) ∷
+    (14 at p + 1 when leb 1 (length behind)) ∷
+    []

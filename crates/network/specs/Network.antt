@@ -1,0 +1,123 @@
+-- Document 01, "The network file": what a file states, and its commands. A network is its lines' periods and its calls, both in file order.
+use Prim.Native.Nat.{ℕ, _+_, _*_}
+use mathlib.Core.Bool.{Bool, _&&_}
+use mathlib.Core.List.{List, [], _∷_, _++_}
+use lib.Dec.{eqb}
+use lib.ListN.{length, getD}
+use Rattle.network.specs.declared.Call.{Call}
+use Rattle.network.specs.Divisor.{commonCycle}
+use Rattle.network.specs.Lists.{pick, any, allBelow, countBelow}
+
+-- Lines count from 0 in the order of `periods`; a call has the fields `line`, `stop` and `offset`
+pub record Net : Type 0 where
+  pub periods : List ℕ
+  pub calls : List Call
+
+-- The network before the first command
+abbrev pub emptyNet : Net
+emptyNet = record { periods = []; calls = [] }
+
+-- The limits of document 01
+abbrev pub maxLines : ℕ
+maxLines = 16
+
+abbrev pub maxPeriod : ℕ
+maxPeriod = 1440
+
+abbrev pub maxCycle : ℕ
+maxCycle = 10080
+
+abbrev pub maxStop : ℕ
+maxStop = 63
+
+abbrev pub maxOffset : ℕ
+maxOffset = 65535
+
+abbrev pub maxCalls : ℕ
+maxCalls = 256
+
+-- The common cycle: the least common multiple of all periods
+unfoldable pub cycle : Net → ℕ
+cycle n = commonCycle (n .periods)
+
+-- The line calls at the stop
+unfoldable pub callsAt : ℕ → ℕ → List Call → Bool
+callsAt line stop cs = any (λ (c : Call). eqb (c .line) line && eqb (c .stop) stop) cs
+
+-- The line calls somewhere
+unfoldable pub callsAnywhere : ℕ → List Call → Bool
+callsAnywhere line cs = any (λ (c : Call). eqb (c .line) line) cs
+
+-- The stop is served: some line calls there
+unfoldable pub isServed : ℕ → List Call → Bool
+isServed stop cs = any (λ (c : Call). eqb (c .stop) stop) cs
+
+-- How many stops are served
+unfoldable pub servedStops : Net → ℕ
+servedStops n = countBelow (λ stop. isServed stop (n .calls)) (maxStop + 1)
+
+-- The offset of the line's latest call in the file, or `before` where the list has none
+unfoldable pub latestOffset : ℕ → ℕ → List Call → ℕ
+latestOffset line before [] = before
+latestOffset line before (c ∷ cs) = latestOffset line (pick (eqb (c .line) line) (c .offset) before) cs
+
+-- A number of two bytes from place `i` on, most significant byte first
+unfoldable pub word : List ℕ → ℕ → ℕ
+word bytes i = getD bytes i 0 * 256 + getD bytes (i + 1) 0
+
+pub data Command : Type 0 where
+  -- 4C period (2 bytes)
+  statesLine : Command
+  -- 43 line (1), stop (1), offset (2)
+  callsByOffset : Command
+  -- 46 line (1), stop (1), ride (2)
+  callsByRide : Command
+  -- 45
+  ends : Command
+  unknown : Command
+
+unfoldable pub command : ℕ → Command
+command b =
+    pick (eqb b 0x4C) statesLine
+    (pick (eqb b 0x43) callsByOffset (pick (eqb b 0x46) callsByRide (pick (eqb b 0x45) ends unknown)))
+
+-- How many bytes of operands a command has
+unfoldable pub operandBytes : Command → ℕ
+operandBytes statesLine = 2
+operandBytes callsByOffset = 4
+operandBytes callsByRide = 4
+operandBytes ends = 0
+operandBytes unknown = 0
+
+-- The operands of 43 and 46 ..
+unfoldable pub lineOperand : List ℕ → ℕ
+lineOperand operands = getD operands 0 0
+
+unfoldable pub stopOperand : List ℕ → ℕ
+stopOperand operands = getD operands 1 0
+
+-- .. whose offset is stated by 43, and is by 46 that of the same line's latest call plus the ride
+unfoldable pub statedOffset : List ℕ → ℕ
+statedOffset operands = word operands 2
+
+unfoldable pub rideOffset : Net → List ℕ → ℕ
+rideOffset n operands = latestOffset (lineOperand operands) 0 (n .calls) + word operands 2
+
+-- A network with one line or one call more
+unfoldable pub withLine : Net → ℕ → Net
+withLine n period = record { periods = n .periods ++ (period ∷ []); calls = n .calls }
+
+unfoldable pub withCall : Net → Call → Net
+withCall n c = record { periods = n .periods; calls = n .calls ++ (c ∷ []) }
+
+-- The call that the operands of 43 or 46 state, with its offset
+unfoldable pub callOf : List ℕ → ℕ → Call
+callOf operands offset = record { line = lineOperand operands; stop = stopOperand operands; offset = offset }
+
+-- The network after a command with these operands
+unfoldable pub extend : Command → Net → List ℕ → Net
+extend statesLine n operands = withLine n (word operands 0)
+extend callsByOffset n operands = withCall n (callOf operands (statedOffset operands))
+extend callsByRide n operands = withCall n (callOf operands (rideOffset n operands))
+extend ends n operands = n
+extend unknown n operands = n

@@ -1,0 +1,108 @@
+// The network of lines and stops: the reader of network files.
+pub mod calls;
+pub mod divisor;
+pub mod reader;
+
+ghost use mathlib.Core.Path.{_≡_};
+ghost use Prim.Native.Nat.{_<_, _≤_};
+ghost use Rattle.network.specs.Network as net;
+ghost use Rattle.network.specs.Stored.{netOf, Sound};
+
+// A line calls at a stop, `offset` minutes after its start.
+pub struct Call {
+    pub line: u8,
+    pub stop: u8,
+    pub offset: u16,
+}
+
+// A network: the periods of its lines and its calls, both in file order, and the common cycle. Of each row the first places
+// count, as many as `lines` and `calls` say.
+pub struct Network {
+    pub lines: usize,
+    pub periods: [u16; Network::MAX_LINES],
+    pub calls: usize,
+    pub list: [Call; Network::MAX_CALLS],
+    pub cycle: u32,
+}
+
+impl Network {
+    pub const MAX_LINES: usize = 16;
+
+    pub const MAX_PERIOD: u16 = 1440;
+
+    pub const MAX_CYCLE: u32 = 10080;
+
+    pub const MAX_STOP: u8 = 63;
+
+    pub const MAX_OFFSET: u32 = 65535;
+
+    pub const MAX_CALLS: usize = 256;
+
+    // The network before the first command.
+    pub fn new() -> Network
+        ensures { λ r. ⌜ Sound r × (netOf r ≡ net.emptyNet) ⌝ }
+    {
+        let nowhere = Call {
+            line: 0,
+            stop: 0,
+            offset: 0,
+        };
+        Network {
+            lines: 0,
+            periods: [0u16; Network::MAX_LINES],
+            calls: 0,
+            list: [nowhere; Network::MAX_CALLS],
+            cycle: 1,
+        }
+    }
+
+    // One line more, with the common cycle that it makes.
+    pub fn with_line(mut self, period: u16, cycle: u32) -> Network
+        requires { ⌜ Sound self ⌝ }
+        requires { ⌜ (self .lines < net.maxLines) × (0 < cycle) × (cycle ≤ net.maxCycle) × (cycle ≡ net.cycle (net.withLine (netOf self) period)) ⌝ }
+        ensures { λ r. ⌜ Sound r × (netOf r ≡ net.withLine (netOf self) period) ⌝ }
+    {
+        let at = self.lines;
+        self.periods[at] = period;
+        self.lines = at + 1;
+        self.cycle = cycle;
+        self
+    }
+
+    // One call more.
+    pub fn with_call(mut self, call: Call) -> Network
+        requires { ⌜ Sound self × (self .calls < net.maxCalls) ⌝ }
+        ensures { λ r. ⌜ Sound r × (netOf r ≡ net.withCall (netOf self) call) ⌝ }
+    {
+        let at = self.calls;
+        self.list[at] = call;
+        self.calls = at + 1;
+        self
+    }
+}
+
+// Whether a ground for refusing applies: its number, and the place of the file that it names.
+pub enum Check {
+    Passes,
+    Refused { number: u8, place: usize },
+}
+
+// A network on the way through its file: whether the command just read passes, and the network with it.
+pub struct Step {
+    pub check: Check,
+    pub network: Network,
+}
+
+// What the read call answers.
+pub enum ReadAnswer {
+    Accepted {
+        lines: u32,
+        stops: u32,
+        calls: u32,
+        cycle: u32,
+    },
+    Refused {
+        number: u8,
+        place: usize,
+    },
+}
