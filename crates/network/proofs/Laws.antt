@@ -8,3 +8,4 @@ pub mod Integers
 pub mod Gap
 pub mod Reading
 pub mod Valid
+pub mod Scan

@@ -6,3 +6,7 @@ pub mod Reading
 pub mod Valid
 pub mod Stored
 pub mod Gap
+pub mod Rating
+pub mod Classes
+pub mod Scan
+pub mod Rate

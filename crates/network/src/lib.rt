@@ -1,6 +1,8 @@
 // The network of lines and stops: the reader of network files.
 pub mod calls;
 pub mod divisor;
+pub mod gaps;
+pub mod ratings;
 pub mod reader;
 
 ghost use mathlib.Core.Path.{_≡_};
@@ -93,6 +95,22 @@ pub struct Step {
     pub network: Network,
 }
 
+// A rating: the least gap over all stops, then the sum of the gaps; or none.
+pub struct Rating {
+    pub some: bool,
+    pub least: u32,
+    pub sum: u32,
+}
+
+impl Rating {
+    // Below every rating: what stands before the first full timetable.
+    pub const NONE: Rating = Rating {
+        some: false,
+        least: 0,
+        sum: 0,
+    };
+}
+
 // What the read call answers.
 pub enum ReadAnswer {
     Accepted {
@@ -105,4 +123,10 @@ pub enum ReadAnswer {
         number: u8,
         place: usize,
     },
+}
+
+// What the rate call and the weighted rating answer.
+pub enum RateAnswer {
+    Rated { least: u32, sum: u32 },
+    Refused { number: u8, place: usize },
 }

@@ -1,10 +1,14 @@
 -- Integers as differences of naturals: sums, negations and products are differences again, by cases on the signs, so that an equation or
 -- a magnitude of integers becomes one of naturals, which `omega` reads. Assumes nothing.
-use Prim.Native.Nat.{ℕ, zero, suc, _+_, _*_, _-_}
+use Prim.Native.Nat.{ℕ, zero, suc, _+_, _*_, _-_, _^_, _<_, _≤_}
+use native.Mathlib.Nat.{lt-of-le-of-lt}
 use native.Mathlib.Omega.{arith}
 use mathlib.Core.Path.{_≡_, ap}
 use mathlib.Core.Bool.{Bool, true, false, not, cond}
 use lib.Dec.{T, ltb, ltb→lt, nltb→le}
+use lib.Signed.{mag}
+use mir.Syntax.{Width}
+use mir.Val.{hbits, SFits}
 use lib.IntN.{ℤ, pos, negsuc, natAbs, negℤ, subℕ, _+ℤ_, _-ℤ_, _*ℤ_}
 
 -- How far an integer lies above 0, and how far below
@@ -83,3 +87,31 @@ eq-of-difference {x = negsuc a} {y = negsuc b} h k e = ap negsuc (omega arith)
 
 pub difference-of-eq : {x y : ℤ} {p n q m : ℕ} → IsDifference x p n → IsDifference y q m → x ≡ y → p + m ≡ q + n
 difference-of-eq h k e = omega (arith, ap up e, ap dn e)
+
+-- ---- bounds
+
+pub natAbs-add-le : (x y : ℤ) → natAbs (x +ℤ y) ≤ natAbs x + natAbs y
+natAbs-add-le x y =
+    omega
+    (arith, natAbs-of-difference (difference-add (difference x) (difference y)), natAbs-of-difference (difference x), natAbs-of-difference (difference y))
+
+pub natAbs-sub-le : (x y : ℤ) → natAbs (x -ℤ y) ≤ natAbs x + natAbs y
+natAbs-sub-le x y =
+    omega
+    (arith, natAbs-of-difference (difference-sub (difference x) (difference y)), natAbs-of-difference (difference x), natAbs-of-difference (difference y))
+
+-- `mag`, by which a machine's signed number is bounded, is the magnitude, less one below zero
+pub mag-le-natAbs : (x : ℤ) → mag x ≤ natAbs x
+mag-le-natAbs (pos n) = omega arith
+mag-le-natAbs (negsuc n) = omega arith
+
+pub natAbs-le-mag : (x : ℤ) → natAbs x ≤ mag x + 1
+natAbs-le-mag (pos n) = omega arith
+natAbs-le-mag (negsuc n) = omega arith
+
+-- a number within half of the range, so that no sum of two leaves it
+pub sfits-of-natAbs : {w : Width} (x : ℤ) → natAbs x < 2 ^ hbits w → SFits w x
+sfits-of-natAbs x h = record { sfits = lt-of-le-of-lt (mag-le-natAbs x) h }
+
+pub minus-one-sub : (k : ℕ) → negsuc 0 -ℤ negsuc k ≡ pos k
+minus-one-sub k = eq-of-difference (difference-sub (difference (negsuc 0)) (difference (negsuc k))) (difference-pos k) (omega arith)

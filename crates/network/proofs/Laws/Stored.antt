@@ -1,16 +1,18 @@
 -- Laws of a network as the engine holds it: its counts are the lengths of the lists that it stands for, and a command's step is judged by
 -- the first ground that applies. Assumes nothing.
-use Prim.Native.Nat.{ℕ, _+_, _≤_}
+use Prim.Native.Nat.{ℕ, _+_, _<_, _≤_}
 use mathlib.Core.Path.{_≡_, refl, sym, ap, ap₂, _∙_}
 use mathlib.Core.List.{List, _∷_}
 use native.Mathlib.Omega.{arith}
-use lib.ListN.{length, drop}
-use lib.Seq.{length-take-le}
+use lib.ListN.{length, getD, drop}
+use lib.Seq.{length-take-le, getD-take}
 use Rattle.network.specs.declared.Check.{Check}
 use Rattle.network.specs.declared.Check.the-variants.{Passes, Refused}
 use Rattle.network.specs.declared.Network.{Network}
 use Rattle.network.specs.declared.Step.{Step}
 use Rattle.network.specs.Network.{Net, Command, statesLine, callsByOffset, callsByRide, ends, unknown, command, operandBytes, extend}
+use Rattle.network.specs.Network.{maxStop}
+use Rattle.network.specs.Valid.{Valid, noCall}
 use Rattle.network.specs.Grounds.{first, grounds}
 use Rattle.network.specs.Reading.{Reading, accepted, refused, proceed, readFrom}
 use Rattle.network.specs.Stored.{netOf, Sound, Stepped}
@@ -23,6 +25,26 @@ held-lines n s = length-take-le (n .lines) (n .periods) (omega (arith, s .lines,
 pub held-calls : (n : Network) → Sound n → length (netOf n .calls) ≡ n .calls
 unfolding netOf
 held-calls n s = length-take-le (n .calls) (n .list) (omega (arith, s .calls, s .list-row))
+
+pub held-period : (n : Network) (line : ℕ) → line < n .lines → getD (netOf n .periods) line 0 ≡ getD (n .periods) line 0
+unfolding netOf
+held-period n line h = getD-take (n .lines) (n .periods) line 0 h
+
+pub held-call : (n : Network) (k : ℕ) → k < n .calls → getD (netOf n .calls) k noCall ≡ getD (n .list) k noCall
+unfolding netOf
+held-call n k h = getD-take (n .calls) (n .list) k noCall h
+
+-- The calls that count are of stated lines, whose periods are at least 1
+module _ (n : Network) (s : Sound n) (v : Valid (netOf n)) where
+  pub held-call-line : (k : ℕ) → k < n .calls → getD (n .list) k noCall .line < n .lines
+  held-call-line k h =
+      rw (held-lines n s) at (rw (held-call n k h) at (v .call-line k (rw (held-calls n s) h)))
+
+  pub held-call-stop : (k : ℕ) → k < n .calls → getD (n .list) k noCall .stop ≤ maxStop
+  held-call-stop k h = rw (held-call n k h) at (v .call-stop k (rw (held-calls n s) h))
+
+  pub held-period-pos : (line : ℕ) → line < n .lines → 0 < getD (n .periods) line 0
+  held-period-pos line h = rw (held-period n line h) at (v .period-pos line (rw (held-lines n s) h))
 
 -- A command that a ground refuses
 pub stepped-refused :

@@ -1,0 +1,90 @@
+-- `network::gaps::gap` meets its contract: the formula of theorem 3.1.2, the lesser of the two by a test. Assumes nothing.
+use Prim.Native.Nat.{ℕ, _-_, _^_, _≤_, _<_, min}
+use mathlib.Core.Path.{_≡_, refl, sym, ap, ap₂, _∙_}
+use native.Mathlib.Omega.{arith}
+use lib.IntN.{ℤ, _-ℤ_}
+use mir.Syntax.{w64}
+use mir.Val.{SFits, toZ, ofZ}
+use mir.Facts.{toZ-ofZ}
+use Rattle.network.specs.Divisor as divisor
+use Rattle.network.specs.Gap as gaps
+use Rattle.network.proofs.Laws.Divisor.{gcd-pos-left}
+use Rattle.network.proofs.Laws.Gap.{residue-lt}
+use Rattle.network.proofs.Laws.Integers.{natAbs-sub-le, sfits-of-natAbs}
+use borrow.Author.Needs.{needs}
+use Rattle.network.proofs.gaps.gap.Statement.{statement}
+use Rattle.network.proofs.gaps.gap.Tie as tie
+use Rattle.network.proofs.gaps.gap.Reads as reads
+use Rattle.network.proofs.gaps.gap.Lts as lts
+use Rattle.network.proofs.divisor.gcd.Reads as gcd-reads
+use Rattle.network.proofs.gaps.residue.Reads as residue-reads
+
+-- What the code subtracts is the difference of the two arrivals
+module _ (s : tie.Start) where
+  abbrev difference : ℤ
+  difference = s .args .a -ℤ s .args .b
+
+  fits : SFits w64 difference
+  fits = sfits-of-natAbs difference (omega (arith, natAbs-sub-le (s .args .a) (s .args .b), s .pre))
+
+  subtracted : toZ w64 (ofZ w64 (s .args .a)) -ℤ toZ w64 (ofZ w64 (s .args .b)) ≡ difference
+  subtracted = ap₂ _-ℤ_ (toZ-ofZ (s .fits .a)) (toZ-ofZ (s .fits .b))
+
+  divisor-pos : 0 < divisor.gcd (s .args .period) (s .args .other)
+  divisor-pos = gcd-pos-left (s .args .period) (s .args .other) (s .pre .2)
+
+reduced :
+    (c : tie.After-residue)
+    → c .residue .result
+    ≡ gaps.residue (difference (c .before .before)) (divisor.gcd (c .before .before .args .period) (c .before .before .args .other))
+reduced c =
+    let s = c .before .before in
+    c .residue .ensures
+    ∙ ap₂ gaps.residue (ap (λ (z : ℤ). toZ w64 (ofZ w64 z)) (subtracted s) ∙ toZ-ofZ (fits s)) (c .before .gcd .ensures)
+
+below : (c : tie.After-residue) → c .residue .result < c .before .gcd .result
+below c =
+    let s = c .before .before in
+    omega (arith, reduced c, c .before .gcd .ensures, residue-lt (difference s) _ (divisor-pos s))
+
+-- src/gaps.rt:36:9
+gcd-requires : tie.Need-gcd-requires
+gcd-requires c κs = search needs
+
+-- src/gaps.rt:37:21
+sub-residue : tie.Need-sub-residue
+sub-residue c = rw (subtracted (c .before)) (fits (c .before))
+
+-- src/gaps.rt:37:9
+residue-requires : tie.Need-residue-requires
+residue-requires c κs = rw (c .gcd .ensures) (divisor-pos (c .before))
+
+-- src/gaps.rt:38:12
+sub-if1 : tie.Need-sub-if1
+sub-if1 c = omega (arith, below c)
+
+-- src/gaps.rt:38:31
+sub-result : tie.Need-sub-result
+sub-result c = omega (arith, below (c .before))
+
+-- src/gaps.rt:32:1
+returns : tie.Need-returns
+unfolding gaps.gapOf gaps.fold
+returns c =
+    let r = c .before in
+    let lesser : r .residue .result ≡ min (r .residue .result) (r .before .gcd .result - r .residue .result) = omega arith in
+    lesser ∙ ap₂ (λ (g d : ℕ). min d (g - d)) (r .before .gcd .ensures) (reduced r)
+
+-- src/gaps.rt:32:1
+returns-2 : tie.Need-returns-2
+unfolding gaps.gapOf gaps.fold
+returns-2 c =
+    let r = c .before in
+    let lesser : r .before .gcd .result - r .residue .result ≡ min (r .residue .result) (r .before .gcd .result - r .residue .result) =
+    omega arith in
+    lesser ∙ ap₂ (λ (g d : ℕ). min d (g - d)) (r .before .gcd .ensures) (reduced r)
+
+pub gap-spec : {M : Type 1} → statement M
+gap-spec =
+    tie.close
+    (tie.spec gcd-requires sub-residue residue-requires sub-if1 sub-result returns returns-2)

@@ -1,0 +1,130 @@
+-- Document 01, "Gap and rating": the gap of two lines at a stop, the gap of a stop and the rating, over all trips of all lines (source 000,
+-- definitions 2.1.4 to 2.1.6); beside them the numbers computed by theorem 3.1.2; and the order of ratings (2.4.1). A timetable is a list
+-- of starts, integers of any size, one for each line.
+use Prim.Native.Nat.{ℕ, suc, _*_, _<_, _≤_}
+use mathlib.Core.Path.{_≡_}
+use mathlib.Core.Bool.{Bool, true, false, not, _&&_, _||_}
+use mathlib.Core.Logic.{_⊎_}
+use mathlib.Core.List.{List, [], _∷_, _++_, map}
+use lib.Dec.{eqb, ltb}
+use lib.IntN.{ℤ, pos, _+ℤ_}
+use lib.ListN.{length, getD}
+use Rattle.network.specs.declared.Call.{Call}
+use Rattle.network.specs.declared.Rating.{Rating}
+use Rattle.network.specs.Lists.{keep, below, sumOf, leastOf}
+use Rattle.network.specs.Network.{Net, maxStop, isServed}
+use Rattle.network.specs.Valid.{noCall}
+use Rattle.network.specs.Gap.{trip, distance, gapOf}
+
+-- One arrival of a call: its line's start plus its offset (2.1.1)
+unfoldable pub arrivalOf : List ℤ → Call → ℤ
+arrivalOf starts c = getD starts (c .line) (pos 0) +ℤ pos (c .offset)
+
+-- The period of a call's line
+unfoldable pub periodOf : Net → Call → ℕ
+periodOf n c = getD (n .periods) (c .line) 0
+
+-- ---- Over all trips
+
+-- The file has a call of the line at the stop: its `call`th
+pub record CallsThere (n : Net) (line stop call : ℕ) : Type 0 where
+  pub stated : call < length (n .calls)
+  pub of-line : getD (n .calls) call noCall .line ≡ line
+  pub at-stop : getD (n .calls) call noCall .stop ≡ stop
+
+-- The line reaches the stop at that minute: at its start plus its offset there, plus some whole multiple of its period
+pub record Reaches (n : Net) (starts : List ℤ) (line stop : ℕ) (minute : ℤ) : Type 0 where
+  pub call : ℕ
+  pub there : CallsThere n line stop call
+  pub turn : ℤ
+  pub on-time : minute ≡ trip (arrivalOf starts (getD (n .calls) call noCall)) (getD (n .periods) line 0) turn
+
+-- The gap ("Sicherheitsabstand", safety distance) of two lines at a stop: the smallest distance between an arrival of one and an arrival
+-- of the other (2.1.4)
+pub record IsLinesGap (n : Net) (starts : List ℤ) (stop i j : ℕ) (gap : ℕ) : Type 0 where
+  pub attained : (x : ℤ) × (y : ℤ) × Reaches n starts i stop x × Reaches n starts j stop y × (distance x y ≡ gap)
+  pub least : (x y : ℤ) → Reaches n starts i stop x → Reaches n starts j stop y → gap ≤ distance x y
+
+-- The gap of a stop (2.1.5)
+pub data IsStopGap (n : Net) (starts : List ℤ) (stop : ℕ) : ℕ → Type 0 where
+  -- the least over its pairs of different lines
+  least-of-lines :
+      {gap : ℕ} (i j : ℕ)
+      → (i ≡ j → ⊥)
+      → IsLinesGap n starts stop i j gap
+      → ((k l v : ℕ) → (k ≡ l → ⊥) → IsLinesGap n starts stop k l v → gap ≤ v)
+      → IsStopGap n starts stop gap
+  -- with one line only, that line's period
+  period-of-line :
+      (i : ℕ)
+      → ((call : ℕ) × CallsThere n i stop call)
+      → ((j call : ℕ) → CallsThere n j stop call → j ≡ i)
+      → IsStopGap n starts stop (getD (n .periods) i 0)
+
+-- The served stops, ascending
+unfoldable pub servedList : Net → List ℕ
+servedList n = below (λ stop. isServed stop (n .calls)) (suc maxStop)
+
+-- The rating: the least gap over served stops, and the sum of their gaps (2.1.6)
+pub record IsRating (n : Net) (starts : List ℤ) (least sum : ℕ) : Type 0 where
+  pub gap : ℕ → ℕ
+  pub is-gap : (stop : ℕ) → isServed stop (n .calls) ≡ true → IsStopGap n starts stop (gap stop)
+  pub attained : (stop : ℕ) × (isServed stop (n .calls) ≡ true) × (gap stop ≡ least)
+  pub is-least : (stop : ℕ) → isServed stop (n .calls) ≡ true → least ≤ gap stop
+  pub is-sum : sum ≡ sumOf gap (servedList n)
+
+-- ---- The computed numbers
+
+-- The gap of two calls by theorem 3.1.2
+unfoldable pub gapOfCalls : Net → List ℤ → Call → Call → ℕ
+gapOfCalls n starts c d = gapOf (arrivalOf starts c) (periodOf n c) (arrivalOf starts d) (periodOf n d)
+
+-- The gaps of all pairs of different calls
+unfoldable pub pairGaps : Net → List ℤ → List Call → List ℕ
+pairGaps n starts [] = []
+pairGaps n starts (c ∷ cs) = map (gapOfCalls n starts c) cs ++ pairGaps n starts cs
+
+-- The gap of a stop with these calls: the least over its pairs; with one call only, its line's period
+unfoldable pub gapOfStop : Net → List ℤ → List Call → ℕ
+gapOfStop n starts [] = 0
+gapOfStop n starts (c ∷ []) = periodOf n c
+gapOfStop n starts (c ∷ d ∷ cs) = leastOf (pairGaps n starts (c ∷ d ∷ cs))
+
+-- The calls at a stop, in file order
+unfoldable pub callsOfStop : Net → ℕ → List Call
+callsOfStop n stop = keep (λ (c : Call). eqb (c .stop) stop) (n .calls)
+
+unfoldable pub stopGap : Net → List ℤ → ℕ → ℕ
+stopGap n starts stop = gapOfStop n starts (callsOfStop n stop)
+
+-- A stop that counts in a rating, and how often in its sum
+pub record Counted : Type 0 where
+  pub stop : ℕ
+  pub weight : ℕ
+
+-- All served stops, each once
+unfoldable pub eachOnce : List ℕ → List Counted
+eachOnce stops = map (λ (s : ℕ). record { stop = s; weight = 1 }) stops
+
+-- The rating over the stops that count
+unfoldable pub ratingOver : Net → List ℤ → List Counted → Rating
+ratingOver n starts counted =
+    record {
+      some = true;
+      least = leastOf (map (λ (s : Counted). stopGap n starts (s .stop)) counted);
+      sum = sumOf (λ (s : Counted). s .weight * stopGap n starts (s .stop)) counted;
+    }
+
+unfoldable pub rating : Net → List ℤ → Rating
+rating n starts = ratingOver n starts (eachOnce (servedList n))
+
+-- ---- The order of ratings
+
+-- None is below every rating: before the first full timetable
+abbrev pub noRating : Rating
+noRating = record { some = false; least = 0; sum = 0 }
+
+-- One rating is above another if its least gap is larger, or that is equal and its sum is larger (2.4.1)
+unfoldable pub isAbove : Rating → Rating → Bool
+isAbove r q =
+    r .some && (not (q .some) || (ltb (q .least) (r .least) || eqb (q .least) (r .least) && ltb (q .sum) (r .sum)))

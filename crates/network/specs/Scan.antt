@@ -1,0 +1,46 @@
+-- How the engine computes the gaps of all stops in one pass over the calls: from each call it goes back through the calls at the same stop.
+use Prim.Native.Nat.{ℕ, zero, suc, _*_, _<_, min}
+use mathlib.Core.Path.{_≡_}
+use mathlib.Core.Bool.{Bool, true}
+use mathlib.Core.List.{List, [], _∷_, map}
+use lib.Dec.{eqb, ltb}
+use lib.ListN.{getD, take}
+use Rattle.network.specs.declared.Call.{Call}
+use Rattle.network.specs.declared.Rating.{Rating}
+use Rattle.network.specs.Lists.{pick, keep, below, sumOf, leastOf}
+use Rattle.network.specs.Network.{maxStop}
+use Rattle.network.specs.Valid.{noCall}
+use Rattle.network.specs.Rating.{Counted, noRating}
+
+-- One more than the latest of the first `k` calls that is at the stop, 0 where none is
+unfoldable pub lastAt : ℕ → List Call → ℕ → ℕ
+lastAt stop calls zero = 0
+lastAt stop calls (suc k) = pick (eqb (getD calls k noCall .stop) stop) (suc k) (lastAt stop calls k)
+
+-- The calls at a stop among the first `k`
+unfoldable pub callsBefore : ℕ → List Call → ℕ → List Call
+callsBefore stop calls k = keep (λ (c : Call). eqb (c .stop) stop) (take k calls)
+
+-- A row that leads from each of the first `k` calls to the one before it at its stop
+unfoldable pub LeadsBack : List ℕ → List Call → ℕ → Type 0
+LeadsBack previous calls k = (j : ℕ) → j < k → getD previous j 0 ≡ lastAt (getD calls j noCall .stop) calls j
+
+-- The least of a number and a list
+unfoldable pub leastFrom : ℕ → List ℕ → ℕ
+leastFrom v [] = v
+leastFrom v (x ∷ xs) = leastFrom (min v x) xs
+
+-- The stops that a row counts, with the weights of another
+unfoldable pub countedStops : List ℕ → List ℕ → List Counted
+countedStops counts weights =
+    map (λ (s : ℕ). record { stop = s; weight = getD weights s 0 }) (below (λ s. ltb 0 (getD counts s 0)) (suc maxStop))
+
+-- The rating of stops with these gaps, none where there are none
+unfoldable pub ratingOfGaps : (ℕ → ℕ) → List Counted → Rating
+ratingOfGaps gap [] = noRating
+ratingOfGaps gap (s ∷ rest) =
+    record {
+      some = true;
+      least = leastOf (map (λ (t : Counted). gap (t .stop)) (s ∷ rest));
+      sum = sumOf (λ (t : Counted). t .weight * gap (t .stop)) (s ∷ rest);
+    }

@@ -1,0 +1,57 @@
+// Ratings: the gaps of all stops in one pass over the calls, and the rating over the stops that count.
+use crate::Call;
+use crate::Network;
+use crate::Rating;
+use crate::gaps::arrival;
+use crate::gaps::gap;
+ghost use mathlib.Core.Path.{_≡_};
+ghost use mathlib.Core.List.{map, _++_, _∷_, []};
+ghost use Prim.Native.Nat.{ℕ, _*_, _+_, _-_, _<_, _≤_};
+ghost use lib.ListN.{length, getD};
+ghost use Rattle.network.specs.Gap.{gapOf};
+ghost use Rattle.network.specs.Rating as rating;
+ghost use Rattle.network.specs.Scan as scan;
+ghost use Rattle.network.specs.Stored.{netOf, Sound};
+ghost use Rattle.network.specs.Valid.{Valid, noCall};
+
+// The gap of two calls, on a sheet of starts and the lines' periods.
+pub fn call_gap(sheet: &[i32], periods: &[u16; 16], first: Call, second: Call) -> u32
+    requires { ⌜ (first .line < 16) × (first .line < length (now sheet)) × (0 < getD (now periods) (first .line) 0) ⌝ }
+    requires { ⌜ (second .line < 16) × (second .line < length (now sheet)) ⌝ }
+    ensures { λ r. ⌜ r ≡ gapOf (rating.arrivalOf (now (sheet .entry)) first) (getD (now (periods .entry)) (first .line) 0) (rating.arrivalOf (now (sheet .entry)) second) (getD (now (periods .entry)) (second .line) 0) ⌝ }
+{
+    let line = first.line as usize;
+    let other = second.line as usize;
+    let a = arrival(sheet[line], first.offset);
+    let b = arrival(sheet[other], second.offset);
+    gap(a, periods[line], b, periods[other])
+}
+
+// The least of a number and the gaps between a call and those before it at its stop. `next` is one more than the latest of them, and
+// `previous` leads on from each to the one before.
+pub fn least_gap(
+    network: Network,
+    sheet: &[i32],
+    previous: &[u16; 256],
+    call: Call,
+    next: u16,
+    least: u32,
+) -> u32
+    requires { ⌜ Sound network × Valid (netOf network) × (length (now sheet) ≡ length (netOf network .periods)) ⌝ }
+    requires { ⌜ (call .line < length (netOf network .periods)) × (next ≤ network .calls) × scan.LeadsBack (now previous) (network .list) next ⌝ }
+    requires { ⌜ (0 < next → getD (network .list) (next - 1) noCall .stop ≡ call .stop) ⌝ }
+    ensures { λ r. ⌜ r ≡ scan.leastFrom least (map (λ d. rating.gapOfCalls (netOf network) (now (sheet .entry)) d call) (scan.callsBefore (call .stop) (network .list) next)) ⌝ }
+{
+    let mut lesser = least;
+    let mut from = next as usize;
+    while 0 < from {
+        let at = from - 1;
+        let other = network.list[at];
+        let between = call_gap(sheet, &network.periods, other, call);
+        if between < lesser {
+            lesser = between;
+        }
+        from = previous[at] as usize;
+    }
+    lesser
+}
