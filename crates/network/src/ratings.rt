@@ -55,3 +55,49 @@ pub fn least_gap(
     }
     lesser
 }
+
+// The gap of a stop with one call more: that call's period where it is the first, else the least of what the gap was and the gaps to the
+// calls before.
+pub fn gap_with(
+    network: Network,
+    sheet: &[i32],
+    previous: &[u16; 256],
+    call: Call,
+    before: u16,
+    gap: u32,
+) -> u32
+    requires { ⌜ Sound network × Valid (netOf network) × (length (now sheet) ≡ length (netOf network .periods)) ⌝ }
+    requires { ⌜ (call .line < length (netOf network .periods)) × (before ≤ network .calls) × scan.LeadsBack (now previous) (network .list) before ⌝ }
+    requires { ⌜ (0 < before → getD (network .list) (before - 1) noCall .stop ≡ call .stop) ⌝ }
+    requires { ⌜ gap ≡ rating.gapOfStop (netOf network) (now sheet) (scan.callsBefore (call .stop) (network .list) before) ⌝ }
+    ensures { λ r. ⌜ r ≡ rating.gapOfStop (netOf network) (now (sheet .entry)) (scan.callsBefore (call .stop) (network .list) before ++ (call ∷ [])) ⌝ }
+{
+    if before == 0 {
+        let line = call.line as usize;
+        return network.periods[line] as u32;
+    }
+    least_gap(network, sheet, previous, call, before, gap)
+}
+
+// The gaps of the stops that count, in one pass over the calls. `last` has for each stop one more than the latest call there, and
+// `previous` for each call one more than the call before it at its stop, 0 where there is none.
+pub fn stop_gaps(network: Network, sheet: &[i32], counts: &[u8; 64]) -> [u32; 64]
+    requires { ⌜ Sound network × Valid (netOf network) × (length (now sheet) ≡ length (netOf network .periods)) ⌝ }
+    ensures { λ r. ⌜ ((stop : ℕ) → stop < 64 → 0 < getD (now (counts .entry)) stop 0 → getD r stop 0 ≡ rating.stopGap (netOf network) (now (sheet .entry)) stop) ⌝ }
+{
+    let mut gaps = [0u32; 64];
+    let mut last = [0u16; 64];
+    let mut previous = [0u16; 256];
+    let count = network.calls;
+    for i in 0..count {
+        let call = network.list[i];
+        let stop = call.stop as usize;
+        let before = last[stop];
+        if 0 < counts[stop] {
+            gaps[stop] = gap_with(network, sheet, &previous, call, before, gaps[stop]);
+        }
+        previous[i] = before;
+        last[stop] = i as u16 + 1;
+    }
+    gaps
+}

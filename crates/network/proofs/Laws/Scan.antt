@@ -1,23 +1,25 @@
 -- The pass over the calls computes the stops' gaps: the row leads back through the calls at a stop, and one call more makes the gap the
 -- least of what it was and the gaps to those before. Each is an induction over a list. Assumes nothing.
-use Prim.Native.Nat.{ℕ, zero, suc, _+_, _-_, _<_, _≤_, min}
+use Prim.Native.Nat.{ℕ, zero, suc, _+_, _-_, _<_, _≤_, min, suc-le-suc}
 use mathlib.Core.Path.{_≡_, refl, sym, ap, _∙_}
 use mathlib.Core.Bool.{Bool, true, false}
 use mathlib.Core.List.{List, [], _∷_, _++_, map, append-nil, map-append}
-use native.Mathlib.Nat.{le-trans, min-comm, div-le-self}
+use native.Mathlib.Nat.{le-trans, min-comm, div-le-self, zero-lt-suc, le-of-suc-le-suc}
+use native.Mathlib.Decide.{ℕ-discrete}
 use native.Mathlib.Numerals.{add-one}
 use native.Mathlib.Omega.{arith}
 use borrow.Author.Tests.{eq-eqb, ne-eqb, eqb-true, eqb-false}
 use lib.Dec.{eqb}
 use lib.IntN.{ℤ}
-use lib.ListN.{length, getD, take}
-use lib.Seq.{take-suc}
+use lib.Arith.{lt-of-le-ne}
+use lib.ListN.{length, getD, take, set, length-append, length-set, replicate, length-replicate}
+use lib.Seq.{take-suc, getD-set-same, getD-set-other}
 use Rattle.network.specs.declared.Call.{Call}
 use Rattle.network.specs.Lists.{pick, keep, leastOf}
 use Rattle.network.specs.Network.{Net}
 use Rattle.network.specs.Valid.{noCall}
 use Rattle.network.specs.Rating.{periodOf, gapOfCalls, pairGaps, gapOfStop}
-use Rattle.network.specs.Scan.{lastAt, callsBefore, leastFrom}
+use Rattle.network.specs.Scan.{lastAt, callsBefore, LeadsBack, leastFrom}
 use Rattle.network.proofs.Laws.Divisor.{gcd-le-left}
 use Rattle.network.proofs.Laws.Gap.{gapOf-half}
 
@@ -90,6 +92,10 @@ module _ (stop : ℕ) (l : List Call) where
           → callsBefore stop l (suc k) ≡ callsBefore stop l (pick t (suc k) (lastAt stop l k))
       go true e f = refl
       go false e f = (rw add-one at (callsBefore-miss k (omega arith) (eqb-false _ _ e))) ∙ f
+
+-- the same of a number that is it
+pub lastAt-landed : (l : List Call) (stop k j : ℕ) → j ≡ lastAt stop l k → 0 < j → getD l (j - 1) noCall .stop ≡ stop
+lastAt-landed l stop k j e h = ap (λ (i : ℕ). getD l (i - 1) noCall .stop) e ∙ lastAt-lands stop l k (rw e at h)
 
 -- ---- the least of a number and a list
 
@@ -179,3 +185,140 @@ step-back g stop l k lesser h e =
     ∙ sym (leastFrom-snoc lesser (map g (callsBefore stop l k)) (g (getD l k noCall)))
     ∙ ap (leastFrom lesser) (sym (map-append g (callsBefore stop l k) (getD l k noCall ∷ [])))
     ∙ ap (λ cs. leastFrom lesser (map g cs)) (sym (callsBefore-hit stop l k h e))
+
+-- What holds of every element holds of those that are kept
+pub keep-all :
+    {A : Type 0} (P : A → Type 0) (p : A → Bool) (d : A) (xs : List A)
+    → ((i : ℕ) → i < length xs → P (getD xs i d))
+    → (i : ℕ)
+    → i < length (keep p xs)
+    → P (getD (keep p xs) i d)
+unfolding keep
+keep-all P p d [] f i h = absurd (omega arith)
+keep-all P p d (x ∷ xs) f i h = go (p x) (keep-all P p d xs (λ m q. f (suc m) (suc-le-suc q))) i h
+  where
+    go : (t : Bool) → ((j : ℕ) → j < length (keep p xs) → P (getD (keep p xs) j d))
+        → (j : ℕ) → j < length (pick t (x ∷ keep p xs) (keep p xs)) → P (getD (pick t (x ∷ keep p xs) (keep p xs)) j d)
+    go true ih zero k = f 0 (zero-lt-suc _)
+    go true ih (suc j) k = ih j (le-of-suc-le-suc k)
+    go false ih j k = ih j k
+
+-- where a call at the stop is the last, there is one
+pub callsBefore-some : (stop : ℕ) (l : List Call) (k : ℕ) → 0 < k → k ≤ length l → getD l (k - 1) noCall .stop ≡ stop → 0 < length (callsBefore stop l k)
+callsBefore-some stop l zero p h e = absurd (omega arith)
+callsBefore-some stop l (suc k) p h e =
+    let f : getD l k noCall .stop ≡ stop = ap (λ (j : ℕ). getD l j noCall .stop) (omega arith) ∙ e in
+    let s : callsBefore stop l (suc k) ≡ callsBefore stop l k ++ (getD l k noCall ∷ []) = rw add-one at (callsBefore-hit stop l k (omega arith) f) in
+    rw s (rw length-append (omega arith))
+
+-- One call more at a stop that has one
+pub gapOfStop-next :
+    (n : Net) (starts : List ℤ) (cs : List Call) (d : Call)
+    → 0 < length cs
+    → ((i : ℕ) → i < length cs → 0 < periodOf n (getD cs i noCall))
+    → gapOfStop n starts (cs ++ (d ∷ [])) ≡ leastFrom (gapOfStop n starts cs) (map (λ e. gapOfCalls n starts e d) cs)
+gapOfStop-next n starts [] d h f = absurd (omega arith)
+gapOfStop-next n starts (c ∷ cs) d h f = gapOfStop-snoc n starts c cs d (f 0 (zero-lt-suc _))
+
+-- ---- the pass over the calls
+
+-- The rows after `i` calls: the latest call at each stop, the way back from each call, and the gap of each stop that counts
+pub record Scanned (n : Net) (starts : List ℤ) (l : List Call) (counts gaps last previous : List ℕ) (i : ℕ) : Type 0 where
+  pub gaps-row : length gaps ≡ 64
+  pub last-row : length last ≡ 64
+  pub previous-row : length previous ≡ 256
+  pub last-is : (s : ℕ) → s < 64 → getD last s 0 ≡ lastAt s l i
+  pub leads : LeadsBack previous l i
+  pub gaps-are : (s : ℕ) → s < 64 → 0 < getD counts s 0 → getD gaps s 0 ≡ gapOfStop n starts (callsBefore s l i)
+
+pub getD-zeros : (k s : ℕ) → _≡_ {A = ℕ} (getD (replicate k 0) s 0) 0
+getD-zeros zero s = refl
+getD-zeros (suc k) zero = refl
+getD-zeros (suc k) (suc s) = getD-zeros k s
+
+pub scanned-none : (n : Net) (starts : List ℤ) (l : List Call) (counts : List ℕ) → Scanned n starts l counts (replicate 64 0) (replicate 64 0) (replicate 256 0) 0
+unfolding lastAt callsBefore keep gapOfStop LeadsBack
+scanned-none n starts l counts =
+    record {
+      gaps-row = length-replicate {A = ℕ} 64 0;
+      last-row = length-replicate {A = ℕ} 64 0;
+      previous-row = length-replicate {A = ℕ} 256 0;
+      last-is = λ s h. getD-zeros 64 s;
+      leads = λ j h. absurd (omega arith);
+      gaps-are = λ s h k. getD-zeros 64 s;
+    }
+
+-- one call more: of its stop the latest is this call, and every other stop stays as it was
+module _ (n : Net) (starts : List ℤ) (l : List Call) (counts gaps last previous : List ℕ) (i : ℕ) (scanned : Scanned n starts l counts gaps last previous i) (small : i < 256) (stated : i < length l) (low : getD l i noCall .stop < 64) where
+  last-next : (s : ℕ) → s < 64 → Dec (s ≡ getD l i noCall .stop) → getD (set last (getD l i noCall .stop) (i + 1)) s 0 ≡ lastAt s l (i + 1)
+  last-next s h (yes e) =
+      ap (λ (k : ℕ). getD (set last (getD l i noCall .stop) (i + 1)) k 0) e
+      ∙ getD-set-same last (getD l i noCall .stop) (i + 1) 0 (rw (scanned .last-row) low)
+      ∙ sym (lastAt-hit s l i (sym e))
+  last-next s h (no f) =
+      getD-set-other last (getD l i noCall .stop) s (i + 1) 0 f ∙ scanned .last-is s h ∙ sym (lastAt-miss s l i (λ e. f (sym e)))
+
+  leads-next : (before : ℕ) → before ≡ lastAt (getD l i noCall .stop) l i → (j : ℕ) → j < i + 1 → Dec (j ≡ i) → getD (set previous i before) j 0 ≡ lastAt (getD l j noCall .stop) l j
+  unfolding LeadsBack
+  leads-next before b j h (yes e) =
+      ap (λ (k : ℕ). getD (set previous i before) k 0) e
+      ∙ getD-set-same previous i before 0 (rw (scanned .previous-row) small)
+      ∙ b
+      ∙ ap (λ (k : ℕ). lastAt (getD l k noCall .stop) l k) (sym e)
+  leads-next before b j h (no f) = getD-set-other previous i j before 0 f ∙ scanned .leads j (lt-of-le-ne (omega arith) f)
+
+  gaps-next :
+      (value : ℕ)
+      → value ≡ gapOfStop n starts (callsBefore (getD l i noCall .stop) l i ++ (getD l i noCall ∷ []))
+      → (s : ℕ)
+      → s < 64
+      → 0 < getD counts s 0
+      → Dec (s ≡ getD l i noCall .stop)
+      → getD (set gaps (getD l i noCall .stop) value) s 0 ≡ gapOfStop n starts (callsBefore s l (i + 1))
+  gaps-next value v s h k (yes e) =
+      ap (λ (j : ℕ). getD (set gaps (getD l i noCall .stop) value) j 0) e
+      ∙ getD-set-same gaps (getD l i noCall .stop) value 0 (rw (scanned .gaps-row) low)
+      ∙ v
+      ∙ ap (gapOfStop n starts) (ap (λ (t : ℕ). callsBefore t l i ++ (getD l i noCall ∷ [])) (sym e) ∙ sym (callsBefore-hit s l i stated (sym e)))
+  gaps-next value v s h k (no f) =
+      getD-set-other gaps (getD l i noCall .stop) s value 0 f
+      ∙ scanned .gaps-are s h k
+      ∙ ap (gapOfStop n starts) (sym (callsBefore-miss s l i stated (λ e. f (sym e))))
+
+  -- a stop that counts gets its new gap
+  pub scanned-counted :
+      (before value : ℕ)
+      → before ≡ lastAt (getD l i noCall .stop) l i
+      → value ≡ gapOfStop n starts (callsBefore (getD l i noCall .stop) l i ++ (getD l i noCall ∷ []))
+      → Scanned n starts l counts (set gaps (getD l i noCall .stop) value) (set last (getD l i noCall .stop) (i + 1)) (set previous i before) (i + 1)
+  unfolding LeadsBack
+  scanned-counted before value b v =
+      record {
+        gaps-row = length-set gaps _ value ∙ scanned .gaps-row;
+        last-row = length-set last _ (i + 1) ∙ scanned .last-row;
+        previous-row = length-set previous i before ∙ scanned .previous-row;
+        last-is = λ s h. last-next s h (ℕ-discrete s _);
+        leads = λ j h. leads-next before b j h (ℕ-discrete j i);
+        gaps-are = λ s h k. gaps-next value v s h k (ℕ-discrete s _);
+      }
+
+  -- a stop that doesn't stays as it was
+  pub scanned-passed :
+      (before : ℕ)
+      → before ≡ lastAt (getD l i noCall .stop) l i
+      → getD counts (getD l i noCall .stop) 0 ≤ 0
+      → Scanned n starts l counts gaps (set last (getD l i noCall .stop) (i + 1)) (set previous i before) (i + 1)
+  unfolding LeadsBack
+  scanned-passed before b z =
+      record {
+        gaps-row = scanned .gaps-row;
+        last-row = length-set last _ (i + 1) ∙ scanned .last-row;
+        previous-row = length-set previous i before ∙ scanned .previous-row;
+        last-is = λ s h. last-next s h (ℕ-discrete s _);
+        leads = λ j h. leads-next before b j h (ℕ-discrete j i);
+        gaps-are = λ s h k.
+            scanned .gaps-are s h k ∙ ap (gapOfStop n starts) (sym (callsBefore-miss s l i stated (λ e. uncounted s k e)));
+      }
+    where
+      uncounted : (s : ℕ) → 0 < getD counts s 0 → getD l i noCall .stop ≡ s → ⊥
+      uncounted s k e = omega (arith, rw (← e) at k, z)

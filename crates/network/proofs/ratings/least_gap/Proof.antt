@@ -15,7 +15,7 @@ use Rattle.network.specs.Rating.{arrivalOf, periodOf, gapOfCalls}
 use Rattle.network.specs.Scan.{lastAt, callsBefore, leastFrom, LeadsBack}
 use Rattle.network.specs.Stored.{netOf, Sound}
 use Rattle.network.specs.Valid.{Valid, noCall}
-use Rattle.network.proofs.Laws.Scan.{lastAt-le, lastAt-lands, step-back}
+use Rattle.network.proofs.Laws.Scan.{lastAt-le, lastAt-landed, step-back}
 use Rattle.network.proofs.Laws.Stored.{held-lines, held-period, held-call-line, held-period-pos}
 use Rattle.network.proofs.ratings.least_gap.Statement.{statement}
 use Rattle.network.proofs.ratings.least_gap.Tie as tie
@@ -36,10 +36,6 @@ Inv-loop sheet previous call next least network lesser₀ from₀ lesser from =
 
 abbrev μ-loop : tie.MeasureT-loop
 μ-loop sheet previous call next least network lesser₀ from₀ lesser from = from
-
--- where the row leads on, it leads to a call at the stop
-landed : (l : List Call) (stop k j : ℕ) → j ≡ lastAt stop l k → 0 < j → getD l (j - 1) noCall .stop ≡ stop
-landed l stop k j e h = ap (λ (i : ℕ). getD l (i - 1) noCall .stop) e ∙ lastAt-lands stop l k (rw e at h)
 
 -- At a turn of the loop: the call that is looked at is one of the calls that count, and of this call's stop
 module _ (c : tie.In-loop Inv-loop μ-loop) where
@@ -156,7 +152,7 @@ loop-again c =
     let lesser : c .before .if1 .lesser ≡ min (t .before .loop .lesser) (g (other t)) =
     ⊎-elim (λ w. omega (arith, is, w .1, w .0 .taken)) (λ w. omega (arith, is, w .1, w .0 .left)) (c .before .if1 .came) in (
       omega (arith, led-back t, lastAt-le stop (network t .list) (at t), t .before .loop .inv .0),
-      landed (network t .list) stop (at t) (getD (start t .args .previous .now) (at t) 0) (led-back t),
+      lastAt-landed (network t .list) stop (at t) (getD (start t .args .previous .now) (at t) 0) (led-back t),
       ap (λ (v : ℕ). leastFrom v (map g (callsBefore stop (network t .list) (getD (start t .args .previous .now) (at t) 0)))) lesser ∙ onward t,
     )
 

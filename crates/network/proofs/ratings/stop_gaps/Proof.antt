@@ -1,0 +1,225 @@
+-- `network::ratings::stop_gaps` meets its contract. The loop's invariant: the rows are those after the calls passed. Assumes nothing.
+use Prim.Native.Nat.{ℕ, _+_, _-_, _<_, _≤_}
+use mathlib.Core.Path.{_≡_, refl, sym, ap, _∙_}
+use mathlib.Core.List.{List, [], _∷_, _++_}
+use mathlib.Core.Logic.{⊎-elim}
+use native.Mathlib.Nat.{le-antisymm}
+use native.Mathlib.Omega.{arith}
+use lib.ListN.{length, getD, take, set}
+use Rattle.network.specs.declared.Call.{Call}
+use Rattle.network.specs.declared.Network.{Network}
+use Rattle.network.specs.Lists.{keep}
+use Rattle.network.specs.Rating.{gapOfStop, callsOfStop, stopGap}
+use Rattle.network.specs.Scan.{lastAt, callsBefore, LeadsBack}
+use Rattle.network.specs.Stored.{netOf, Sound}
+use Rattle.network.specs.Valid.{Valid, noCall}
+use Rattle.network.proofs.Laws.Scan.{Scanned, scanned-none, scanned-counted, scanned-passed, lastAt-le, lastAt-landed, callsBefore-lastAt}
+use Rattle.network.proofs.Laws.Stored.{held-lines, held-call-line, held-call-stop}
+use Rattle.network.proofs.ratings.stop_gaps.Statement.{statement}
+use Rattle.network.proofs.ratings.stop_gaps.Tie as tie
+use Rattle.network.proofs.ratings.stop_gaps.Reads as reads
+use Rattle.network.proofs.ratings.stop_gaps.Lts as lts
+use Rattle.network.proofs.ratings.gap_with.Reads as gap-with-reads
+
+abbrev Inv-loop : tie.InvT-loop
+Inv-loop sheet counts network gaps₀ last₀ previous₀ count i₀ gaps last previous i =
+    (i ≤ count) × Scanned (netOf network) sheet (network .list) counts gaps last previous i
+
+abbrev μ-loop : tie.MeasureT-loop
+μ-loop sheet counts network gaps₀ last₀ previous₀ count i₀ gaps last previous i = count - i
+
+-- At a turn of the loop: the call that is looked at, and the latest before it at its stop
+module _ (t : tie.In-loop Inv-loop μ-loop) where
+  abbrev start : tie.Start Inv-loop μ-loop
+  start = t .before .before
+
+  abbrev network : Network
+  network = start .args .t1
+
+  abbrev i : ℕ
+  i = t .before .loop .i
+
+  abbrev call : Call
+  call = getD (network .list) i noCall
+
+  abbrev before : ℕ
+  before = getD (t .before .loop .last) (call .stop) 0
+
+  scanned : Scanned (netOf network) (start .args .sheet .now) (network .list) (start .args .counts .now) (t .before .loop .gaps) (t .before .loop .last) (t .before .loop .previous) i
+  scanned = t .before .loop .inv .1
+
+  small : i < 256
+  small = omega (arith, t .loop-test .taken, start .pre .0 .calls)
+
+  stated : i < length (network .list)
+  stated = omega (arith, small, start .pre .0 .list-row)
+
+  stop-low : call .stop < 64
+  stop-low = omega (arith, held-call-stop network (start .pre .0) (start .pre .1) i (t .loop-test .taken))
+
+  before-is : before ≡ lastAt (call .stop) (network .list) i
+  before-is = scanned .last-is (call .stop) stop-low
+
+  before-le : before ≤ i
+  before-le = omega (arith, before-is, lastAt-le (call .stop) (network .list) i)
+
+  before-same : callsBefore (call .stop) (network .list) i ≡ callsBefore (call .stop) (network .list) before
+  before-same =
+      callsBefore-lastAt (call .stop) (network .list) i (omega (arith, stated))
+      ∙ ap (callsBefore (call .stop) (network .list)) (sym before-is)
+
+  leads-before : LeadsBack (t .before .loop .previous) (network .list) before
+  unfolding LeadsBack
+  leads-before j h = scanned .leads j (omega (arith, before-le, h))
+
+-- src/ratings.rt:92:5
+loop-holds : tie.Need-loop-holds Inv-loop μ-loop
+loop-holds c = (omega arith, scanned-none (netOf (c .args .t1)) (c .args .sheet .now) (c .args .t1 .list) (c .args .counts .now))
+
+-- src/ratings.rt:93:20
+mul-call : tie.Need-mul-call Inv-loop μ-loop
+mul-call c = omega (arith, small c)
+
+-- src/ratings.rt:93:20
+element-copy-out-call : tie.Need-element-copy-out-call Inv-loop μ-loop
+element-copy-out-call c = omega (arith, small c)
+
+-- src/ratings.rt:94:20
+cast-stop : tie.Need-cast-stop Inv-loop μ-loop
+cast-stop c = omega (arith, stop-low (c .before .before))
+
+-- src/ratings.rt:95:22
+mul-before : tie.Need-mul-before Inv-loop μ-loop
+mul-before c = omega (arith, stop-low (c .before .before))
+
+-- src/ratings.rt:95:22
+array-read-before : tie.Need-array-read-before Inv-loop μ-loop
+array-read-before c = omega (arith, stop-low (c .before .before))
+
+-- src/ratings.rt:96:16
+element-copy-out-if1 : tie.Need-element-copy-out-if1 Inv-loop μ-loop
+element-copy-out-if1 c = omega (arith, stop-low (c .before .before))
+
+-- src/ratings.rt:97:76
+mul-gap-with : tie.Need-mul-gap-with Inv-loop μ-loop
+mul-gap-with c = omega (arith, stop-low (c .before .before .before .before .before))
+
+-- src/ratings.rt:97:76
+array-read-gap-with : tie.Need-array-read-gap-with Inv-loop μ-loop
+array-read-gap-with c = omega (arith, stop-low (c .before .before .before .before .before))
+
+-- src/ratings.rt:97:26
+gap-with-requires : tie.Need-gap-with-requires Inv-loop μ-loop
+gap-with-requires c κs =
+    let t = c .before .before .before .before .before in (
+      start t .pre,
+      (
+        (
+          omega (arith, held-call-line (network t) (start t .pre .0) (start t .pre .1) (i t) (t .loop-test .taken), held-lines (network t) (start t .pre .0)),
+          omega (arith, before-le t, t .loop-test .taken),
+          leads-before t,
+        ),
+        (
+          lastAt-landed (network t .list) (call t .stop) (i t) (before t) (before-is t),
+          scanned t .gaps-are (call t .stop) (stop-low t) (c .before .if1 .taken)
+              ∙ ap (gapOfStop (netOf (network t)) (start t .args .sheet .now)) (before-same t),
+        ),
+      ),
+    )
+
+-- src/ratings.rt:97:13
+mul-gaps : tie.Need-mul-gaps Inv-loop μ-loop
+mul-gaps c = omega (arith, stop-low (c .before .before .before .before .before .before))
+
+-- src/ratings.rt:97:13
+array-write-gaps : tie.Need-array-write-gaps Inv-loop μ-loop
+array-write-gaps c = omega (arith, stop-low (c .before .before .before .before .before .before))
+
+-- src/ratings.rt:99:9
+mul-previous : tie.Need-mul-previous Inv-loop μ-loop
+mul-previous c = omega (arith, small (c .before .before .before .before))
+
+-- src/ratings.rt:99:9
+array-write-previous : tie.Need-array-write-previous Inv-loop μ-loop
+array-write-previous c = omega (arith, small (c .before .before .before .before))
+
+-- src/ratings.rt:100:22
+cast-last : tie.Need-cast-last Inv-loop μ-loop
+cast-last c = omega (arith, small (c .before .before .before .before))
+
+-- src/ratings.rt:100:22
+add-last : tie.Need-add-last Inv-loop μ-loop
+add-last c = omega (arith, small (c .before .before .before .before))
+
+-- src/ratings.rt:100:9
+mul-last : tie.Need-mul-last Inv-loop μ-loop
+mul-last c = omega (arith, stop-low (c .before .before .before .before))
+
+-- src/ratings.rt:100:9
+array-write-last : tie.Need-array-write-last Inv-loop μ-loop
+array-write-last c = omega (arith, stop-low (c .before .before .before .before))
+
+-- src/ratings.rt:92:9
+add-i : tie.Need-add-i Inv-loop μ-loop
+add-i c = omega (arith, small (c .before .before .before .before))
+
+-- src/ratings.rt:92:5
+loop-less : tie.Need-loop-less Inv-loop μ-loop
+loop-less c = omega (arith, (c .before .before .before .before) .loop-test .taken)
+
+-- src/ratings.rt:92:5
+loop-again : tie.Need-loop-again Inv-loop μ-loop
+loop-again c =
+    let t = c .before .before .before .before in (
+      omega (arith, t .loop-test .taken),
+      ⊎-elim
+          (λ w.
+          rw (w .3)
+          (scanned-counted (netOf (network t)) (start t .args .sheet .now) (network t .list) (start t .args .counts .now) (t .before .loop .gaps)
+          (t .before .loop .last) (t .before .loop .previous) (i t) (scanned t) (small t) (stated t) (stop-low t) (before t) (w .2 .result) (before-is t)
+          (w .2 .ensures
+          ∙ ap (λ (cs : List Call). gapOfStop (netOf (network t)) (start t .args .sheet .now) (cs ++ (call t ∷ []))) (sym (before-same t)))))
+          (λ w.
+          rw (w .1)
+          (scanned-passed (netOf (network t)) (start t .args .sheet .now) (network t .list) (start t .args .counts .now) (t .before .loop .gaps)
+          (t .before .loop .last) (t .before .loop .previous) (i t) (scanned t) (small t) (stated t) (stop-low t) (before t) (before-is t) (w .0 .left)))
+          (c .if1 .came),
+    )
+
+-- src/ratings.rt:84:1
+returns : tie.Need-returns Inv-loop μ-loop
+unfolding stopGap callsOfStop callsBefore netOf
+returns c stop h k =
+    let s = c .before .before in
+    c .before .loop .inv .1 .gaps-are stop h k
+    ∙ ap (λ (j : ℕ). gapOfStop (netOf (s .args .t1)) (s .args .sheet .now) (callsBefore stop (s .args .t1 .list) j))
+    (le-antisymm (c .before .loop .inv .0) (c .loop-test .left))
+
+pub stop-gaps-spec : {M : Type 1} → statement M
+stop-gaps-spec =
+    tie.close
+    (tie.spec
+    Inv-loop
+    μ-loop
+    loop-holds
+    mul-call
+    element-copy-out-call
+    cast-stop
+    mul-before
+    array-read-before
+    element-copy-out-if1
+    mul-gap-with
+    array-read-gap-with
+    gap-with-requires
+    mul-gaps
+    array-write-gaps
+    mul-previous
+    array-write-previous
+    cast-last
+    add-last
+    mul-last
+    array-write-last
+    add-i
+    loop-less
+    loop-again
+    returns)
