@@ -1,11 +1,27 @@
--- The laws of the definitions of `specs/`, a file for each of its files.
+-- The laws of the definitions of `specs/`. `Gaps` is what other crates may use of them.
 pub mod Lists
+pub mod Members
+pub mod Membership
+pub mod Tables
+pub mod Least
 pub mod Divisor
+pub mod Integers
 pub mod Network
 pub mod Grounds
-pub mod Stored
-pub mod Integers
-pub mod Gap
 pub mod Reading
 pub mod Valid
+pub mod Stored
+pub mod Gap
+pub mod Pairs
+pub mod StopGap
+pub mod Rating
+pub mod Starts
+pub mod Permuted
+pub mod Order
+pub mod Gaps
+pub mod Representatives
+pub mod Alike
+pub mod AlikeGap
+pub mod Classes
 pub mod Scan
+pub mod Rate

@@ -1,5 +1,5 @@
 -- How the engine computes the gaps of all stops in one pass over the calls: from each call it goes back through the calls at the same stop.
-use Prim.Native.Nat.{ℕ, zero, suc, _*_, _<_, min}
+use Prim.Native.Nat.{ℕ, zero, suc, _+_, _*_, _<_, min}
 use mathlib.Core.Path.{_≡_}
 use mathlib.Core.Bool.{Bool, true}
 use mathlib.Core.List.{List, [], _∷_, map}
@@ -44,3 +44,8 @@ ratingOfGaps gap (s ∷ rest) =
       least = leastOf (map (λ (t : Counted). gap (t .stop)) (s ∷ rest));
       sum = sumOf (λ (t : Counted). t .weight * gap (t .stop)) (s ∷ rest);
     }
+
+-- A rating with one stop more
+unfoldable pub withStop : Rating → ℕ → ℕ → Rating
+withStop r gap weight =
+    record { some = true; least = pick (r .some) (min (r .least) gap) gap; sum = r .sum + weight * gap }

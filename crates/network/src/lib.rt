@@ -2,12 +2,15 @@
 pub mod calls;
 pub mod divisor;
 pub mod gaps;
+pub mod rate;
 pub mod ratings;
 pub mod reader;
 
 ghost use mathlib.Core.Path.{_≡_};
-ghost use Prim.Native.Nat.{_<_, _≤_};
+ghost use Prim.Native.Nat.{_+_, _*_, _^_, _<_, _≤_};
 ghost use Rattle.network.specs.Network as net;
+ghost use Rattle.network.specs.Rating as rating;
+ghost use Rattle.network.specs.Scan as scan;
 ghost use Rattle.network.specs.Stored.{netOf, Sound};
 
 // A line calls at a stop, `offset` minutes after its start.
@@ -109,6 +112,44 @@ impl Rating {
         least: 0,
         sum: 0,
     };
+
+    // Whether this rating is above another: its least gap is larger, or that is equal and its sum is larger.
+    pub fn is_above(self, other: Rating) -> bool
+        ensures { λ r. ⌜ r ≡ rating.isAbove self other ⌝ }
+    {
+        if self.some {
+            if other.some {
+                if other.least == self.least {
+                    return other.sum < self.sum;
+                }
+                return other.least < self.least;
+            }
+            return true;
+        }
+        false
+    }
+
+    // The rating with one stop more.
+    pub fn with_stop(self, gap: u32, weight: u32) -> Rating
+        requires { ⌜ self .sum + weight * gap < 2 ^ 32 ⌝ }
+        ensures { λ r. ⌜ r ≡ scan.withStop self gap weight ⌝ }
+    {
+        let sum = self.sum + weight * gap;
+        if self.some {
+            if self.least < gap {
+                return Rating {
+                    some: true,
+                    least: self.least,
+                    sum,
+                };
+            }
+        }
+        Rating {
+            some: true,
+            least: gap,
+            sum,
+        }
+    }
 }
 
 // What the read call answers.

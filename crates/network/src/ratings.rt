@@ -8,7 +8,9 @@ ghost use mathlib.Core.Path.{_≡_};
 ghost use mathlib.Core.List.{map, _++_, _∷_, []};
 ghost use Prim.Native.Nat.{ℕ, _*_, _+_, _-_, _<_, _≤_};
 ghost use lib.ListN.{length, getD};
+ghost use lib.Dec.{ltb};
 ghost use Rattle.network.specs.Gap.{gapOf};
+ghost use Rattle.network.specs.Network as net;
 ghost use Rattle.network.specs.Rating as rating;
 ghost use Rattle.network.specs.Scan as scan;
 ghost use Rattle.network.specs.Stored.{netOf, Sound};
@@ -100,4 +102,33 @@ pub fn stop_gaps(network: Network, sheet: &[i32], counts: &[u8; 64]) -> [u32; 64
         last[stop] = i as u16 + 1;
     }
     gaps
+}
+
+// The rating of stops with these gaps: those that count, with their weights in the sum.
+pub fn rating_over(gaps: &[u32; 64], counts: &[u8; 64], weights: &[u16; 64]) -> Rating
+    requires { ⌜ ((stop : ℕ) → stop < 64 → 0 < getD (now counts) stop 0 → (getD (now gaps) stop 0 ≤ 1440) × (getD (now weights) stop 0 ≤ 2000)) ⌝ }
+    ensures { λ r. ⌜ r ≡ scan.ratingOfGaps (λ stop. getD (now (gaps .entry)) stop 0) (scan.countedStops (now (counts .entry)) (now (weights .entry))) ⌝ }
+{
+    let mut rating = Rating::NONE;
+    for stop in 0..64usize {
+        if 0 < counts[stop] {
+            rating = rating.with_stop(gaps[stop], weights[stop] as u32);
+        }
+    }
+    rating
+}
+
+// The served stops: 1 for each stop with a call, 0 for the others.
+pub fn served_row(network: Network) -> [u8; 64]
+    requires { ⌜ Sound network × Valid (netOf network) ⌝ }
+    ensures { λ r. ⌜ ((stop : ℕ) → stop < 64 → ltb 0 (getD r stop 0) ≡ net.isServed stop (netOf network .calls)) ⌝ }
+{
+    let mut row = [0u8; 64];
+    let count = network.calls;
+    for i in 0..count {
+        let call = network.list[i];
+        let stop = call.stop as usize;
+        row[stop] = 1;
+    }
+    row
 }

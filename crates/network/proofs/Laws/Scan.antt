@@ -1,25 +1,26 @@
 -- The pass over the calls computes the stops' gaps: the row leads back through the calls at a stop, and one call more makes the gap the
 -- least of what it was and the gaps to those before. Each is an induction over a list. Assumes nothing.
-use Prim.Native.Nat.{ℕ, zero, suc, _+_, _-_, _<_, _≤_, min, suc-le-suc}
-use mathlib.Core.Path.{_≡_, refl, sym, ap, _∙_}
+use Prim.Native.Nat.{ℕ, zero, suc, _+_, _*_, _-_, _<_, _≤_, min, suc-le-suc}
+use mathlib.Core.Path.{_≡_, refl, sym, ap, ap₂, _∙_}
 use mathlib.Core.Bool.{Bool, true, false}
 use mathlib.Core.List.{List, [], _∷_, _++_, map, append-nil, map-append}
 use native.Mathlib.Nat.{le-trans, min-comm, div-le-self, zero-lt-suc, le-of-suc-le-suc}
 use native.Mathlib.Decide.{ℕ-discrete}
 use native.Mathlib.Numerals.{add-one}
 use native.Mathlib.Omega.{arith}
-use borrow.Author.Tests.{eq-eqb, ne-eqb, eqb-true, eqb-false}
-use lib.Dec.{eqb}
+use borrow.Author.Tests.{eq-eqb, ne-eqb, eqb-true, eqb-false, lt-ltb, le-ltb}
+use lib.Dec.{eqb, ltb}
 use lib.IntN.{ℤ}
 use lib.Arith.{lt-of-le-ne}
 use lib.ListN.{length, getD, take, set, length-append, length-set, replicate, length-replicate}
 use lib.Seq.{take-suc, getD-set-same, getD-set-other}
 use Rattle.network.specs.declared.Call.{Call}
-use Rattle.network.specs.Lists.{pick, keep, leastOf}
+use Rattle.network.specs.Lists.{pick, keep, below, sumOf, leastOf}
 use Rattle.network.specs.Network.{Net}
 use Rattle.network.specs.Valid.{noCall}
-use Rattle.network.specs.Rating.{periodOf, gapOfCalls, pairGaps, gapOfStop}
-use Rattle.network.specs.Scan.{lastAt, callsBefore, LeadsBack, leastFrom}
+use Rattle.network.specs.Rating.{periodOf, gapOfCalls, pairGaps, gapOfStop, Counted}
+use Rattle.network.specs.Scan.{lastAt, callsBefore, LeadsBack, leastFrom, ratingOfGaps, withStop}
+use Rattle.network.proofs.Laws.Tables.{sumOf-append}
 use Rattle.network.proofs.Laws.Divisor.{gcd-le-left}
 use Rattle.network.proofs.Laws.Gap.{gapOf-half}
 
@@ -322,3 +323,53 @@ module _ (n : Net) (starts : List ℤ) (l : List Call) (counts gaps last previou
     where
       uncounted : (s : ℕ) → 0 < getD counts s 0 → getD l i noCall .stop ≡ s → ⊥
       uncounted s k e = omega (arith, rw (← e) at k, z)
+
+-- ---- the rating over the stops that count
+
+leastOf-snoc : (x : ℕ) (xs : List ℕ) (y : ℕ) → leastOf ((x ∷ xs) ++ (y ∷ [])) ≡ min (leastOf (x ∷ xs)) y
+leastOf-snoc x xs y =
+    leastOf-cons x (xs ++ (y ∷ []))
+    ∙ leastFrom-snoc x xs y
+    ∙ leastFrom-min x y xs
+    ∙ ap (λ (v : ℕ). min v y) (sym (leastOf-cons x xs))
+
+-- One stop more
+pub ratingOfGaps-snoc :
+    (gap : ℕ → ℕ) (xs : List Counted) (s : Counted)
+    → ratingOfGaps gap (xs ++ (s ∷ [])) ≡ withStop (ratingOfGaps gap xs) (gap (s .stop)) (s .weight)
+unfolding ratingOfGaps withStop leastOf sumOf
+ratingOfGaps-snoc gap [] s = ap (λ (v : ℕ). record { some = true; least = gap (s .stop); sum = v }) (omega arith)
+ratingOfGaps-snoc gap (x ∷ xs) s =
+    ap₂ (λ (l v : ℕ). record { some = true; least = l; sum = v })
+    (ap leastOf (map-append (λ (t : Counted). gap (t .stop)) (x ∷ xs) (s ∷ []))
+    ∙ leastOf-snoc (gap (x .stop)) (map (λ (t : Counted). gap (t .stop)) xs) (gap (s .stop)))
+    (sumOf-append (λ (t : Counted). t .weight * gap (t .stop)) (x ∷ xs) (s ∷ []) ∙ omega arith)
+
+-- The stops below a bound that a row counts
+abbrev pub countedBelow : List ℕ → List ℕ → ℕ → List Counted
+countedBelow counts weights bound =
+    map (λ (s : ℕ). record { stop = s; weight = getD weights s 0 }) (below (λ s. ltb 0 (getD counts s 0)) bound)
+
+module _ (counts weights : List ℕ) (bound : ℕ) where
+  counted-next : (t : Bool) → ltb 0 (getD counts bound 0) ≡ t
+      → countedBelow counts weights (bound + 1) ≡ countedBelow counts weights bound ++ pick t (record { stop = bound; weight = getD weights bound 0 } ∷ []) []
+  unfolding below
+  counted-next true e = rw (add-one, e) (map-append (λ (s : ℕ). record { stop = s; weight = getD weights s 0 }) (below (λ s. ltb 0 (getD counts s 0)) bound) (bound ∷ []))
+  counted-next false e =
+      rw (add-one, e) (map-append (λ (s : ℕ). record { stop = s; weight = getD weights s 0 }) (below (λ s. ltb 0 (getD counts s 0)) bound) [])
+
+  -- one stop more that counts
+  pub rating-counted :
+      (gap : ℕ → ℕ)
+      → 0 < getD counts bound 0
+      → ratingOfGaps gap (countedBelow counts weights (bound + 1)) ≡ withStop (ratingOfGaps gap (countedBelow counts weights bound)) (gap bound) (getD weights bound 0)
+  rating-counted gap h =
+      ap (ratingOfGaps gap) (counted-next true (lt-ltb 0 (getD counts bound 0) h))
+      ∙ ratingOfGaps-snoc gap (countedBelow counts weights bound) (record { stop = bound; weight = getD weights bound 0 })
+
+  -- one that doesn't
+  pub rating-passed :
+      (gap : ℕ → ℕ)
+      → getD counts bound 0 ≤ 0
+      → ratingOfGaps gap (countedBelow counts weights (bound + 1)) ≡ ratingOfGaps gap (countedBelow counts weights bound)
+  rating-passed gap h = ap (ratingOfGaps gap) (counted-next false (le-ltb 0 (getD counts bound 0) h) ∙ append-nil _)

@@ -1,0 +1,27 @@
+-- The laws on gaps and ratings that other crates may use, and no others. Assumes nothing.
+
+-- two lines: theorem 3.1.2, and no two arrivals closer than the gap
+pub use Rattle.network.proofs.Laws.Gap.{theorem-3-1-2, IsGap-unique, gapOf-symmetric, gapOf-half}
+pub use Rattle.network.proofs.Laws.StopGap.{lines-gap-of-calls, IsLinesGap-unique, IsLinesGap-symmetric}
+pub use Rattle.network.proofs.Laws.StopGap.{never-closer, stopGap-le-calls}
+-- the calls of a stop: its gap is the least over their pairs, at most half of any g; with one call, the period
+pub use Rattle.network.proofs.Laws.Pairs.{gapOfCalls-symmetric, gapOfCalls-half, IsPairGap, gapOfStop-le-pair, gapOfStop-attained}
+pub use Rattle.network.proofs.Laws.Pairs.{gapOfStop-half, gapOfStop-single, gapOfStop-cong, gapOfStop-periods}
+pub use Rattle.network.proofs.Laws.StopGap.{callsOfStop-lines-differ, callsOfStop-period-pos}
+-- leasts over lists, in which these are stated
+pub use Rattle.network.proofs.Laws.Members.{Has, All, AllPairs}
+pub use Rattle.network.proofs.Laws.Least.{leastOf-cons, leastOf-append, leastOf-has, leastOf-le, leastOf-unique, leastOf-same}
+pub use Rattle.network.proofs.Laws.Least.{leastOf-map-has, leastOf-map-le}
+-- a stop and the rating, over all trips
+pub use Rattle.network.proofs.Laws.StopGap.{stopGap-is-stop-gap, IsStopGap-unique, IsStopGap-served}
+pub use Rattle.network.proofs.Laws.Rating.{servedList-all, servedList-has, servedList-some, rating-least, rating-sum}
+pub use Rattle.network.proofs.Laws.Rating.{rating-is-rating, IsRating-unique, ratingOver-cong, rating-cong}
+-- starts that rate alike
+pub use Rattle.network.proofs.Laws.Starts.{SameResidues, stopGap-residues, rating-residues}
+pub use Rattle.network.proofs.Laws.Starts.{stopGap-moved-together, rating-moved-together}
+pub use Rattle.network.proofs.Laws.Starts.{movedByPeriod, stopGap-moved-by-period, rating-moved-by-period}
+-- calls in another order
+pub use Rattle.network.proofs.Laws.Permuted.{gapOfStop-permuted, stopGap-permuted, rating-permuted}
+-- the order of ratings
+pub use Rattle.network.proofs.Laws.Order.{Above, above-of-isAbove, isAbove-of-above, below-of-not-isAbove, isAbove-none}
+pub use Rattle.network.proofs.Laws.Order.{none-is-not-above, isAbove-irreflexive, isAbove-transitive}

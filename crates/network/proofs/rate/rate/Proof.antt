@@ -1,0 +1,99 @@
+-- `network::rate::rate` meets its contract: it answers the file's refusal, then ground 15, then the rating. Assumes nothing.
+use Prim.Native.Nat.{ℕ, _<_}
+use mathlib.Core.Path.{_≡_, refl, sym, ap, _∙_}
+use mathlib.Core.Bool.{true, false}
+use mathlib.Core.List.{List, [], _∷_}
+use native.Mathlib.Omega.{arith}
+use borrow.Author.Needs.{needs}
+use borrow.Author.Tests.{eq-eqb, ne-eqb}
+use lib.Dec.{eqb}
+use lib.ListN.{length, getD}
+use Rattle.network.specs.declared.Check.{Check}
+use Rattle.network.specs.Lists.{pick}
+use Rattle.network.specs.Reading.{Reading, accepted, refusal, readFile}
+use Rattle.network.specs.Rate.{rateAnswer, ratingValues, onSheet, rateOutcome}
+use Rattle.network.specs.Rating.{rating}
+use Rattle.network.specs.Stored.{netOf, Sound, readingOf}
+use Rattle.network.specs.Valid.{Valid, IsBytes}
+use Rattle.network.proofs.Laws.Valid.{accepted-valid}
+use Rattle.network.proofs.Laws.Stored.{held-lines}
+use Rattle.network.proofs.rate.rate.Statement.{statement}
+use Rattle.network.proofs.rate.rate.Tie as tie
+use Rattle.network.proofs.rate.rate.Reads as reads
+use Rattle.network.proofs.rate.rate.Lts as lts
+use Rattle.network.proofs.rate.sheet_rating.Reads as sheet-rating-reads
+use Rattle.network.proofs.reader.read_network.Reads as read-network-reads
+
+-- In the arm of `Passes` the file is accepted, as a valid network
+accepted-here : (c : tie.After-enum-told) → readFile (c .before .before .before .before .before .args .file .now) ≡ accepted (netOf (c .before .before .before .read-network .result .network))
+unfolding readingOf
+accepted-here c =
+    sym (c .before .before .before .read-network .ensures .1) ∙ ap (λ (k : Check). readingOf k (c .before .before .before .read-network .result .network)) (c .enum-told .given .1)
+
+valid-here : (c : tie.After-enum-told) → Valid (netOf (c .before .before .before .read-network .result .network))
+unfolding IsBytes
+valid-here c = accepted-valid (c .before .before .before .before .before .args .file .now) _ (λ i. c .before .before .before .before .shared-slice-known .given i .fits) (accepted-here c)
+
+-- src/rate.rt:33:9
+read-network-requires : tie.Need-read-network-requires
+read-network-requires c κs = search needs
+
+-- src/rate.rt:37:26
+enum-known-check : tie.Need-enum-known-check
+enum-known-check c = search needs
+
+-- src/rate.rt:39:16
+enum-told : tie.Need-enum-told
+enum-told c = search needs
+
+-- src/rate.rt:40:21
+sheet-rating-requires : tie.Need-sheet-rating-requires
+sheet-rating-requires c κs =
+    let t = c .before .before in
+    let r = c .before .before .before .before .before .read-network in
+    (r .ensures .0, valid-here t, c .if1 .taken ∙ sym (held-lines (r .result .network) (r .ensures .0)))
+
+-- src/rate.rt:41:17
+returns : tie.Need-returns
+unfolding rateAnswer ratingValues rateOutcome onSheet
+returns c =
+    let t = c .before .before .before in
+    let r = c .before .before .before .before .before .before .read-network in
+    let n = netOf (r .result .network) in
+    let sheet = c .before .before .before .before .before .before .before .before .args .sheet .now in
+    let fits : eqb (length sheet) (length (n .periods)) ≡ true = eq-eqb _ _ (c .before .if1 .taken ∙ sym (held-lines (r .result .network) (r .ensures .0))) in
+    ap ratingValues (c .sheet-rating .ensures)
+    ∙ sym (ap (λ (k : Reading). onSheet rating k sheet) (accepted-here t) ∙ ap (λ b. pick b (ratingValues (rating n sheet)) (refusal 15 0)) fits)
+
+-- src/rate.rt:30:1
+returns-2 : tie.Need-returns-2
+unfolding rateAnswer rateOutcome onSheet readingOf
+returns-2 c =
+    let r = c .before .before .before .before .read-network in
+    sym
+    (ap (λ (k : Reading). onSheet rating k (c .before .before .before .before .before .before .args .sheet .now))
+    (sym (r .ensures .1) ∙ ap (λ (k : Check). readingOf k (r .result .network)) (c .before .check .given .1)))
+
+-- src/rate.rt:30:1
+returns-3 : tie.Need-returns-3
+unfolding rateAnswer rateOutcome onSheet
+returns-3 c =
+    let t = c .before .before in
+    let r = c .before .before .before .before .before .read-network in
+    let n = netOf (r .result .network) in
+    let sheet = c .before .before .before .before .before .before .before .args .sheet .now in
+    let unfit : eqb (length sheet) (length (n .periods)) ≡ false =
+    ne-eqb _ _ (λ e. c .if1 .left (e ∙ held-lines (r .result .network) (r .ensures .0))) in
+    sym (ap (λ (k : Reading). onSheet rating k sheet) (accepted-here t) ∙ ap (λ b. pick b (ratingValues (rating n sheet)) (refusal 15 0)) unfit)
+
+pub rate-spec : {M : Type 1} → statement M
+rate-spec =
+    tie.close
+    (tie.spec
+    read-network-requires
+    enum-known-check
+    enum-told
+    sheet-rating-requires
+    returns
+    returns-2
+    returns-3)

@@ -1,0 +1,52 @@
+// The rate call.
+use crate::Check;
+use crate::Network;
+use crate::RateAnswer;
+use crate::Rating;
+use crate::ratings::rating_over;
+use crate::ratings::served_row;
+use crate::ratings::stop_gaps;
+use crate::reader::read_network;
+ghost use mathlib.Core.Path.{_≡_};
+ghost use lib.ListN.{length};
+ghost use Rattle.network.specs.Rate.{rateAnswer, rateOutcome};
+ghost use Rattle.network.specs.Rating as rating;
+ghost use Rattle.network.specs.Reading.{readFile};
+ghost use Rattle.network.specs.Stored.{netOf, Sound};
+ghost use Rattle.network.specs.Valid.{Valid};
+
+// The rating of a sheet with one start for each line: every served stop counts once.
+pub fn sheet_rating(network: Network, sheet: &[i32]) -> Rating
+    requires { ⌜ Sound network × Valid (netOf network) × (length (now sheet) ≡ length (netOf network .periods)) ⌝ }
+    ensures { λ r. ⌜ r ≡ rating.rating (netOf network) (now (sheet .entry)) ⌝ }
+{
+    let counts = served_row(network);
+    let weights = [1u16; 64];
+    let gaps = stop_gaps(network, sheet, &counts);
+    rating_over(&gaps, &counts, &weights)
+}
+
+// Rate: a file and a sheet of starts; its rating, or the file's refusal, or ground 15 where the sheet hasn't one start for each line.
+pub fn rate(file: &[u8], sheet: &[i32]) -> RateAnswer
+    ensures { λ r. ⌜ rateAnswer r ≡ rateOutcome (readFile (now (file .entry))) (now (sheet .entry)) ⌝ }
+{
+    let step = read_network(file);
+    let network = step.network;
+    let check = step.check;
+    match check {
+        Check::Refused { number, place } => RateAnswer::Refused { number, place },
+        Check::Passes => {
+            if sheet.len() == network.lines {
+                let rating = sheet_rating(network, sheet);
+                return RateAnswer::Rated {
+                    least: rating.least,
+                    sum: rating.sum,
+                };
+            }
+            RateAnswer::Refused {
+                number: 15,
+                place: 0,
+            }
+        }
+    }
+}

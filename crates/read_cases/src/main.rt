@@ -1,0 +1,19 @@
+// Cases of the read call: each prints a line with the case's name and what the reader answers. The file `stdout` beside
+// src/ has the lines that the paper gives, worked out by hand from its sections on the network file and the grounds. The compiled
+// program runs all cases; the interpreter of `rt try` stops at 10,000,000 steps, among the files of 256 calls.
+mod cases;
+mod edges;
+mod grounds;
+mod large;
+mod limits;
+mod pairs;
+mod tails;
+mod text;
+
+fn main() {
+    edges::all();
+    grounds::all();
+    pairs::all();
+    limits::all();
+    tails::all();
+}
