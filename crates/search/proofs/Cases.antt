@@ -1,0 +1,79 @@
+-- The cases P1 to P9 of document 01, as one theorem over a list of cases: by the definitions, from the files' bytes. Each side computes.
+-- Assumes nothing.
+use Prim.Native.Nat.{ℕ}
+use mathlib.Core.Path.{_≡_, refl}
+use mathlib.Core.Bool.{Bool, true, false, not, _&&_, _||_}
+use mathlib.Core.List.{List, [], _∷_}
+use lib.IntN.{ℤ, pos, negsuc}
+use lib.ListN.{take, replicate, length}
+use Rattle.network.specs.Lists.{any, keep, allBelow, countBelow, below, sumOf, leastOf}
+use Rattle.network.specs.Divisor.{gcd, gcdWithin, lcm, commonCycle, cycleFrom}
+use Rattle.network.specs.Network.{cycle, callsAt, callsAnywhere, isServed, servedStops, latestOffset, word, command, operandBytes, lineOperand}
+use Rattle.network.specs.Network.{stopOperand, statedOffset, rideOffset, withLine, withCall, callOf, extend, Net, emptyNet}
+use Rattle.network.specs.Grounds.{first, cutOff, periodOutOfRange, someLineSilent, callGrounds, grounds}
+use Rattle.network.specs.Reading.{proceed, readFrom, readFile, readOutcome, Reading, accepted, refused, Outcome, values}
+use Rattle.network.specs.Gap.{residue, fold, gapOf}
+use Rattle.network.specs.Rating.{arrivalOf, periodOf, gapOfCalls, pairGaps, gapOfStop, callsOfStop, stopGap, eachOnce, servedList, ratingOver, rating, isAbove}
+use Rattle.network.specs.Rate.{ratingValues, onSheet, rateOutcome}
+use Rattle.network.specs.Classes.{offsetAt, offsetDifference, sameLines, sameDifference, isAlike, firstBelow, lowestAlike, isLowest, table, classRow, weightRow, classCount}
+use Rattle.network.specs.Scan.{leastFrom, ratingOfGaps}
+use Rattle.search.specs.Caps.{halves, evenSpacing, capOfCalls, cap, placedCalls, upperValue, upperRating}
+use Rattle.search.specs.Walk.{State, counted, stop, becomesBest, unless, stopIf, oneTry, eachStart, walk, mostTries}
+use Rattle.search.specs.Search.{SearchOutcome, finished, stopped, stoppedWithNone, startCounts, notAbove, searched, triesBound, walkOutcome, outcomeOf, searchOutcome, startRowAfter}
+
+-- Opens every definition
+opened : ℕ
+unfolding any keep allBelow countBelow below sumOf leastOf gcd gcdWithin lcm commonCycle cycleFrom cycle callsAt callsAnywhere isServed servedStops latestOffset word command operandBytes lineOperand stopOperand statedOffset rideOffset withLine withCall callOf extend first cutOff periodOutOfRange someLineSilent callGrounds grounds proceed readFrom readFile readOutcome residue fold gapOf arrivalOf periodOf gapOfCalls pairGaps gapOfStop callsOfStop stopGap eachOnce servedList ratingOver rating isAbove ratingValues onSheet rateOutcome offsetAt offsetDifference sameLines sameDifference isAlike firstBelow lowestAlike isLowest table classRow weightRow classCount leastFrom ratingOfGaps halves evenSpacing capOfCalls cap placedCalls upperValue upperRating counted stop becomesBest unless stopIf oneTry eachStart walk mostTries startCounts notAbove searched triesBound walkOutcome outcomeOf searchOutcome startRowAfter
+opened = 0
+
+-- The files
+pub p1 : List ℕ
+p1 = 0x4C ∷ 0 ∷ 15 ∷ 0x4C ∷ 0 ∷ 20 ∷ 0x43 ∷ 0 ∷ 0 ∷ 0 ∷ 8 ∷ 0x43 ∷ 1 ∷ 0 ∷ 0 ∷ 17 ∷ 0x45 ∷ []
+
+pub p7 : List ℕ
+p7 = 0x4C ∷ 0 ∷ 10 ∷ 0x4C ∷ 0 ∷ 10 ∷ 0x4C ∷ 0 ∷ 10 ∷ 0x43 ∷ 0 ∷ 0 ∷ 0 ∷ 0 ∷ 0x43 ∷ 1 ∷ 0 ∷ 0 ∷ 0 ∷ 0x43 ∷ 2 ∷ 0 ∷ 0 ∷ 0 ∷ 0x45 ∷ []
+
+pub p8 : List ℕ
+p8 = 0x4C ∷ 0 ∷ 60 ∷ 0x4C ∷ 0 ∷ 60 ∷ 0x4C ∷ 0 ∷ 12 ∷ 0x43 ∷ 0 ∷ 0 ∷ 0 ∷ 0 ∷ 0x43 ∷ 1 ∷ 0 ∷ 0 ∷ 0 ∷ 0x43 ∷ 2 ∷ 1 ∷ 0 ∷ 0 ∷ 0x45 ∷ []
+
+pub p9 : List ℕ
+p9 = 0x4C ∷ 0 ∷ 20 ∷ 0x4C ∷ 0 ∷ 30 ∷ 0x43 ∷ 0 ∷ 0 ∷ 0 ∷ 0 ∷ 0x43 ∷ 1 ∷ 0 ∷ 0 ∷ 0 ∷ 0x43 ∷ 0 ∷ 1 ∷ 0 ∷ 7 ∷ 0x43 ∷ 1 ∷ 1 ∷ 0 ∷ 17 ∷ 0x43 ∷ 0 ∷ 2 ∷ 0 ∷ 5 ∷ 0x43 ∷ 1 ∷ 2 ∷ 0 ∷ 8 ∷ 0x45 ∷ []
+
+-- A case: a sheet that is rated, a search with its budget, and the classes and weights of the first stops
+pub data Case : Type 0 where
+  rates : List ℕ → List ℤ → ℕ → ℕ → Case
+  searches : List ℕ → ℕ → SearchOutcome → List ℤ → Case
+  classes : List ℕ → List ℕ → List ℕ → ℕ → Case
+
+pub rowsOf : Reading → ℕ → List ℕ × (List ℕ × ℕ)
+rowsOf (refused number place) k = ([], ([], 0))
+rowsOf (accepted n) k = (take k (classRow n), (take k (weightRow n), classCount n))
+
+pub Holds : Case → Type 0
+Holds (rates file sheet least sum) = rateOutcome (readFile file) sheet ≡ values (least ∷ sum ∷ [])
+Holds (searches file budget outcome starts) =
+    (searchOutcome (readFile file) (length starts) budget ≡ outcome) × (startRowAfter (readFile file) budget (replicate (length starts) (pos 77)) ≡ starts)
+Holds (classes file cs ws count) = rowsOf (readFile file) (length cs) ≡ (cs, (ws, count))
+
+pub Every : List Case → Type 0
+Every [] = Unit {0}
+Every (c ∷ cs) = Holds c × Every cs
+
+pub cases : List Case
+cases =
+    rates p1 (pos 0 ∷ pos 0 ∷ []) 1 1 ∷
+    rates p1 (pos 0 ∷ negsuc 16 ∷ []) 2 2 ∷
+    searches p1 21 (finished 2 2 21) (pos 0 ∷ pos 3 ∷ []) ∷
+    searches p1 20 (stopped 2 2 20) (pos 0 ∷ pos 3 ∷ []) ∷
+    searches p1 2 (stopped 1 1 2) (pos 0 ∷ pos 0 ∷ []) ∷
+    searches p1 1 (stoppedWithNone 1) (pos 77 ∷ pos 77 ∷ []) ∷
+    searches p7 1000000 (finished 3 3 51) (pos 0 ∷ pos 3 ∷ pos 6 ∷ []) ∷
+    searches p8 1000000 (finished 12 42 433) (pos 0 ∷ pos 30 ∷ pos 0 ∷ []) ∷
+    classes p9 (0 ∷ 0 ∷ 2 ∷ []) (2 ∷ 0 ∷ 1 ∷ []) 2 ∷
+    searches p9 1000000 (finished 3 11 31) (pos 0 ∷ pos 4 ∷ []) ∷
+    []
+
+pub P1-to-P9 : Every cases
+unfolding opened p1 p7 p8 p9 rowsOf Holds Every cases
+P1-to-P9 =
+    (refl, (refl, ((refl, refl), ((refl, refl), ((refl, refl), ((refl, refl), ((refl, refl), ((refl, refl), (refl, ((refl, refl), tt))))))))))
