@@ -1,3 +1,6 @@
 pub mod Caps
+pub mod CapScan
 pub mod Walk
 pub mod Search
+pub mod Layout
+pub mod Held

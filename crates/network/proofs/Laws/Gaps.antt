@@ -2,6 +2,7 @@
 
 -- two lines: theorem 3.1.2, and no two arrivals closer than the gap
 pub use Rattle.network.proofs.Laws.Gap.{theorem-3-1-2, IsGap-unique, gapOf-symmetric, gapOf-half}
+pub use Rattle.network.proofs.Laws.Gap.{residue-lt, residue-of-add, residue-eq-of-multiple, multiple-of-residue-eq}
 pub use Rattle.network.proofs.Laws.StopGap.{lines-gap-of-calls, IsLinesGap-unique, IsLinesGap-symmetric}
 pub use Rattle.network.proofs.Laws.StopGap.{never-closer, stopGap-le-calls}
 -- the calls of a stop: its gap is the least over their pairs, at most half of any g; with one call, the period
@@ -11,7 +12,10 @@ pub use Rattle.network.proofs.Laws.StopGap.{callsOfStop-lines-differ, c
 -- leasts over lists, in which these are stated
 pub use Rattle.network.proofs.Laws.Members.{Has, All, AllPairs}
 pub use Rattle.network.proofs.Laws.Least.{leastOf-cons, leastOf-append, leastOf-has, leastOf-le, leastOf-unique, leastOf-same}
+pub use Rattle.network.proofs.Laws.Scan.{leastOf-cons as leastOf-leastFrom, leastFrom-le}
 pub use Rattle.network.proofs.Laws.Least.{leastOf-map-has, leastOf-map-le}
+-- the common cycle
+pub use Rattle.network.proofs.Laws.Valid.{cycle-multiple, cycle-pos}
 -- a stop and the rating, over all trips
 pub use Rattle.network.proofs.Laws.StopGap.{stopGap-is-stop-gap, IsStopGap-unique, IsStopGap-served}
 pub use Rattle.network.proofs.Laws.Rating.{servedList-all, servedList-has, servedList-some, rating-least, rating-sum}

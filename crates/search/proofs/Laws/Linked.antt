@@ -1,0 +1,116 @@
+-- What the rows of the walk tell of the network that they hold: the lines, divisors and gaps of its calls. Assumes nothing.
+use Prim.Native.Nat.{ℕ, zero, suc, _+_, _*_, _-_, _%_, _<_, _≤_}
+use mathlib.Core.Path.{_≡_, refl, sym, ap, ap₂, _∙_}
+use mathlib.Core.List.{List, map}
+use native.Mathlib.Nat.{le-trans}
+use native.Mathlib.Omega.{arith}
+use lib.Dec.{eqb}
+use lib.IntN.{ℤ, pos, _+ℤ_, _-ℤ_, _*ℤ_}
+use lib.ListN.{length, getD, List·getD-map}
+use Rattle.network.specs.declared.Call.{Call}
+use Rattle.network.specs.Divisor.{gcd}
+use Rattle.network.specs.Network.{Net, maxPeriod, maxStop, maxOffset}
+use Rattle.network.specs.Valid.{Valid, noCall}
+use Rattle.network.specs.Gap.{fold, residue, gapOf}
+use Rattle.network.specs.Rating.{arrivalOf, periodOf, gapOfCalls}
+use Rattle.network.specs.Scan.{LeadsBack, lastAt}
+use Rattle.network.proofs.Laws.Members.{All, all-append, keep-all}
+use Rattle.network.proofs.Laws.Divisor.{gcd-pos-left, gcd-le-left}
+use Rattle.network.proofs.Laws.Gaps.{residue-eq-of-multiple}
+use Rattle.network.proofs.Laws.Integers.{difference-pos, difference-sub, difference-add-multiple, eq-of-difference}
+use Rattle.search.specs.Layout.{byLine}
+use Rattle.search.specs.Held.{Linked, callsIn}
+use Rattle.search.proofs.Laws.Layout.{length-byLine-all, byLine-line-lt}
+
+-- What holds of every call holds of every call in line order
+pub byLine-all : (P : Call → Type 0) (calls : List Call) → All noCall P calls → (k : ℕ) → All noCall P (byLine calls k)
+unfolding byLine
+byLine-all P calls h zero = λ i j. absurd (omega arith)
+byLine-all P calls h (suc k) = all-append noCall P (byLine calls k) _ (byLine-all P calls h k) (keep-all noCall (λ (c : Call). eqb (c .line) k) P calls (λ i b e. h i b))
+
+-- A difference reduced by a divisor, computed with naturals
+pub residue-of-difference : (g a b m : ℕ) → b ≤ g * m → (a + g * m - b) % g ≡ residue (pos a -ℤ pos b) g
+unfolding residue
+residue-of-difference g a b m h =
+    residue-eq-of-multiple (pos (a + g * m - b)) (pos a -ℤ pos b) (pos m) g
+    (eq-of-difference (difference-pos (a + g * m - b)) (difference-add-multiple (difference-sub (difference-pos a) (difference-pos b)) (difference-pos m) g)
+    (omega arith))
+
+arrival-of : (starts : List ℕ) (line offset : ℕ) (c : Call) → line ≡ c .line → offset ≡ c .offset → pos (getD starts line 0 + offset) ≡ arrivalOf (map pos starts) c
+unfolding arrivalOf
+arrival-of starts line offset c e f =
+    ap₂ (λ (a b : ℕ). pos (getD starts a 0 + b)) e f ∙ ap (λ (z : ℤ). z +ℤ pos (c .offset)) (sym (List·getD-map pos starts (c .line) 0))
+
+module _ {lines offsets previous divisors : List ℕ} (l : Linked lines offsets previous divisors) where
+  -- all calls are in line order
+  pub length-callsIn : length (callsIn l) ≡ length (l .net .calls)
+  length-callsIn = length-byLine-all (l .net .calls) (length (l .net .periods)) (l .valid .call-line)
+
+  pub calls-few : length (l .net .calls) ≤ 256
+  calls-few = l .valid .calls
+
+  module _ (i : ℕ) (h : i < length (l .net .calls)) where
+    pub line-low : getD (callsIn l) i noCall .line < length (l .net .periods)
+    line-low = byLine-line-lt (l .net .calls) (length (l .net .periods)) (length (l .net .periods)) i (omega arith) (omega (arith, length-callsIn))
+
+    pub stop-low : getD (callsIn l) i noCall .stop < 64
+    stop-low =
+        omega
+        (arith, byLine-all (λ (c : Call). c .stop ≤ maxStop) (l .net .calls) (l .valid .call-stop) (length (l .net .periods)) i (omega (arith, length-callsIn)))
+
+    pub offset-row-low : getD offsets i 0 ≤ 65535
+    offset-row-low =
+        omega (
+          arith,
+          l .offset-of i h,
+          byLine-all (λ (c : Call). c .offset ≤ maxOffset) (l .net .calls) (l .valid .call-offset) (length (l .net .periods)) i (omega (arith, length-callsIn)),
+        )
+
+    pub line-row-low : getD lines i 0 < length (l .net .periods)
+    line-row-low = rw (l .line-of i h) line-low
+
+    pub line-row-lt-16 : getD lines i 0 < 16
+    line-row-lt-16 = omega (arith, line-row-low, l .valid .lines)
+
+  -- the divisor of two calls
+  module _ (i j : ℕ) (hi : i < length (l .net .calls)) (hj : j < length (l .net .calls)) where
+    divisor-is :
+        getD divisors (getD lines i 0 * 16 + getD lines j 0) 0
+        ≡ gcd (periodOf (l .net) (getD (callsIn l) j noCall)) (periodOf (l .net) (getD (callsIn l) i noCall))
+    unfolding periodOf
+    divisor-is =
+        l .divisor-of (getD lines i 0) (getD lines j 0) (line-row-low i hi) (line-row-low j hj)
+        ∙ ap₂ (λ (a b : ℕ). gcd (getD (l .net .periods) a 0) (getD (l .net .periods) b 0)) (l .line-of j hj) (l .line-of i hi)
+
+    period-pos : 0 < periodOf (l .net) (getD (callsIn l) j noCall)
+    unfolding periodOf
+    period-pos = l .valid .period-pos _ (line-low j hj)
+
+    period-le : periodOf (l .net) (getD (callsIn l) j noCall) ≤ maxPeriod
+    unfolding periodOf
+    period-le = l .valid .period _ (line-low j hj)
+
+    pub divisor-pos : 0 < getD divisors (getD lines i 0 * 16 + getD lines j 0) 0
+    divisor-pos = rw divisor-is (gcd-pos-left _ _ period-pos)
+
+    pub divisor-le : getD divisors (getD lines i 0 * 16 + getD lines j 0) 0 ≤ 1440
+    divisor-le = rw divisor-is (le-trans (gcd-le-left _ _ period-pos) period-le)
+
+    -- the gap of two calls, by their arrivals and that divisor
+    pub gap-of-rows :
+        (starts : List ℕ)
+        → fold (getD divisors (getD lines i 0 * 16 + getD lines j 0) 0)
+        (residue (pos (getD starts (getD lines j 0) 0 + getD offsets j 0) -ℤ pos (getD starts (getD lines i 0) 0 + getD offsets i 0))
+        (getD divisors (getD lines i 0 * 16 + getD lines j 0) 0))
+        ≡ gapOfCalls (l .net) (map pos starts) (getD (callsIn l) j noCall) (getD (callsIn l) i noCall)
+    unfolding gapOfCalls gapOf
+    gap-of-rows starts =
+        ap (λ (g : ℕ). fold g (residue (pos (getD starts (getD lines j 0) 0 + getD offsets j 0) -ℤ pos (getD starts (getD lines i 0) 0 + getD offsets i 0)) g))
+        divisor-is
+        ∙ ap₂ (λ (a b : ℤ). fold (gcd (periodOf (l .net) (getD (callsIn l) j noCall)) (periodOf (l .net) (getD (callsIn l) i noCall)))
+        (residue (a -ℤ b) (gcd (periodOf (l .net) (getD (callsIn l) j noCall)) (periodOf (l .net) (getD (callsIn l) i noCall)))))
+        (arrives j hj)
+        (arrives i hi)
+      where
+        arrives : (k : ℕ) → k < length (l .net .calls) → pos (getD starts (getD lines k 0) 0 + getD offsets k 0) ≡ arrivalOf (map pos starts) (getD (callsIn l) k noCall)
+        arrives k h = arrival-of starts (getD lines k 0) (getD offsets k 0) (getD (callsIn l) k noCall) (l .line-of k h) (l .offset-of k h)

@@ -1,0 +1,176 @@
+-- `search::caps::least_half` meets its contract. The loop's invariant: `lesser` is the least of `least` and the halves over the calls passed.
+-- Assumes nothing.
+use Prim.Native.Nat.{ℕ, _+_, _-_, _/_, _<_, _≤_, min}
+use mathlib.Core.Path.{_≡_, refl, sym, ap, ap₂, _∙_}
+use mathlib.Core.List.{map}
+use mathlib.Core.Logic.{⊎-elim}
+use native.Mathlib.Nat.{le-antisymm}
+use native.Mathlib.Omega.{arith}
+use borrow.Author.Needs.{needs}
+use lib.ListN.{length, getD}
+use Rattle.network.specs.declared.Call.{Call}
+use Rattle.network.specs.declared.Network.{Network}
+use Rattle.network.specs.Lists.{keep}
+use Rattle.network.specs.Divisor as divisor
+use Rattle.network.specs.Rating.{periodOf}
+use Rattle.network.specs.Scan.{callsBefore, leastFrom}
+use Rattle.network.specs.Stored.{netOf}
+use Rattle.network.specs.Valid.{noCall}
+use Rattle.network.proofs.Laws.Stored.{held-lines, held-period, held-call-line}
+use Rattle.search.specs.CapScan.{halfOf}
+use Rattle.search.proofs.Laws.CapScan.{least-hit, least-miss}
+use Rattle.search.proofs.caps.least_half.Statement.{statement}
+use Rattle.search.proofs.caps.least_half.Tie as tie
+
+-- The least of a number and the halves of g of a call with those at its stop among the first `i`
+abbrev leastTo : Network → Call → ℕ → ℕ → ℕ
+leastTo network call least i = leastFrom least (map (λ d. halfOf (netOf network) d call) (callsBefore (call .stop) (network .list) i))
+
+abbrev Inv-loop : tie.InvT-loop
+Inv-loop call at least network line period lesser₀ i₀ lesser i = (i ≤ at) × (lesser ≡ leastTo network call least i)
+
+abbrev μ-loop : tie.MeasureT-loop
+μ-loop call at least network line period lesser₀ i₀ lesser i = at - i
+
+-- At a turn of the loop: the call that is looked at is one of the calls that count
+module _ (t : tie.In-loop Inv-loop μ-loop) where
+  abbrev start : tie.Start Inv-loop μ-loop
+  start = t .before .before .before .before
+
+  abbrev network : Network
+  network = start .args .t1
+
+  abbrev call : Call
+  call = start .args .call
+
+  abbrev i : ℕ
+  i = t .before .loop .i
+
+  abbrev other : Call
+  other = getD (network .list) i noCall
+
+  small : i < 256
+  small = omega (arith, t .loop-test .taken, start .pre .1 .1, start .pre .0 .0 .calls)
+
+  stated : i < length (network .list)
+  stated = omega (arith, small, start .pre .0 .0 .list-row)
+
+  other-line : other .line < network .lines
+  other-line =
+      held-call-line network (start .pre .0 .0) (start .pre .0 .1) i (omega (arith, t .loop-test .taken, start .pre .1 .1))
+
+  other-small : other .line < 16
+  other-small = omega (arith, other-line, start .pre .0 .0 .lines)
+
+  own-line : call .line < network .lines
+  own-line = omega (arith, start .pre .1 .0, held-lines network (start .pre .0 .0))
+
+  -- the half that the code computes
+  abbrev half : ℕ
+  half = divisor.gcd (getD (network .periods) (other .line) 0) (getD (network .periods) (call .line) 0) / 2
+
+  half-is : half ≡ halfOf (netOf network) other call
+  unfolding halfOf periodOf
+  half-is =
+      sym
+      (ap₂ (λ (a b : ℕ). divisor.gcd a b / 2)
+      (held-period network (other .line) other-line)
+      (held-period network (call .line) own-line))
+
+  abbrev next : ℕ
+  next = leastTo network call (start .args .least) (i + 1)
+
+  at-stop : (lesser : ℕ) → other .stop ≡ call .stop → lesser ≡ min (t .before .loop .lesser) half → lesser ≡ next
+  at-stop lesser e f =
+      f
+      ∙ ap₂ min (t .before .loop .inv .1) half-is
+      ∙ sym (least-hit (λ d. halfOf (netOf network) d call) (start .args .least) (call .stop) (network .list) i stated e)
+
+  elsewhere : (lesser : ℕ) → (other .stop ≡ call .stop → ⊥) → lesser ≡ t .before .loop .lesser → lesser ≡ next
+  elsewhere lesser e f =
+      f
+      ∙ t .before .loop .inv .1
+      ∙ sym (least-miss (λ d. halfOf (netOf network) d call) (start .args .least) (call .stop) (network .list) i stated e)
+
+cast-line : tie.Need-cast-line Inv-loop μ-loop
+cast-line c = search needs
+
+mul-period : tie.Need-mul-period Inv-loop μ-loop
+mul-period c = search needs
+
+element-copy-out-period : tie.Need-element-copy-out-period Inv-loop μ-loop
+element-copy-out-period c = search needs
+
+cast-period : tie.Need-cast-period Inv-loop μ-loop
+cast-period c = search needs
+
+loop-holds : tie.Need-loop-holds Inv-loop μ-loop
+unfolding leastFrom callsBefore keep
+loop-holds c = (omega arith, refl)
+
+mul-other : tie.Need-mul-other Inv-loop μ-loop
+mul-other c = omega (arith, small c)
+
+element-copy-out-other : tie.Need-element-copy-out-other Inv-loop μ-loop
+element-copy-out-other c = small c
+
+cast-other-line : tie.Need-cast-other-line Inv-loop μ-loop
+cast-other-line c = omega (arith, other-small (c .before .before .before .before .before))
+
+mul-gcd : tie.Need-mul-gcd Inv-loop μ-loop
+mul-gcd c = omega (arith, other-small (c .before .before .before .before .before))
+
+element-copy-out-gcd : tie.Need-element-copy-out-gcd Inv-loop μ-loop
+element-copy-out-gcd c = other-small (c .before .before .before .before .before)
+
+cast-gcd : tie.Need-cast-gcd Inv-loop μ-loop
+cast-gcd c = search needs
+
+gcd-requires : tie.Need-gcd-requires Inv-loop μ-loop
+gcd-requires c κs = search needs
+
+add-i : tie.Need-add-i Inv-loop μ-loop
+add-i c = omega (arith, small (c .before .before .before .before))
+
+loop-less : tie.Need-loop-less Inv-loop μ-loop
+loop-less c = omega (arith, (c .before .before .before .before) .loop-test .taken)
+
+loop-again : tie.Need-loop-again Inv-loop μ-loop
+loop-again c =
+    let t = c .before .before .before .before in (
+      omega (arith, t .loop-test .taken),
+      ⊎-elim
+          (λ w. at-stop t _ (w .0 .taken) (omega (arith, w .5, w .4 .taken, ap (λ (g : ℕ). g / 2) (w .3 .ensures))))
+          (⊎-elim
+          (λ w. at-stop t _ (w .0 .taken) (omega (arith, w .5, w .4 .left, ap (λ (g : ℕ). g / 2) (w .3 .ensures))))
+          (λ w. elsewhere t _ (w .0 .left) (w .1)))
+          (c .if1 .came),
+    )
+
+returns : tie.Need-returns Inv-loop μ-loop
+returns c =
+    let s = c .before .before .before .before in
+    c .before .loop .inv .1 ∙ ap (leastTo (s .args .t1) (s .args .call) (s .args .least)) (le-antisymm (c .before .loop .inv .0) (c .loop-test .left))
+
+pub least-half-spec : {M : Type 1} → statement M
+least-half-spec =
+    tie.close
+    (tie.spec
+    Inv-loop
+    μ-loop
+    cast-line
+    mul-period
+    element-copy-out-period
+    cast-period
+    loop-holds
+    mul-other
+    element-copy-out-other
+    cast-other-line
+    mul-gcd
+    element-copy-out-gcd
+    cast-gcd
+    gcd-requires
+    add-i
+    loop-less
+    loop-again
+    returns)

@@ -1,0 +1,350 @@
+-- `search::place::lowered` meets its contract. The loop's invariant: the least of `least` and the gaps to the calls up to `from` is that of
+-- `value` and the gaps to all before. Assumes nothing.
+use Prim.Native.Nat.{ℕ, _+_, _*_, _-_, _<_, _≤_, min}
+use mathlib.Core.Path.{_≡_, refl, sym, ap, ap₂, _∙_}
+use mathlib.Core.List.{List, map}
+use mathlib.Core.Logic.{⊎-elim}
+use native.Mathlib.Omega.{arith}
+use lib.IntN.{ℤ, pos}
+use lib.ListN.{length, getD}
+use Rattle.network.specs.declared.Call.{Call}
+use Rattle.network.specs.Lists.{keep}
+use Rattle.network.specs.Rating.{gapOfCalls}
+use Rattle.network.specs.Scan.{lastAt, callsBefore, leastFrom, LeadsBack}
+use Rattle.network.specs.Valid.{noCall}
+use Rattle.network.proofs.Laws.Scan.{lastAt-le, lastAt-landed, callsBefore-lastAt, step-back}
+use Rattle.search.specs.Held.{Linked, callsIn}
+use Rattle.search.proofs.Laws.Linked.{length-callsIn, calls-few, line-row-lt-16, offset-row-low, divisor-pos, divisor-le, gap-of-rows}
+use Rattle.search.proofs.place.lowered.Statement.{statement}
+use Rattle.search.proofs.place.lowered.Tie as tie
+use Rattle.search.proofs.place.lowered.Reads as reads
+use Rattle.search.proofs.place.lowered.Lts as lts
+use Rattle.search.proofs.place.gap_by.Reads as gap-by-reads
+
+-- the gap from an earlier call to the one at a place
+abbrev to : {lines offsets previous divisors : List ℕ} → Linked lines offsets previous divisors → List ℕ → ℕ → Call → ℕ
+to l starts at d = gapOfCalls (l .net) (map pos starts) d (getD (callsIn l) at noCall)
+
+abbrev Inv-loop : tie.InvT-loop
+Inv-loop lines offsets previous divisors starts at value line row arrival least₀ from₀ least from =
+    (from ≤ at)
+    × (least ≤ value)
+    × ((l : Linked lines offsets previous divisors)
+    → at < length (l .net .calls)
+    → (0 < from → getD (callsIn l) (from - 1) noCall .stop ≡ getD (callsIn l) at noCall .stop)
+    × (leastFrom least (map (to l starts at) (callsBefore (getD (callsIn l) at noCall .stop) (callsIn l) from))
+    ≡ leastFrom value (map (to l starts at) (callsBefore (getD (callsIn l) at noCall .stop) (callsIn l) at))))
+
+abbrev μ-loop : tie.MeasureT-loop
+μ-loop lines offsets previous divisors starts at value line row arrival least₀ from₀ least from = from
+
+-- The call that is placed
+module _ (s : tie.Start Inv-loop μ-loop) where
+  abbrev rows : Linked (s .args .lines .now) (s .args .offsets .now) (s .args .previous .now) (s .args .divisors .now)
+  rows = s .pre .0 .0
+
+  at-low : s .args .at < length (rows .net .calls)
+  at-low = s .pre .0 .1
+
+  at-small : s .args .at < 256
+  at-small = omega (arith, at-low, calls-few rows)
+
+  line-small : getD (s .args .lines .now) (s .args .at) 0 < 16
+  line-small = line-row-lt-16 rows (s .args .at) at-low
+
+  start-small : (i : ℕ) → getD (s .args .starts .now) i 0 < 1440
+  start-small = s .pre .1
+
+-- For any network that the rows hold: where the row leads from a call, it leads to the one before at its stop
+module _ {lines offsets previous divisors : List ℕ} (l : Linked lines offsets previous divisors) where
+  led : (j : ℕ) → j < length (l .net .calls) → getD previous j 0 ≡ lastAt (getD (callsIn l) j noCall .stop) (callsIn l) j
+  unfolding LeadsBack
+  led j h = l .leads j h
+
+  led-le : (j : ℕ) → j < length (l .net .calls) → getD previous j 0 ≤ j
+  led-le j h = omega (arith, led j h, lastAt-le (getD (callsIn l) j noCall .stop) (callsIn l) j)
+
+  -- before the first turn
+  first-turn :
+      (starts : List ℕ) (at value : ℕ)
+      → at < length (l .net .calls)
+      → (0 < getD previous at 0 → getD (callsIn l) (getD previous at 0 - 1) noCall .stop ≡ getD (callsIn l) at noCall .stop)
+      × (leastFrom value (map (to l starts at) (callsBefore (getD (callsIn l) at noCall .stop) (callsIn l) (getD previous at 0)))
+      ≡ leastFrom value (map (to l starts at) (callsBefore (getD (callsIn l) at noCall .stop) (callsIn l) at)))
+  first-turn starts at value h =
+      let stop = getD (callsIn l) at noCall .stop in (
+        lastAt-landed (callsIn l) stop at (getD previous at 0) (led at h),
+        ap (λ cs. leastFrom value (map (to l starts at) cs))
+            (ap (callsBefore stop (callsIn l)) (led at h) ∙ sym (callsBefore-lastAt stop (callsIn l) at (omega (arith, length-callsIn l)))),
+      )
+
+  -- one turn: from a call at the stop back to the one before
+  one-turn :
+      (starts : List ℕ) (at value from least : ℕ)
+      → from - 1 < length (l .net .calls)
+      → 0 < from
+      → (0 < from → getD (callsIn l) (from - 1) noCall .stop ≡ getD (callsIn l) at noCall .stop)
+      × (leastFrom least (map (to l starts at) (callsBefore (getD (callsIn l) at noCall .stop) (callsIn l) from))
+      ≡ leastFrom value (map (to l starts at) (callsBefore (getD (callsIn l) at noCall .stop) (callsIn l) at)))
+      → (0 < getD previous (from - 1) 0 → getD (callsIn l) (getD previous (from - 1) 0 - 1) noCall .stop ≡ getD (callsIn l) at noCall .stop)
+      × (leastFrom (min least (to l starts at (getD (callsIn l) (from - 1) noCall)))
+      (map (to l starts at) (callsBefore (getD (callsIn l) at noCall .stop) (callsIn l) (getD previous (from - 1) 0)))
+      ≡ leastFrom value (map (to l starts at) (callsBefore (getD (callsIn l) at noCall .stop) (callsIn l) at)))
+  one-turn starts at value from least h k inv =
+      let stop = getD (callsIn l) at noCall .stop in
+      let back : getD previous (from - 1) 0 ≡ lastAt stop (callsIn l) (from - 1) = led (from - 1) h ∙ ap (λ (t : ℕ). lastAt t (callsIn l) (from - 1)) (inv .0 k) in (
+        lastAt-landed (callsIn l) stop (from - 1) (getD previous (from - 1) 0) back,
+        ap (λ (j : ℕ). leastFrom (min least (to l starts at (getD (callsIn l) (from - 1) noCall))) (map (to l starts at) (callsBefore stop (callsIn l) j))) back
+            ∙ step-back (to l starts at) stop (callsIn l) (from - 1) least (omega (arith, length-callsIn l)) (inv .0 k)
+            ∙ ap (λ (j : ℕ). leastFrom least (map (to l starts at) (callsBefore stop (callsIn l) j))) (omega arith)
+            ∙ inv .1,
+      )
+
+-- At a turn of the loop: the call that is looked at
+module _ (t : tie.In-loop Inv-loop μ-loop) where
+  abbrev start : tie.Start Inv-loop μ-loop
+  start = t .before .before .before .before .before .before
+
+  abbrev before : ℕ
+  before = t .before .loop .from - 1
+
+  before-low : before < length (rows start .net .calls)
+  before-low = omega (arith, t .before .loop .inv .0, at-low start, t .loop-test .taken)
+
+  before-small : before < 256
+  before-small = omega (arith, before-low, calls-few (rows start))
+
+  other-small : getD (start .args .lines .now) before 0 < 16
+  other-small = line-row-lt-16 (rows start) before before-low
+
+-- the call that is looked at is one of any network that the rows hold
+in-file :
+    {lines offsets previous divisors : List ℕ} (l : Linked lines offsets previous divisors) (t : tie.In-loop Inv-loop μ-loop)
+    → start t .args .at < length (l .net .calls)
+    → before t < length (l .net .calls)
+in-file l t h = omega (arith, t .before .loop .inv .0, t .loop-test .taken)
+
+-- src/place.rt:30:16
+element-copy-out-line : tie.Need-element-copy-out-line Inv-loop μ-loop
+element-copy-out-line c = at-small c
+
+-- src/place.rt:30:16
+cast-line : tie.Need-cast-line Inv-loop μ-loop
+cast-line c = omega (arith, line-small (c .before))
+
+-- src/place.rt:31:15
+mul-row : tie.Need-mul-row Inv-loop μ-loop
+mul-row c = omega (arith, line-small (c .before))
+
+-- src/place.rt:32:19
+mul-arrival : tie.Need-mul-arrival Inv-loop μ-loop
+mul-arrival c = omega (arith, line-small (c .before))
+
+-- src/place.rt:32:19
+element-copy-out-arrival : tie.Need-element-copy-out-arrival Inv-loop μ-loop
+element-copy-out-arrival c = line-small (c .before)
+
+-- src/place.rt:32:19
+cast-arrival : tie.Need-cast-arrival Inv-loop μ-loop
+cast-arrival c = omega (arith, start-small (c .before .before) (getD ((c .before .before) .args .lines .now) ((c .before .before) .args .at) 0))
+
+-- src/place.rt:32:41
+mul-arrival-2 : tie.Need-mul-arrival-2 Inv-loop μ-loop
+mul-arrival-2 c = omega (arith, at-small (c .before .before))
+
+-- src/place.rt:32:41
+element-copy-out-arrival-2 : tie.Need-element-copy-out-arrival-2 Inv-loop μ-loop
+element-copy-out-arrival-2 c = at-small (c .before .before)
+
+-- src/place.rt:32:41
+cast-arrival-2 : tie.Need-cast-arrival-2 Inv-loop μ-loop
+cast-arrival-2 c = let s = c .before .before .before in omega (arith, offset-row-low (rows s) (s .args .at) (at-low s))
+
+-- src/place.rt:32:19
+add-arrival : tie.Need-add-arrival Inv-loop μ-loop
+add-arrival c = let s = c .before .before .before in omega (arith, offset-row-low (rows s) (s .args .at) (at-low s), start-small s (getD (s .args .lines .now) (s .args .at) 0))
+
+-- src/place.rt:34:20
+mul-from : tie.Need-mul-from Inv-loop μ-loop
+mul-from c = omega (arith, at-small (c .before .before .before))
+
+-- src/place.rt:34:20
+element-copy-out-from : tie.Need-element-copy-out-from Inv-loop μ-loop
+element-copy-out-from c = at-small (c .before .before .before)
+
+-- src/place.rt:34:20
+cast-from : tie.Need-cast-from Inv-loop μ-loop
+cast-from c = let s = c .before .before .before .before in omega (arith, led-le (rows s) (s .args .at) (at-low s), at-small s)
+
+-- src/place.rt:35:5
+loop-holds : tie.Need-loop-holds Inv-loop μ-loop
+loop-holds c =
+    let s = c .before .before .before .before in
+    (led-le (rows s) (s .args .at) (at-low s), omega arith, λ l h. first-turn l (s .args .starts .now) (s .args .at) (s .args .value) h)
+
+-- src/place.rt:36:22
+sub-before : tie.Need-sub-before Inv-loop μ-loop
+sub-before c = c .loop-test .taken
+
+-- src/place.rt:37:21
+element-copy-out-other : tie.Need-element-copy-out-other Inv-loop μ-loop
+element-copy-out-other c = before-small c
+
+-- src/place.rt:37:21
+cast-other : tie.Need-cast-other Inv-loop μ-loop
+cast-other c = omega (arith, other-small (c .before))
+
+-- src/place.rt:38:32
+add-divisor : tie.Need-add-divisor Inv-loop μ-loop
+add-divisor c = omega (arith, other-small (c .before), line-small (start (c .before)))
+
+-- src/place.rt:38:23
+mul-divisor : tie.Need-mul-divisor Inv-loop μ-loop
+mul-divisor c = omega (arith, other-small (c .before), line-small (start (c .before)))
+
+-- src/place.rt:38:23
+element-copy-out-divisor : tie.Need-element-copy-out-divisor Inv-loop μ-loop
+element-copy-out-divisor c = omega (arith, other-small (c .before), line-small (start (c .before)))
+
+-- src/place.rt:38:23
+cast-divisor : tie.Need-cast-divisor Inv-loop μ-loop
+cast-divisor c = let t = c .before .before in omega (arith, divisor-le (rows (start t)) (start t .args .at) (before t) (at-low (start t)) (before-low t))
+
+-- src/place.rt:39:39
+mul-gap-by : tie.Need-mul-gap-by Inv-loop μ-loop
+mul-gap-by c = omega (arith, other-small (c .before .before))
+
+-- src/place.rt:39:39
+element-copy-out-gap-by : tie.Need-element-copy-out-gap-by Inv-loop μ-loop
+element-copy-out-gap-by c = other-small (c .before .before)
+
+-- src/place.rt:39:39
+cast-gap-by : tie.Need-cast-gap-by Inv-loop μ-loop
+cast-gap-by c = let t = c .before .before .before in omega (arith, start-small (start t) (getD (start t .args .lines .now) (before t) 0))
+
+-- src/place.rt:39:62
+mul-gap-by-2 : tie.Need-mul-gap-by-2 Inv-loop μ-loop
+mul-gap-by-2 c = omega (arith, before-small (c .before .before .before))
+
+-- src/place.rt:39:62
+element-copy-out-gap-by-2 : tie.Need-element-copy-out-gap-by-2 Inv-loop μ-loop
+element-copy-out-gap-by-2 c = before-small (c .before .before .before)
+
+-- src/place.rt:39:62
+cast-gap-by-2 : tie.Need-cast-gap-by-2 Inv-loop μ-loop
+cast-gap-by-2 c = let t = c .before .before .before .before in omega (arith, offset-row-low (rows (start t)) (before t) (before-low t))
+
+-- src/place.rt:39:39
+add-gap-by : tie.Need-add-gap-by Inv-loop μ-loop
+add-gap-by c =
+    let t = c .before .before .before .before in
+    omega (arith, offset-row-low (rows (start t)) (before t) (before-low t), start-small (start t) (getD (start t .args .lines .now) (before t) 0))
+
+-- src/place.rt:39:13
+gap-by-requires : tie.Need-gap-by-requires Inv-loop μ-loop
+gap-by-requires c κs =
+    let t = c .before .before .before .before in
+    let s = start t in (
+      divisor-pos (rows s) (s .args .at) (before t) (at-low s) (before-low t),
+      divisor-le (rows s) (s .args .at) (before t) (at-low s) (before-low t),
+      omega (arith, offset-row-low (rows s) (before t) (before-low t), start-small s (getD (s .args .lines .now) (before t) 0)),
+      omega (arith, offset-row-low (rows s) (s .args .at) (at-low s), start-small s (getD (s .args .lines .now) (s .args .at) 0)),
+    )
+
+-- src/place.rt:40:22
+cast-if1 : tie.Need-cast-if1 Inv-loop μ-loop
+cast-if1 c = let t = c .before .before .before .before .before in omega (arith, t .before .loop .inv .1, start t .fits .value)
+
+-- src/place.rt:41:21
+cast-least : tie.Need-cast-least Inv-loop μ-loop
+cast-least c = let t = c .before .before .before .before .before .before in omega (arith, c .if1 .taken, t .before .loop .inv .1, start t .fits .value)
+
+-- src/place.rt:43:16
+mul-from-2 : tie.Need-mul-from-2 Inv-loop μ-loop
+mul-from-2 c = omega (arith, before-small (c .before .before .before .before .before .before))
+
+-- src/place.rt:43:16
+element-copy-out-from-2 : tie.Need-element-copy-out-from-2 Inv-loop μ-loop
+element-copy-out-from-2 c = before-small (c .before .before .before .before .before .before)
+
+-- src/place.rt:43:16
+cast-from-2 : tie.Need-cast-from-2 Inv-loop μ-loop
+cast-from-2 c = let t = c .before .before .before .before .before .before .before in omega (arith, led-le (rows (start t)) (before t) (before-low t), before-small t)
+
+-- src/place.rt:35:5
+loop-less : tie.Need-loop-less Inv-loop μ-loop
+loop-less c = let t = c .before .before .before .before .before .before .before in omega (arith, led-le (rows (start t)) (before t) (before-low t), t .loop-test .taken)
+
+-- src/place.rt:35:5
+loop-again : tie.Need-loop-again Inv-loop μ-loop
+loop-again c =
+    let t = c .before .before .before .before .before .before .before in
+    let s = start t in (
+      omega (arith, led-le (rows s) (before t) (before-low t), t .before .loop .inv .0),
+      ⊎-elim (λ w. omega (arith, w .1, w .0 .taken, t .before .loop .inv .1)) (λ w. omega (arith, w .1, t .before .loop .inv .1)) (c .before .if1 .came),
+      λ l h.
+          let is = c .before .before .gap-by .ensures ∙ gap-of-rows l (s .args .at) (before t) h (in-file l t h) (s .args .starts .now) in
+          let lesser : c .before .if1 .least ≡ min (t .before .loop .least) (to l (s .args .starts .now) (s .args .at) (getD (callsIn l) (before t) noCall)) =
+          ⊎-elim (λ w. omega (arith, is, w .1, w .0 .taken)) (λ w. omega (arith, is, w .1, w .0 .left)) (c .before .if1 .came) in
+          let turn = one-turn l (s .args .starts .now) (s .args .at) (s .args .value) (t .before .loop .from) (t .before .loop .least) (in-file l t h)
+          (t .loop-test .taken) (t .before .loop .inv .2 l h) in (
+            turn .0,
+            ap (λ (v : ℕ). leastFrom v (map (to l (s .args .starts .now) (s .args .at))
+                (callsBefore (getD (callsIn l) (s .args .at) noCall .stop) (callsIn l) (getD (s .args .previous .now) (before t) 0)))) lesser
+                ∙ turn .1,
+          ),
+    )
+
+-- src/place.rt:24:1
+returns : tie.Need-returns Inv-loop μ-loop
+unfolding leastFrom callsBefore keep
+returns c l h =
+    let s = c .before .before .before .before .before .before in
+    let p = c .before .loop in
+    let none : 0 ≡ p .from = omega (arith, c .loop-test .left) in
+    ap (λ (k : ℕ). leastFrom (p .least) (map (to l (s .args .starts .now) (s .args .at)) (callsBefore (getD (callsIn l) (s .args .at) noCall .stop) (callsIn l) k))) none
+    ∙ p .inv .2 l h .1
+
+pub lowered-spec : {M : Type 1} → statement M
+lowered-spec =
+    tie.close
+    (tie.spec
+    Inv-loop
+    μ-loop
+    element-copy-out-line
+    cast-line
+    mul-row
+    mul-arrival
+    element-copy-out-arrival
+    cast-arrival
+    mul-arrival-2
+    element-copy-out-arrival-2
+    cast-arrival-2
+    add-arrival
+    mul-from
+    element-copy-out-from
+    cast-from
+    loop-holds
+    sub-before
+    element-copy-out-other
+    cast-other
+    add-divisor
+    mul-divisor
+    element-copy-out-divisor
+    cast-divisor
+    mul-gap-by
+    element-copy-out-gap-by
+    cast-gap-by
+    mul-gap-by-2
+    element-copy-out-gap-by-2
+    cast-gap-by-2
+    add-gap-by
+    gap-by-requires
+    cast-if1
+    cast-least
+    mul-from-2
+    element-copy-out-from-2
+    cast-from-2
+    loop-less
+    loop-again
+    returns)

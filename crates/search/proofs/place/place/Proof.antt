@@ -1,0 +1,358 @@
+-- `search::place::place` meets its contract. The loop's invariant: for any network that the rows hold, values and rating are those after the
+-- calls passed. Assumes nothing.
+use Prim.Native.Nat.{ℕ, _+_, _-_, _<_, _≤_, min}
+use mathlib.Core.Path.{_≡_, refl, sym, ap, subst, _∙_}
+use mathlib.Core.List.{List, _∷_, [], map}
+use mathlib.Core.Logic.{⊎-elim}
+use native.Mathlib.Nat.{le-antisymm}
+use native.Mathlib.Omega.{arith}
+use lib.IntN.{ℤ, pos}
+use lib.ListN.{length, getD, set, length-set}
+use borrow.Author.Needs.{needs}
+use mathlib.Core.Bool.{true}
+use Rattle.network.specs.Network.{Net, isServed, maxPeriod}
+use Rattle.network.specs.Rating.{gapOfCalls}
+use Rattle.network.specs.Scan.{leastFrom, callsBefore}
+use Rattle.network.specs.Valid.{noCall}
+use Rattle.search.specs.declared.Placed.{Placed}
+use Rattle.search.specs.Layout.{byLine}
+use Rattle.search.specs.Held.{Laid, Linked, callsIn, CanPlace, PlacedMore, startsOf, Represents}
+use Rattle.search.proofs.Laws.Layout.{length-byLine-le}
+use Rattle.search.proofs.Laws.Placing.{length-byLine-grows}
+use Rattle.search.proofs.Laws.Linked.{length-callsIn, calls-few, stop-low}
+use Rattle.search.proofs.Laws.Placing.{
+  Lowering,
+  lowering-first,
+  lowering-next,
+  lowering-last,
+  startsOf-next,
+  stop-served,
+  set-low,
+  old-le-sum,
+  value-le-old,
+}
+use Rattle.search.proofs.place.place.Statement.{statement}
+use Rattle.search.proofs.place.place.Tie as tie
+use Rattle.search.proofs.place.place.Reads as reads
+use Rattle.search.proofs.place.place.Lts as lts
+use Rattle.search.proofs.place.lowered.Reads as lowered-reads
+
+abbrev Inv-loop : tie.InvT-loop
+Inv-loop stops lines offsets previous divisors first line start begin end next₀ starts i₀ next i =
+    (i ≤ end)
+    × (next .starts ≡ starts)
+    × ((l : Laid stops lines offsets previous divisors first)
+    → Lowering (l .linked .net) (map pos starts) (next₀ .values) (next₀ .least) (next₀ .sum) begin
+    → line < length (l .linked .net .periods)
+    → Lowering (l .linked .net) (map pos starts) (next .values) (next .least) (next .sum) i)
+
+abbrev μ-loop : tie.MeasureT-loop
+μ-loop stops lines offsets previous divisors first line start begin end next₀ starts i₀ next i = end - i
+
+-- At the start: the network that is known to be held, and what begins the loop for any other
+module _ (s : tie.Start Inv-loop μ-loop) where
+  abbrev rows : Laid (s .args .stops .now) (s .args .lines .now) (s .args .offsets .now) (s .args .previous .now) (s .args .divisors .now) (s .args .first .now)
+  rows = s .pre .0
+
+  can : CanPlace (rows .linked .net) (s .args .line) (s .args .start) (s .args .placed)
+  can = s .pre .1
+
+  line-low : s .args .line < 16
+  line-low = omega (arith, can .stated, rows .linked .valid .lines)
+
+  abbrev starts : List ℕ
+  starts = set (s .args .placed .starts) (s .args .line) (s .args .start)
+
+  begin-is : getD (s .args .first .now) (s .args .line) 0 ≡ length (byLine (rows .linked .net .calls) (s .args .line))
+  begin-is = rows .first-of (s .args .line) (omega (arith, can .stated))
+
+  end-is : getD (s .args .first .now) (s .args .line + 1) 0 ≡ length (byLine (rows .linked .net .calls) (s .args .line + 1))
+  end-is = rows .first-of (s .args .line + 1) (omega (arith, can .stated))
+
+  end-low : getD (s .args .first .now) (s .args .line + 1) 0 ≤ length (rows .linked .net .calls)
+  end-low = rw end-is (length-byLine-le (rows .linked .net .calls) (s .args .line + 1))
+
+  begin-end : getD (s .args .first .now) (s .args .line) 0 ≤ getD (s .args .first .now) (s .args .line + 1) 0
+  begin-end = rw (begin-is, end-is) (length-byLine-grows (rows .linked .net .calls) (s .args .line))
+
+  -- for any network that the rows hold and on which the line can be placed
+  begins :
+      (l : Laid (s .args .stops .now) (s .args .lines .now) (s .args .offsets .now) (s .args .previous .now) (s .args .divisors .now) (s .args .first .now))
+      → CanPlace (l .linked .net) (s .args .line) (s .args .start) (s .args .placed)
+      → Lowering (l .linked .net) (map pos starts) (s .args .placed .values) (s .args .placed .least) (s .args .placed .sum) (getD (s .args .first .now) (s .args .line) 0)
+  begins l c =
+      rw (l .first-of (s .args .line) (omega (arith, c .stated)))
+      (lowering-first (l .linked .net) (l .linked .valid) (s .args .line) (s .args .start) (s .args .placed) (c .stated) (c .before))
+
+-- At a turn of the loop: the call that is looked at
+module _ (t : tie.In-loop Inv-loop μ-loop) where
+  abbrev start : tie.Start Inv-loop μ-loop
+  start = t .before .before .before .before .before
+
+  abbrev i : ℕ
+  i = t .before .loop .i
+
+  abbrev stop : ℕ
+  stop = getD (start .args .stops .now) i 0
+
+  abbrev next : Placed
+  next = t .before .loop .next
+
+  -- for any network that the rows hold
+  module _
+      (l : Laid (start .args .stops .now) (start .args .lines .now) (start .args .offsets .now) (start .args .previous .now) (start .args .divisors .now) (start .args .first .now))
+      (begun : Lowering (l .linked .net) (map pos (starts start)) (start .args .placed .values) (start .args .placed .least) (start .args .placed .sum) (getD (start .args .first .now) (start .args .line) 0))
+      (stated : start .args .line < length (l .linked .net .periods)) where
+    in-file : i < length (l .linked .net .calls)
+    in-file =
+        omega
+        (arith, t .loop-test .taken, l .first-of (start .args .line + 1) (omega (arith, stated)), length-byLine-le (l .linked .net .calls) (start .args .line + 1))
+
+    in-order : i < length (callsIn (l .linked))
+    in-order = omega (arith, in-file, length-callsIn (l .linked))
+
+    here : getD (callsIn (l .linked)) i noCall .stop ≡ stop
+    here = sym (l .stop-of i in-file)
+
+    low : stop < 64
+    low = rw (l .stop-of i in-file) (stop-low (l .linked) i in-file)
+
+    now : Lowering (l .linked .net) (map pos (starts start)) (next .values) (next .least) (next .sum) i
+    now = t .before .loop .inv .2 l begun stated
+
+    served : isServed stop (l .linked .net .calls) ≡ true
+    served = rw here at (stop-served (l .linked .net) (l .linked .valid) i in-order)
+
+  -- the one that is known to be held
+  known-low : stop < 64
+  known-low = low (rows start) (begins start (rows start) (can start)) (can start .stated)
+
+  known-in-file : i < length (rows start .linked .net .calls)
+  known-in-file = in-file (rows start) (begins start (rows start) (can start)) (can start .stated)
+
+  small : i < 256
+  small = omega (arith, known-in-file, calls-few (rows start .linked))
+
+  known-now : Lowering (rows start .linked .net) (map pos (starts start)) (next .values) (next .least) (next .sum) i
+  known-now = now (rows start) (begins start (rows start) (can start)) (can start .stated)
+
+-- Where the value is known: it is the least of what it was and the gaps of this call
+module _ (c : tie.After-lowered Inv-loop μ-loop) where
+  abbrev turn : tie.In-loop Inv-loop μ-loop
+  turn = c .before .before .before .before
+
+  known-old-le-sum : getD (next turn .values) (stop turn) 0 ≤ next turn .sum
+  known-old-le-sum =
+      let s = start turn in
+      let b = begins s (rows s) (can s) in
+      let h = can s .stated in
+      old-le-sum (rows s .linked .net) (rows s .linked .valid) (map pos (starts s)) (next turn .values) (next turn .least) (next turn .sum) (i turn)
+      (known-now turn) (in-order turn (rows s) b h) (stop turn) (here turn (rows s) b h) (known-low turn) (served turn (rows s) b h)
+
+  module _
+      (l : Laid (start turn .args .stops .now) (start turn .args .lines .now) (start turn .args .offsets .now) (start turn .args .previous .now) (start turn .args .divisors .now) (start turn .args .first .now))
+      (begun : Lowering (l .linked .net) (map pos (starts (start turn))) (start turn .args .placed .values) (start turn .args .placed .least) (start turn .args .placed .sum) (getD (start turn .args .first .now) (start turn .args .line) 0))
+      (stated : start turn .args .line < length (l .linked .net .periods)) where
+    value-is :
+        c .lowered .result
+        ≡ leastFrom (getD (next turn .values) (stop turn) 0)
+        (map (λ d. gapOfCalls (l .linked .net) (map pos (starts (start turn))) d (getD (callsIn (l .linked)) (i turn) noCall))
+        (callsBefore (stop turn) (callsIn (l .linked)) (i turn)))
+    value-is =
+        c .lowered .ensures (l .linked) (in-file turn l begun stated)
+        ∙ ap (λ (k : ℕ). leastFrom (getD (next turn .values) (stop turn) 0)
+        (map (λ d. gapOfCalls (l .linked .net) (map pos (starts (start turn))) d (getD (callsIn (l .linked)) (i turn) noCall))
+        (callsBefore k (callsIn (l .linked)) (i turn))))
+        (here turn l begun stated)
+
+    lowered-here :
+        Lowering (l .linked .net) (map pos (starts (start turn))) (set (next turn .values) (stop turn) (c .lowered .result))
+        (min (next turn .least) (c .lowered .result))
+        (next turn .sum + c .lowered .result - getD (next turn .values) (stop turn) 0)
+        (i turn + 1)
+    lowered-here =
+        lowering-next (l .linked .net) (l .linked .valid) (map pos (starts (start turn))) (next turn .values) (next turn .least) (next turn .sum) (i turn)
+        (now turn l begun stated) (in-order turn l begun stated) (stop turn) (here turn l begun stated) (low turn l begun stated) (served turn l begun stated)
+        (c .lowered .result) value-is
+
+-- src/place.rt:74:17
+mul-begin : tie.Need-mul-begin Inv-loop μ-loop
+mul-begin c = omega (arith, line-low c)
+
+-- src/place.rt:74:17
+element-copy-out-begin : tie.Need-element-copy-out-begin Inv-loop μ-loop
+element-copy-out-begin c = omega (arith, line-low c)
+
+-- src/place.rt:74:17
+cast-begin : tie.Need-cast-begin Inv-loop μ-loop
+cast-begin c = omega (arith, begin-end (c .before), end-low (c .before), calls-few (rows (c .before) .linked))
+
+-- src/place.rt:75:21
+add-end : tie.Need-add-end Inv-loop μ-loop
+add-end c = omega (arith, line-low (c .before))
+
+-- src/place.rt:75:15
+mul-end : tie.Need-mul-end Inv-loop μ-loop
+mul-end c = omega (arith, line-low (c .before))
+
+-- src/place.rt:75:15
+element-copy-out-end : tie.Need-element-copy-out-end Inv-loop μ-loop
+element-copy-out-end c = omega (arith, line-low (c .before))
+
+-- src/place.rt:75:15
+cast-end : tie.Need-cast-end Inv-loop μ-loop
+cast-end c = omega (arith, end-low (c .before .before), calls-few (rows (c .before .before) .linked))
+
+-- src/place.rt:77:5
+mul-next : tie.Need-mul-next Inv-loop μ-loop
+mul-next c = omega (arith, line-low (c .before .before))
+
+-- src/place.rt:77:5
+element-write-next : tie.Need-element-write-next Inv-loop μ-loop
+element-write-next c = line-low (c .before .before)
+
+-- src/place.rt:79:5
+loop-holds : tie.Need-loop-holds Inv-loop μ-loop
+loop-holds c = let s = c .before .before .before in (begin-end s, refl, λ l begun stated. begun)
+
+-- src/place.rt:80:20
+element-copy-out-stop : tie.Need-element-copy-out-stop Inv-loop μ-loop
+element-copy-out-stop c = small c
+
+-- src/place.rt:80:20
+cast-stop : tie.Need-cast-stop Inv-loop μ-loop
+cast-stop c = omega (arith, known-low (c .before))
+
+-- src/place.rt:81:19
+mul-old : tie.Need-mul-old Inv-loop μ-loop
+mul-old c = omega (arith, known-low (c .before))
+
+-- src/place.rt:81:19
+element-copy-out-old : tie.Need-element-copy-out-old Inv-loop μ-loop
+element-copy-out-old c = known-low (c .before)
+
+-- src/place.rt:82:13
+lowered-requires : tie.Need-lowered-requires Inv-loop μ-loop
+lowered-requires c κs =
+    let t = c .before .before .before in
+    let s = start t in (
+      (rows s .linked, known-in-file t),
+      set-low (s .args .placed .starts) (s .args .line) (s .args .start) (can s .before .starts-row) (line-low s) (can s .start-low) (can s .before .starts-low),
+    )
+
+-- src/place.rt:83:9
+mul-next-2 : tie.Need-mul-next-2 Inv-loop μ-loop
+mul-next-2 c = omega (arith, known-low (c .before .before .before .before))
+
+-- src/place.rt:83:9
+element-write-next-2 : tie.Need-element-write-next-2 Inv-loop μ-loop
+element-write-next-2 c = known-low (c .before .before .before .before)
+
+-- src/place.rt:84:31
+cast-next : tie.Need-cast-next Inv-loop μ-loop
+cast-next c = search needs
+
+-- src/place.rt:84:20
+add-next : tie.Need-add-next Inv-loop μ-loop
+add-next c = omega (arith, c .lowered .ok, known-now (turn c) .sum-low)
+
+-- src/place.rt:84:46
+cast-next-2 : tie.Need-cast-next-2 Inv-loop μ-loop
+cast-next-2 c = omega (arith, known-old-le-sum c, known-now (turn c) .sum-low)
+
+-- src/place.rt:84:20
+sub-next : tie.Need-sub-next Inv-loop μ-loop
+sub-next c = omega (arith, known-old-le-sum c)
+
+-- src/place.rt:85:13
+cast-if1 : tie.Need-cast-if1 Inv-loop μ-loop
+cast-if1 c = search needs
+
+-- src/place.rt:86:26
+cast-next-3 : tie.Need-cast-next-3 Inv-loop μ-loop
+cast-next-3 c = search needs
+
+-- src/place.rt:79:9
+add-i : tie.Need-add-i Inv-loop μ-loop
+add-i c = omega (arith, small (c .before .before .before .before .before))
+
+-- src/place.rt:79:5
+loop-less : tie.Need-loop-less Inv-loop μ-loop
+loop-less c = omega (arith, (c .before .before .before .before .before) .loop-test .taken)
+
+-- src/place.rt:79:5
+loop-again : tie.Need-loop-again Inv-loop μ-loop
+loop-again c =
+    let t = c .before .before .before .before .before in
+    let a = c .before in (
+      omega (arith, t .loop-test .taken),
+      ⊎-elim (λ w. ap (λ (p : Placed). p .starts) (w .1) ∙ t .before .loop .inv .1) (λ w. ap (λ (p : Placed). p .starts) (w .1) ∙ t .before .loop .inv .1) (c .if1 .came),
+      λ l begun stated.
+          let here' = lowered-here a l begun stated in
+          ⊎-elim
+          (λ w.
+          rw (w .1)
+          (subst (λ (v : ℕ). Lowering (l .linked .net) (map pos (starts (start t))) (set (next t .values) (stop t) (a .lowered .result)) v
+          (next t .sum + a .lowered .result - getD (next t .values) (stop t) 0) (i t + 1)) (omega (arith, w .0 .taken)) here'))
+          (λ w.
+          rw (w .1)
+          (subst (λ (v : ℕ). Lowering (l .linked .net) (map pos (starts (start t))) (set (next t .values) (stop t) (a .lowered .result)) v
+          (next t .sum + a .lowered .result - getD (next t .values) (stop t) 0) (i t + 1)) (omega (arith, w .0 .left)) here'))
+          (c .if1 .came),
+    )
+
+-- src/place.rt:60:1
+returns : tie.Need-returns Inv-loop μ-loop
+returns c l can' =
+    let s = c .before .before .before .before .before in
+    let p = c .before .loop in
+    let last : p .i ≡ length (byLine (l .linked .net .calls) (s .args .line + 1)) =
+    le-antisymm (p .inv .0) (c .loop-test .left) ∙ l .first-of (s .args .line + 1) (omega (arith, can' .stated)) in
+    let end = subst (Lowering (l .linked .net) (map pos (starts s)) (p .next .values) (p .next .least) (p .next .sum)) last
+    (p .inv .2 l (begins s l can') (can' .stated)) in
+    record {
+      one-more =
+          subst (λ (st : List ℕ). Represents (l .linked .net) (s .args .line + 1) (record { starts = st; values = p .next .values; least = p .next .least; sum = p .next .sum }))
+          (sym (p .inv .1))
+          (lowering-last (l .linked .net) (l .linked .valid) (s .args .line) (starts s) (p .next .values) (p .next .least) (p .next .sum) (can' .stated)
+          (length-set (s .args .placed .starts) _ _ ∙ can' .before .starts-row)
+          (set-low (s .args .placed .starts) (s .args .line) (s .args .start) (can' .before .starts-row) (line-low s) (can' .start-low) (can' .before .starts-low))
+          end);
+      appended =
+          ap (startsOf (s .args .line + 1)) (p .inv .1)
+          ∙ startsOf-next (s .args .placed .starts) (s .args .line) (s .args .start) (omega (arith, can' .before .starts-row, line-low s));
+    }
+
+pub place-spec : {M : Type 1} → statement M
+place-spec =
+    tie.close
+    (tie.spec
+    Inv-loop
+    μ-loop
+    mul-begin
+    element-copy-out-begin
+    cast-begin
+    add-end
+    mul-end
+    element-copy-out-end
+    cast-end
+    mul-next
+    element-write-next
+    loop-holds
+    element-copy-out-stop
+    cast-stop
+    mul-old
+    element-copy-out-old
+    lowered-requires
+    mul-next-2
+    element-write-next-2
+    cast-next
+    add-next
+    cast-next-2
+    sub-next
+    cast-if1
+    cast-next-3
+    add-i
+    loop-less
+    loop-again
+    returns)

@@ -1,0 +1,30 @@
+-- How the engine computes the caps: over the calls of a stop it counts them, sums C/T, and takes the least of the first one's period and the
+-- halves of g, going back from each call through those before it.
+use Prim.Native.Nat.{ℕ, _/_}
+use mathlib.Core.List.{List, [], _∷_}
+use lib.ListN.{length}
+use Rattle.network.specs.declared.Call.{Call}
+use Rattle.network.specs.Lists.{sumOf}
+use Rattle.network.specs.Divisor.{gcd}
+use Rattle.network.specs.Network.{Net, cycle}
+use Rattle.network.specs.Rating.{periodOf}
+use Rattle.network.specs.Scan.{leastFrom}
+use Rattle.search.specs.declared.caps.Bounds.{Bounds}
+use Rattle.search.specs.Caps.{halves}
+
+-- The half of g, rounded down, of two calls
+unfoldable pub halfOf : Net → Call → Call → ℕ
+halfOf n c d = gcd (periodOf n c) (periodOf n d) / 2
+
+-- The sum of C/T over the calls
+unfoldable pub visitsOf : Net → List Call → ℕ
+visitsOf n cs = sumOf (λ (c : Call). cycle n / periodOf n c) cs
+
+-- The least of the first call's period and the halves over all pairs; 0 where there is no call
+unfoldable pub leastHalf : Net → List Call → ℕ
+leastHalf n [] = 0
+leastHalf n (c ∷ cs) = leastFrom (periodOf n c) (halves n (c ∷ cs))
+
+-- What the cap of a stop with these calls is made of
+unfoldable pub boundsOf : Net → List Call → Bounds
+boundsOf n cs = record { calls = length cs; visits = visitsOf n cs; half = leastHalf n cs }

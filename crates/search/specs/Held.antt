@@ -1,0 +1,87 @@
+-- How the search's code holds the network, a partial timetable and a walk: rows over the calls in line order, and what they stand for.
+use Prim.Native.Nat.{ℕ, suc, _+_, _*_, _<_, _≤_}
+use mathlib.Core.Path.{_≡_}
+use mathlib.Core.Bool.{true}
+use mathlib.Core.List.{List, [], _∷_, _++_, map}
+use lib.IntN.{ℤ, pos}
+use lib.ListN.{length, getD, take, drop}
+use Rattle.network.specs.declared.Call.{Call}
+use Rattle.network.specs.declared.Rating.{Rating}
+use Rattle.network.specs.Lists.{pick}
+use Rattle.network.specs.Divisor.{gcd}
+use Rattle.network.specs.Network.{Net, isServed, maxPeriod}
+use Rattle.network.specs.Scan.{LeadsBack}
+use Rattle.network.specs.Valid.{Valid, noCall}
+use Rattle.search.specs.declared.Placed.{Placed}
+use Rattle.search.specs.declared.Walk as declared-walk
+use Rattle.search.specs.Caps.{cap, upperValue, upperRating}
+use Rattle.search.specs.Walk.{State, oneTry, eachStart, walk}
+use Rattle.search.specs.Search.{startCounts, notAbove}
+use Rattle.search.specs.Layout.{byLine}
+
+-- Rows that hold the lines, the offsets, the way back at a stop and the divisors of the calls of a valid network, in the order of their lines
+pub record Linked (lines offsets previous divisors : List ℕ) : Type 0 where
+  pub net : Net
+  pub valid : Valid net
+  pub line-of : (i : ℕ) → i < length (net .calls) → getD lines i 0 ≡ getD (byLine (net .calls) (length (net .periods))) i noCall .line
+  pub offset-of : (i : ℕ) → i < length (net .calls) → getD offsets i 0 ≡ getD (byLine (net .calls) (length (net .periods))) i noCall .offset
+  pub leads : LeadsBack previous (byLine (net .calls) (length (net .periods))) (length (net .calls))
+  pub divisor-of :
+      (i j : ℕ)
+      → i < length (net .periods)
+      → j < length (net .periods)
+      → getD divisors (i * 16 + j) 0 ≡ gcd (getD (net .periods) j 0) (getD (net .periods) i 0)
+
+-- The calls in the order of their lines
+abbrev pub callsIn : {lines offsets previous divisors : List ℕ} → Linked lines offsets previous divisors → List Call
+callsIn l = byLine (l .net .calls) (length (l .net .periods))
+
+-- Beside them the stops of the calls, and the first call of each line
+pub record Laid (stops lines offsets previous divisors first : List ℕ) : Type 0 where
+  pub linked : Linked lines offsets previous divisors
+  pub stop-of : (i : ℕ) → i < length (linked .net .calls) → getD stops i 0 ≡ getD (callsIn linked) i noCall .stop
+  pub first-of : (k : ℕ) → k ≤ length (linked .net .periods) → getD first k 0 ≡ length (byLine (linked .net .calls) k)
+
+-- The starts of the first `k` lines, as integers
+abbrev pub startsOf : ℕ → List ℕ → List ℤ
+startsOf k starts = map pos (take k starts)
+
+-- A partial timetable of the first `k` lines: its starts, its upper values and its upper rating
+pub record Represents (n : Net) (k : ℕ) (p : Placed) : Type 0 where
+  pub starts-row : length (p .starts) ≡ 16
+  pub values-row : length (p .values) ≡ 64
+  pub starts-low : (i : ℕ) → getD (p .starts) i 0 < maxPeriod
+  pub value-of :
+      (stop : ℕ) → stop < 64 → isServed stop (n .calls) ≡ true → getD (p .values) stop 0 ≡ upperValue n (cap n) (startsOf k (p .starts)) stop
+  pub sum-low : p .sum ≤ 4194240
+  pub rating-of : _≡_ {A = Rating} (record { some = true; least = p .least; sum = p .sum }) (upperRating n (cap n) (startsOf k (p .starts)))
+
+-- A line can be placed at a start: the lines before it are placed
+pub record CanPlace (n : Net) (line start : ℕ) (p : Placed) : Type 0 where
+  pub stated : line < length (n .periods)
+  pub start-low : start < maxPeriod
+  pub before : Represents n line p
+
+-- It is placed
+pub record PlacedMore (n : Net) (line start : ℕ) (p r : Placed) : Type 0 where
+  pub one-more : Represents n (line + 1) r
+  pub appended : startsOf (line + 1) (r .starts) ≡ startsOf line (p .starts) ++ (pos start ∷ [])
+
+-- The walk that a walk of the code stands for; where it has no best, it has no starts
+unfoldable pub stateOf : Net → declared-walk.Walk → State
+stateOf n w =
+    record {
+      tries = w .tries;
+      stopped = w .stopped;
+      best = w .best;
+      starts = pick (w .best .some) (startsOf (length (n .periods)) (w .starts)) [];
+    }
+
+-- The walk on a network from a partial timetable of the first `k` lines on
+unfoldable pub walkFrom : Net → ℕ → ℕ → List ℤ → State → State
+walkFrom n budget k placed s = walk (upperRating n (cap n)) notAbove budget (drop k (startCounts (n .periods))) placed s
+
+-- One try of line `k` at start `x`
+unfoldable pub tryAt : Net → ℕ → ℕ → List ℤ → ℕ → State → State
+tryAt n budget k placed x s =
+    oneTry budget (notAbove (upperRating n (cap n) (placed ++ (pos x ∷ [])))) (walkFrom n budget (suc k) (placed ++ (pos x ∷ []))) s

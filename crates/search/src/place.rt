@@ -1,0 +1,90 @@
+// Placing a line: the upper values of its stops fall to the gaps of its pairs with lines placed before.
+use crate::Placed;
+ghost use mathlib.Core.Path.{_≡_};
+ghost use mathlib.Core.List.{map};
+ghost use Prim.Native.Nat.{ℕ, _+_, _<_, _≤_};
+ghost use lib.IntN.{pos, _-ℤ_};
+ghost use lib.ListN.{length, getD};
+ghost use Rattle.network.specs.Gap as gaps;
+ghost use Rattle.network.specs.Rating.{gapOfCalls};
+ghost use Rattle.network.specs.Scan.{leastFrom, callsBefore};
+ghost use Rattle.network.specs.Valid.{noCall};
+ghost use Rattle.search.specs.Held as held;
+
+// The gap of two arrivals by the divisor of their periods. An arrival is a start below 1,440 and an offset below 65,536.
+pub fn gap_by(divisor: u32, earlier: u32, later: u32) -> u32
+    requires { ⌜ (0 < divisor) × (divisor ≤ 1440) × (earlier < 67000) × (later < 67000) ⌝ }
+    ensures { λ r. ⌜ r ≡ gaps.fold divisor (gaps.residue (pos earlier -ℤ pos later) divisor) ⌝ }
+{
+    let d = (earlier + divisor * 67000 - later) % divisor;
+    if d < divisor - d { d } else { divisor - d }
+}
+
+// The least of an upper value and the gaps of a call to those before it at its stop.
+pub fn lowered(
+    lines: &[u8; 256],
+    offsets: &[u16; 256],
+    previous: &[u16; 256],
+    divisors: &[u16; 256],
+    starts: &[u16; 16],
+    at: usize,
+    value: u16,
+) -> u16
+    requires { ⌜ ((l : held.Linked (now lines) (now offsets) (now previous) (now divisors)) × (at < length (l .net .calls))) ⌝ }
+    requires { ⌜ ((i : ℕ) → getD (now starts) i 0 < 1440) ⌝ }
+    ensures { λ r. ⌜ ((l : held.Linked (now (lines .entry)) (now (offsets .entry)) (now (previous .entry)) (now (divisors .entry))) → at < length (l .net .calls) → r ≡ leastFrom value (map (λ d. gapOfCalls (l .net) (map pos (now (starts .entry))) d (getD (held.callsIn l) at noCall)) (callsBefore (getD (held.callsIn l) at noCall .stop) (held.callsIn l) at))) ⌝ }
+{
+    let line = lines[at] as usize;
+    let row = line * 16;
+    let arrival = starts[line] as u32 + offsets[at] as u32;
+    let mut least = value;
+    let mut from = previous[at] as usize;
+    while 0 < from {
+        let before = from - 1;
+        let other = lines[before] as usize;
+        let divisor = divisors[row + other] as u32;
+        let between = gap_by(
+            divisor,
+            starts[other] as u32 + offsets[before] as u32,
+            arrival,
+        );
+        if between < least as u32 {
+            least = between as u16;
+        }
+        from = previous[before] as usize;
+    }
+    least
+}
+
+// The partial timetable with one line more.
+pub fn place(
+    stops: &[u8; 256],
+    lines: &[u8; 256],
+    offsets: &[u16; 256],
+    previous: &[u16; 256],
+    divisors: &[u16; 256],
+    first: &[u16; 17],
+    line: usize,
+    start: u16,
+    placed: Placed,
+) -> Placed
+    requires { ⌜ ((l : held.Laid (now stops) (now lines) (now offsets) (now previous) (now divisors) (now first)) × held.CanPlace (l .linked .net) line start placed) ⌝ }
+    ensures { λ r. ⌜ ((l : held.Laid (now (stops .entry)) (now (lines .entry)) (now (offsets .entry)) (now (previous .entry)) (now (divisors .entry)) (now (first .entry))) → held.CanPlace (l .linked .net) line start placed → held.PlacedMore (l .linked .net) line start placed r) ⌝ }
+{
+    let begin = first[line] as usize;
+    let end = first[line + 1] as usize;
+    let mut next = placed;
+    next.starts[line] = start;
+    let starts = next.starts;
+    for i in begin..end {
+        let stop = stops[i] as usize;
+        let old = next.values[stop];
+        let value = lowered(lines, offsets, previous, divisors, &starts, i, old);
+        next.values[stop] = value;
+        next.sum = next.sum + value as u32 - old as u32;
+        if (value as u32) < next.least {
+            next.least = value as u32;
+        }
+    }
+    next
+}
