@@ -14,3 +14,4 @@ pub mod Values
 pub mod Lowered
 pub mod Linked
 pub mod Placing
+pub mod Tries

@@ -67,6 +67,13 @@ pub record PlacedMore (n : Net) (line start : ℕ) (p r : Placed) : Type 0 where
   pub one-more : Represents n (line + 1) r
   pub appended : startsOf (line + 1) (r .starts) ≡ startsOf line (p .starts) ++ (pos start ∷ [])
 
+-- A line can be tried: the lines before it are placed, and beside the rows stand the numbers of starts and the last line
+pub record CanTry (n : Net) (counts : List ℕ) (last line : ℕ) (p : Placed) : Type 0 where
+  pub stated : line < length (n .periods)
+  pub last-of : last + 1 ≡ length (n .periods)
+  pub count-of : (i : ℕ) → i < length (n .periods) → getD counts i 0 ≡ getD (startCounts (n .periods)) i 0
+  pub before : Represents n line p
+
 -- The walk that a walk of the code stands for; where it has no best, it has no starts
 unfoldable pub stateOf : Net → declared-walk.Walk → State
 stateOf n w =

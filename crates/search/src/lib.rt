@@ -2,6 +2,7 @@
 pub mod caps;
 pub mod layout;
 pub mod place;
+pub mod tries;
 
 use network::Rating;
 
