@@ -25,3 +25,6 @@ pub mod AlikeGap
 pub mod Classes
 pub mod Scan
 pub mod Rate
+pub mod Offsets
+pub mod ClassRows
+pub mod Weighted

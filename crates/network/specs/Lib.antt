@@ -10,3 +10,5 @@ pub mod Rating
 pub mod Classes
 pub mod Scan
 pub mod Rate
+pub mod Offsets
+pub mod ClassCall

@@ -1,5 +1,7 @@
 // The network of lines and stops: the reader of network files.
+pub mod alike;
 pub mod calls;
+pub mod classes;
 pub mod divisor;
 pub mod gaps;
 pub mod rate;
@@ -169,5 +171,11 @@ pub enum ReadAnswer {
 // What the rate call and the weighted rating answer.
 pub enum RateAnswer {
     Rated { least: u32, sum: u32 },
+    Refused { number: u8, place: usize },
+}
+
+// What the class call answers.
+pub enum ClassAnswer {
+    Classes { count: u32 },
     Refused { number: u8, place: usize },
 }

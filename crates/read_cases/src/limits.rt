@@ -49,6 +49,9 @@ fn line_of_latest_call() {
     case(
         b"300, line 1 at 0, ride 65236: 4C000F 4C0014 4300000064 46000100C8 4301000000 460002FED4 45",
     );
+    case(
+        b"line 0 at 65535, line 1 at 0, ride 1 of line 1: 4C000F 4C0014 430000FFFF 4301000000 4601010001 45",
+    );
 }
 
 // The latest call in the file counts, by 43 or 46: not the first, nor the largest offset, nor the highest stop.

@@ -1,0 +1,85 @@
+-- `network::classes::weighted` meets its contract: it answers the file's refusal, then ground 15, then the weighted rating. Assumes nothing.
+use mathlib.Core.Path.{_≡_, sym, ap, _∙_}
+use mathlib.Core.Bool.{true, false}
+use borrow.Author.Needs.{needs}
+use borrow.Author.Tests.{eq-eqb, ne-eqb}
+use lib.Dec.{eqb}
+use lib.ListN.{length}
+use Rattle.network.specs.declared.Check.{Check}
+use Rattle.network.specs.Lists.{pick}
+use Rattle.network.specs.Reading.{Reading, accepted, refusal, readFile}
+use Rattle.network.specs.Rate.{rateAnswer, ratingValues, onSheet}
+use Rattle.network.specs.ClassCall.{weightedRating, weightedOutcome}
+use Rattle.network.specs.Stored.{netOf, readingOf}
+use Rattle.network.specs.Valid.{Valid, IsBytes}
+use Rattle.network.proofs.Laws.Valid.{accepted-valid}
+use Rattle.network.proofs.Laws.Stored.{held-lines}
+use Rattle.network.proofs.classes.weighted.Statement.{statement}
+use Rattle.network.proofs.classes.weighted.Tie as tie
+
+-- In the arm of `Passes` the file is accepted, as a valid network
+accepted-here : (c : tie.After-enum-told) → readFile (c .before .before .before .before .before .args .file .now) ≡ accepted (netOf (c .before .before .before .read-network .result .network))
+unfolding readingOf
+accepted-here c =
+    sym (c .before .before .before .read-network .ensures .1) ∙ ap (λ (k : Check). readingOf k (c .before .before .before .read-network .result .network)) (c .enum-told .given .1)
+
+valid-here : (c : tie.After-enum-told) → Valid (netOf (c .before .before .before .read-network .result .network))
+unfolding IsBytes
+valid-here c = accepted-valid (c .before .before .before .before .before .args .file .now) _ (λ i. c .before .before .before .before .shared-slice-known .given i .fits) (accepted-here c)
+
+read-network-requires : tie.Need-read-network-requires
+read-network-requires c κs = search needs
+
+enum-known-check : tie.Need-enum-known-check
+enum-known-check c = search needs
+
+enum-told : tie.Need-enum-told
+enum-told c = search needs
+
+weighted-rating-requires : tie.Need-weighted-rating-requires
+weighted-rating-requires c κs =
+    let t = c .before .before in
+    let r = c .before .before .before .before .before .read-network in
+    (r .ensures .0, valid-here t, c .if1 .taken ∙ sym (held-lines (r .result .network) (r .ensures .0)))
+
+returns : tie.Need-returns
+unfolding rateAnswer ratingValues weightedOutcome onSheet
+returns c =
+    let t = c .before .before .before in
+    let r = c .before .before .before .before .before .before .read-network in
+    let n = netOf (r .result .network) in
+    let sheet = c .before .before .before .before .before .before .before .before .args .sheet .now in
+    let fits : eqb (length sheet) (length (n .periods)) ≡ true = eq-eqb _ _ (c .before .if1 .taken ∙ sym (held-lines (r .result .network) (r .ensures .0))) in
+    ap ratingValues (c .weighted-rating .ensures)
+    ∙ sym (ap (λ (k : Reading). onSheet weightedRating k sheet) (accepted-here t) ∙ ap (λ b. pick b (ratingValues (weightedRating n sheet)) (refusal 15 0)) fits)
+
+returns-2 : tie.Need-returns-2
+unfolding rateAnswer weightedOutcome onSheet readingOf
+returns-2 c =
+    let r = c .before .before .before .before .read-network in
+    sym
+    (ap (λ (k : Reading). onSheet weightedRating k (c .before .before .before .before .before .before .args .sheet .now))
+    (sym (r .ensures .1) ∙ ap (λ (k : Check). readingOf k (r .result .network)) (c .before .check .given .1)))
+
+returns-3 : tie.Need-returns-3
+unfolding rateAnswer weightedOutcome onSheet
+returns-3 c =
+    let t = c .before .before in
+    let r = c .before .before .before .before .before .read-network in
+    let n = netOf (r .result .network) in
+    let sheet = c .before .before .before .before .before .before .before .args .sheet .now in
+    let unfit : eqb (length sheet) (length (n .periods)) ≡ false =
+    ne-eqb _ _ (λ e. c .if1 .left (e ∙ held-lines (r .result .network) (r .ensures .0))) in
+    sym (ap (λ (k : Reading). onSheet weightedRating k sheet) (accepted-here t) ∙ ap (λ b. pick b (ratingValues (weightedRating n sheet)) (refusal 15 0)) unfit)
+
+pub weighted-spec : {M : Type 1} → statement M
+weighted-spec =
+    tie.close
+    (tie.spec
+    read-network-requires
+    enum-known-check
+    enum-told
+    weighted-rating-requires
+    returns
+    returns-2
+    returns-3)

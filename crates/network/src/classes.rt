@@ -1,0 +1,147 @@
+// Classes of stops: the class call and the weighted rating.
+use crate::Check;
+use crate::ClassAnswer;
+use crate::Network;
+use crate::RateAnswer;
+use crate::Rating;
+use crate::alike::alike;
+use crate::alike::offset_table;
+use crate::ratings::rating_over;
+use crate::ratings::served_row;
+use crate::ratings::stop_gaps;
+use crate::reader::read_network;
+ghost use mathlib.Core.Path.{_≡_};
+ghost use Prim.Native.Nat.{ℕ, _<_};
+ghost use lib.Dec.{eqb, ltb};
+ghost use lib.ListN.{length, getD};
+ghost use Rattle.network.specs.ClassCall as call;
+ghost use Rattle.network.specs.Classes as class;
+ghost use Rattle.network.specs.Lists.{pick};
+ghost use Rattle.network.specs.Network as net;
+ghost use Rattle.network.specs.Offsets.{Marks};
+ghost use Rattle.network.specs.Rate.{rateAnswer};
+ghost use Rattle.network.specs.Reading.{readFile};
+ghost use Rattle.network.specs.Stored.{netOf, Sound};
+ghost use Rattle.network.specs.Valid.{Valid};
+
+// The lowest stop alike to a stop, 255 if it is unserved. A stop without lines is alike to none that is served, so that `served` is asked
+// of the stop alone.
+pub fn class_of(network: Network, marks: &[u32; 1024], served: &[u8; 64], stop: usize) -> u8
+    requires { ⌜ Sound network × Valid (netOf network) × Marks (now marks) (netOf network .calls) ⌝ }
+    requires { ⌜ (stop < 64) × (ltb 0 (getD (now served) stop 0) ≡ net.isServed stop (netOf network .calls)) ⌝ }
+    ensures { λ r. ⌜ r ≡ pick (net.isServed stop (netOf network .calls)) (class.lowestAlike (netOf network) stop) 255 ⌝ }
+{
+    if served[stop] == 0 {
+        return 255;
+    }
+    let lines = network.lines;
+    for other in 0..stop {
+        if alike(marks, &network.periods, lines, other, stop) {
+            return other as u8;
+        }
+    }
+    stop as u8
+}
+
+// Fills both rows and counts the classes. A class's lowest stop comes first, so its weight is 0 before any of its stops is counted.
+pub fn fill_rows(network: Network, class_row: &mut [u8], weight_row: &mut [u16]) -> u32
+    requires { ⌜ Sound network × Valid (netOf network) × (length (now «class_row») ≡ 64) × (length (now «weight_row») ≡ 64) ⌝ }
+    ensures { λ r. ⌜ r ≡ class.classCount (netOf network) ⌝ }
+    ensures { λ r. ⌜ now («class_row» .exit) ≡ class.classRow (netOf network) ⌝ }
+    ensures { λ r. ⌜ now («weight_row» .exit) ≡ class.weightRow (netOf network) ⌝ }
+{
+    let marks = offset_table(network);
+    let served = served_row(network);
+    let mut count: u32 = 0;
+    for stop in 0..64usize {
+        let lowest = class_of(network, &marks, &served, stop);
+        let at = lowest as usize;
+        class_row[stop] = lowest;
+        weight_row[stop] = 0;
+        if at < 64 {
+            weight_row[at] = weight_row[at] + 1;
+        }
+        if at == stop {
+            count += 1;
+        }
+    }
+    count
+}
+
+// The lowest stops: 1 for each stop that the class row names as its own lowest, 0 for the others.
+pub fn lowest_row(classes: &[u8; 64]) -> [u8; 64]
+    ensures { λ r. ⌜ ((stop : ℕ) → stop < 64 → ltb 0 (getD r stop 0) ≡ eqb (getD (now (classes .entry)) stop 0) stop) ⌝ }
+{
+    let mut row = [0u8; 64];
+    for stop in 0..64usize {
+        if classes[stop] == stop as u8 {
+            row[stop] = 1;
+        }
+    }
+    row
+}
+
+// The weighted rating of a sheet with one start for each line: the gaps of the lowest stops alone are computed.
+pub fn weighted_rating(network: Network, sheet: &[i32]) -> Rating
+    requires { ⌜ Sound network × Valid (netOf network) × (length (now sheet) ≡ length (netOf network .periods)) ⌝ }
+    ensures { λ r. ⌜ r ≡ call.weightedRating (netOf network) (now (sheet .entry)) ⌝ }
+{
+    let mut classes = [0u8; 64];
+    let mut weights = [0u16; 64];
+    fill_rows(network, &mut classes, &mut weights);
+    let counts = lowest_row(&classes);
+    let gaps = stop_gaps(network, sheet, &counts);
+    rating_over(&gaps, &counts, &weights)
+}
+
+// The class call: fills the class row and the weight row and answers how many classes there are; or the file's refusal, or ground 17
+// where a row isn't 64 long. A refusal leaves both rows as they are.
+pub fn classes(file: &[u8], class_row: &mut [u8], weight_row: &mut [u16]) -> ClassAnswer
+    ensures { λ r. ⌜ call.classAnswer r ≡ call.classOutcome (readFile (now (file .entry))) (length (now («class_row» .entry))) (length (now («weight_row» .entry))) ⌝ }
+    ensures { λ r. ⌜ now («class_row» .exit) ≡ call.classRowAfter (readFile (now (file .entry))) (now («class_row» .entry)) (now («weight_row» .entry)) ⌝ }
+    ensures { λ r. ⌜ now («weight_row» .exit) ≡ call.weightRowAfter (readFile (now (file .entry))) (now («class_row» .entry)) (now («weight_row» .entry)) ⌝ }
+{
+    let step = read_network(file);
+    let network = step.network;
+    let check = step.check;
+    match check {
+        Check::Refused { number, place } => ClassAnswer::Refused { number, place },
+        Check::Passes => {
+            if class_row.len() == 64 {
+                if weight_row.len() == 64 {
+                    let count = fill_rows(network, class_row, weight_row);
+                    return ClassAnswer::Classes { count };
+                }
+            }
+            ClassAnswer::Refused {
+                number: 17,
+                place: 0,
+            }
+        }
+    }
+}
+
+// The weighted rating, a call on a file and a sheet: it refuses as rate does.
+pub fn weighted(file: &[u8], sheet: &[i32]) -> RateAnswer
+    ensures { λ r. ⌜ rateAnswer r ≡ call.weightedOutcome (readFile (now (file .entry))) (now (sheet .entry)) ⌝ }
+{
+    let step = read_network(file);
+    let network = step.network;
+    let check = step.check;
+    match check {
+        Check::Refused { number, place } => RateAnswer::Refused { number, place },
+        Check::Passes => {
+            if sheet.len() == network.lines {
+                let rating = weighted_rating(network, sheet);
+                return RateAnswer::Rated {
+                    least: rating.least,
+                    sum: rating.sum,
+                };
+            }
+            RateAnswer::Refused {
+                number: 15,
+                place: 0,
+            }
+        }
+    }
+}
