@@ -15,3 +15,4 @@ pub mod Lowered
 pub mod Linked
 pub mod Placing
 pub mod Tries
+pub mod Optimal

@@ -1,5 +1,5 @@
 -- Document 01, "The walk": the search of a network, and what the search call answers and leaves in the start row.
-use Prim.Native.Nat.{ℕ}
+use Prim.Native.Nat.{ℕ, _+_, _*_}
 use mathlib.Core.Bool.{Bool, true, false, not, _&&_}
 use mathlib.Core.List.{List, [], _∷_}
 use lib.Dec.{eqb}
@@ -28,7 +28,12 @@ notAbove upper best = not (isAbove upper best)
 unfoldable pub searched : Net → ℕ → State
 searched n budget = walk (upperRating n (cap n)) notAbove budget (startCounts (n .periods)) [] atFirst
 
--- 1 + T1 + T1×T2 + .. over the periods after the first
+-- k×T1 + k×T1×T2 + ..
+abbrev pub productsFrom : ℕ → List ℕ → ℕ
+productsFrom k [] = 0
+productsFrom k (t ∷ rest) = k * t + productsFrom (k * t) rest
+
+-- How many tries the walk can make; it is 1 + T1 + T1×T2 + .. over the periods after the first, `bound-is-sum` of proofs/Demand3.antt
 unfoldable pub triesBound : Net → ℕ
 triesBound n = mostTries (startCounts (n .periods))
 
@@ -40,7 +45,14 @@ pub data SearchOutcome : Type 0 where
   stoppedWithNone : (tries : ℕ) → SearchOutcome
   refusal : (number place : ℕ) → SearchOutcome
 
--- The same for each case of the search call's enum
+-- The tries that an answer reports; a refusal reports none
+abbrev pub triesOf : SearchOutcome → ℕ
+triesOf (finished least sum tries) = tries
+triesOf (stopped least sum tries) = tries
+triesOf (stoppedWithNone tries) = tries
+triesOf (refusal number place) = 0
+
+-- The search call's enum, case by case
 unfoldable pub searchAnswer : SearchAnswer → SearchOutcome
 searchAnswer (answer.Finished least sum tries) = finished least sum tries
 searchAnswer (answer.Stopped least sum tries) = stopped least sum tries

@@ -1,0 +1,163 @@
+-- The search of an accepted network at its end, from the laws of the walk and of upper ratings; and the walk by its outcome. Assumes nothing.
+use Prim.Native.Nat.{ℕ, zero, suc, _+_, _*_, _≤_, _<_}
+use mathlib.Core.Path.{_≡_, refl, sym, ap, _∙_}
+use mathlib.Core.Bool.{Bool, true, false}
+use mathlib.Core.List.{List, [], _∷_}
+use mathlib.Core.Logic.{_⊎_}
+use native.Mathlib.Omega.{arith}
+use borrow.Author.Tests.{eqb-true, eq-eqb}
+use lib.Dec.{eqb}
+use lib.IntN.{ℤ, pos, negsuc}
+use lib.ListN.{length, drop}
+use Rattle.network.specs.declared.Rating.{Rating}
+use Rattle.network.specs.Lists.{pick}
+use Rattle.network.specs.Network.{Net}
+use Rattle.network.specs.Valid.{Valid}
+use Rattle.network.specs.Rating.{IsRating, ratingOver, rating, isAbove}
+use Rattle.network.specs.Reading.{accepted}
+use Rattle.network.proofs.Laws.Lists.{zero-ne-one}
+use Rattle.network.proofs.Laws.Gaps.{All, rating-is-rating, IsRating-unique, below-of-not-isAbove}
+use Rattle.search.specs.Caps.{cap, upperRating}
+use Rattle.search.specs.Walk.{State, atFirst, mostTries}
+use Rattle.search.specs.Search.{startCounts, notAbove, searched, triesBound, walkOutcome, outcomeOf, searchOutcome, startRowAfter}
+use Rattle.search.specs.Search.{SearchOutcome, finished, stopped, stoppedWithNone, refusal, triesOf, productsFrom}
+use Rattle.search.proofs.Laws.Upper.{upper-sound, upper-full, upperRating-some}
+use Rattle.search.proofs.Laws.Chosen as tried
+use Rattle.search.proofs.Laws.Reduced.{reduced, reduced-length, reduced-chosen, reduced-rating}
+use Rattle.search.proofs.Laws.Tries.{length-startCounts}
+use Rattle.search.proofs.Laws.Walk.{Chosen, none-left, next, Chosen-length, Chosen-exists, best-is-chosen}
+use Rattle.search.proofs.Laws.Walk.{walk-tries-le, walk-finishes, none-above-best, finished-has-best}
+
+-- ---- the choices of the walk
+
+chosen-of-tried : (counts : List ℕ) (starts : List ℤ) → tried.Chosen counts starts → Chosen counts starts
+chosen-of-tried [] [] c = none-left
+chosen-of-tried [] (x ∷ xs) c = absurd c
+chosen-of-tried (count ∷ counts) [] c = absurd c
+chosen-of-tried (count ∷ counts) (pos x ∷ xs) c = next (c .0) (chosen-of-tried counts xs (c .1))
+chosen-of-tried (count ∷ counts) (negsuc x ∷ xs) c = absurd c
+
+startCounts-pos : (periods : List ℕ) → All 0 (λ t. 0 < t) periods → All 0 (λ t. 0 < t) (startCounts periods)
+unfolding startCounts
+startCounts-pos [] f i h = f i h
+startCounts-pos (t ∷ periods) f zero h = omega arith
+startCounts-pos (t ∷ periods) f (suc i) h = f (suc i) h
+
+-- ---- the walk on a network
+
+searched-tries-le : (n : Net) (budget : ℕ) → searched n budget .tries ≤ triesBound n
+unfolding searched triesBound
+searched-tries-le n budget =
+    omega (arith, walk-tries-le (upperRating n (cap n)) notAbove budget (startCounts (n .periods)) [] atFirst)
+
+searched-finishes : (n : Net) (budget : ℕ) → triesBound n ≤ budget → searched n budget .stopped ≡ false
+unfolding searched triesBound
+searched-finishes n budget h =
+    walk-finishes (upperRating n (cap n)) notAbove budget (startCounts (n .periods)) [] atFirst refl (omega arith)
+
+module _ {n : Net} (valid : Valid n) (budget : ℕ) (ended : searched n budget .stopped ≡ false) where
+  searched-some : searched n budget .best .some ≡ true
+  unfolding searched
+  searched-some =
+      let (starts, c) = Chosen-exists (startCounts (n .periods)) (startCounts-pos (n .periods) (valid .period-pos)) in
+      finished-has-best (upperRating n (cap n)) budget (upperRating-some valid (cap n)) (startCounts (n .periods))
+      (λ placed tail c. upper-sound n (cap n) placed tail) ended starts c
+
+  -- The best is the rating of the starts beside it
+  searched-rated : searched n budget .best ≡ rating n (searched n budget .starts)
+  unfolding searched
+  searched-rated =
+      let b = best-is-chosen (upperRating n (cap n)) budget (upperRating-some valid (cap n)) (startCounts (n .periods)) notAbove in
+      b .rated searched-some
+      ∙ upper-full valid _ (Chosen-length (b .chosen searched-some) ∙ length-startCounts (n .periods))
+
+  searched-rating : IsRating n (searched n budget .starts) (searched n budget .best .least) (searched n budget .best .sum)
+  searched-rating = rw searched-rated (rating-is-rating n valid (searched n budget .starts))
+
+  -- No starts are rated above it
+  searched-none-above : (starts : List ℤ) → length starts ≡ length (n .periods) → isAbove (rating n starts) (searched n budget .best) ≡ false
+  unfolding searched
+  searched-none-above starts e =
+      ap (λ (r : Rating). isAbove r (searched n budget .best))
+      (sym (upper-full valid (reduced (n .periods) starts) (reduced-length valid starts e) ∙ reduced-rating valid starts e))
+      ∙ none-above-best (upperRating n (cap n)) budget (upperRating-some valid (cap n)) (startCounts (n .periods))
+      (λ placed tail c. upper-sound n (cap n) placed tail) ended (reduced (n .periods) starts)
+      (chosen-of-tried _ _ (reduced-chosen valid starts e))
+
+  searched-best : (starts : List ℤ) → length starts ≡ length (n .periods) → {least sum : ℕ} → IsRating n starts least sum
+      → (least < searched n budget .best .least) ⊎ ((least ≡ searched n budget .best .least) × (sum ≤ searched n budget .best .sum))
+  unfolding rating ratingOver
+  searched-best starts e r =
+      let (l, s) = IsRating-unique valid r in
+      rw (l, s) (below-of-not-isAbove (rating n starts) (searched n budget .best) refl searched-some (searched-none-above starts e))
+
+-- ---- the walk by its outcome
+
+-- What a finished search tells of its start row and its walk
+record Ended (n : Net) (row budget least sum : ℕ) : Type 0 where
+  fits : row ≡ length (n .periods)
+  ended : searched n budget .stopped ≡ false
+  its-least : searched n budget .best .least ≡ least
+  its-sum : searched n budget .best .sum ≡ sum
+
+ended-of-finished : (n : Net) (row budget : ℕ) {least sum tries : ℕ} → searchOutcome (accepted n) row budget ≡ finished least sum tries
+    → Ended n row budget least sum
+unfolding searchOutcome outcomeOf walkOutcome
+ended-of-finished n row budget {least} {sum} {tries} = go _ _ _ refl refl
+  where
+    go : (f a b : Bool) → eqb row (length (n .periods)) ≡ f → searched n budget .stopped ≡ a
+        → pick f (walkOutcome a b (searched n budget)) (refusal 16 0) ≡ finished least sum tries → Ended n row budget least sum
+    go false a b x y e = absurd (zero-ne-one (cc))
+    go true true false x y e = absurd (zero-ne-one (cc))
+    go true true true x y e = absurd (zero-ne-one (cc))
+    go true false b x y e = record { fits = eqb-true _ _ x; ended = y; its-least = cc; its-sum = cc }
+
+module _ {n : Net} (valid : Valid n) (row : List ℤ) (budget : ℕ) {least sum tries : ℕ}
+    (answered : searchOutcome (accepted n) (length row) budget ≡ finished least sum tries) where
+  told : Ended n (length row) budget least sum
+  told = ended-of-finished n (length row) budget answered
+
+  pub outcome-rated : IsRating n (startRowAfter (accepted n) budget row) least sum
+  unfolding startRowAfter
+  outcome-rated =
+      rw (eq-eqb _ _ (told .fits), searched-some valid budget (told .ended), ← told .its-least, ← told .its-sum)
+      (searched-rating valid budget (told .ended))
+
+  pub outcome-best : (starts : List ℤ) → length starts ≡ length (n .periods) → {least′ sum′ : ℕ} → IsRating n starts least′ sum′
+      → (least′ < least) ⊎ ((least′ ≡ least) × (sum′ ≤ sum))
+  outcome-best starts e r =
+      rw (← told .its-least, ← told .its-sum) (searched-best valid budget (told .ended) starts e r)
+
+pub outcome-finished : (n : Net) (row budget : ℕ) → row ≡ length (n .periods) → triesBound n ≤ budget
+    → (least : ℕ) × (sum : ℕ) × (tries : ℕ) × (searchOutcome (accepted n) row budget ≡ finished least sum tries)
+unfolding searchOutcome outcomeOf walkOutcome
+outcome-finished n row budget e h =
+    let s : State = searched n budget in
+    (s .best .least, s .best .sum, s .tries, rw (eq-eqb _ _ e, searched-finishes n budget h) refl)
+
+-- ---- the tries
+
+pub outcome-tries-le : (n : Net) (row budget : ℕ) → triesOf (searchOutcome (accepted n) row budget) ≤ triesBound n
+unfolding searchOutcome outcomeOf walkOutcome
+outcome-tries-le n row budget = go (eqb row (length (n .periods))) (searched n budget .stopped) (searched n budget .best .some)
+  where
+    go : (f a b : Bool) → triesOf (pick f (walkOutcome a b (searched n budget)) (refusal 16 0)) ≤ triesBound n
+    go false a b = omega arith
+    go true true false = searched-tries-le n budget
+    go true true true = searched-tries-le n budget
+    go true false b = searched-tries-le n budget
+
+-- ---- the bound
+
+productsFrom-mostTries : (k : ℕ) (counts : List ℕ) → productsFrom k counts ≡ k * mostTries counts
+unfolding mostTries
+productsFrom-mostTries k [] = omega arith
+productsFrom-mostTries k (t ∷ rest) = omega (arith, productsFrom-mostTries (k * t) rest)
+
+pub triesBound-products : (n : Net) → 0 < length (n .periods) → triesBound n ≡ 1 + productsFrom 1 (drop 1 (n .periods))
+unfolding triesBound startCounts mostTries
+triesBound-products n = go (n .periods)
+  where
+    go : (periods : List ℕ) → 0 < length periods → mostTries (startCounts periods) ≡ 1 + productsFrom 1 (drop 1 periods)
+    go [] h = absurd (omega arith)
+    go (t ∷ rest) h = omega (arith, productsFrom-mostTries 1 rest)
