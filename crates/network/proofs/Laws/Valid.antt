@@ -1,7 +1,7 @@
 -- Every network that the reader accepts is within the limits of document 01: each command that passes keeps them, and the last shows what
 -- only a whole network has. And the laws of its common cycle, which are those of a least common multiple. Assumes nothing.
 use Prim.Native.Nat.{ℕ, suc, _+_, _≤_, _<_}
-use mathlib.Core.Path.{_≡_, refl}
+use mathlib.Core.Path.{_≡_, refl, sym, ap, subst}
 use mathlib.Core.Bool.{false, _&&_}
 use mathlib.Core.List.{List, [], _∷_}
 use native.Mathlib.Omega.{arith}
@@ -13,10 +13,10 @@ use Rattle.network.specs.declared.Call.{Call}
 use Rattle.network.specs.declared.Check.the-variants.{Passes}
 use Rattle.network.specs.Divisor.{Divides, cycleFrom, commonCycle}
 use Rattle.network.specs.Network.{Net, emptyNet, Command, statesLine, callsByOffset, callsByRide, ends, unknown}
-use Rattle.network.specs.Network.{maxPeriod, maxCycle, maxStop, maxOffset, cycle, callsAt, command, operandBytes}
+use Rattle.network.specs.Network.{maxLines, maxPeriod, maxCycle, maxStop, maxOffset, cycle, callsAt, command, operandBytes}
 use Rattle.network.specs.Network.{word, lineOperand, stopOperand, statedOffset, withLine, withCall, callOf, extend}
 use Rattle.network.specs.Grounds.{first, grounds}
-use Rattle.network.specs.Reading.{readFile, accepted}
+use Rattle.network.specs.Reading.{Reading, readFile, accepted, refused, Outcome, values, refusal, readOutcome}
 use Rattle.network.specs.Valid.{IsBytes, noCall, Valid}
 use Rattle.network.proofs.Laws.Lists.{zero-ne-one, and-both, any-take-found, snoc-all, snoc-pairs}
 use Rattle.network.proofs.Laws.Divisor.{commonCycle-snoc, period-divides-commonCycle, commonCycle-least, commonCycle-pos}
@@ -130,6 +130,24 @@ module _ {file : List ℕ} (bytes : IsBytes file) where
 
 pub accepted-valid : (file : List ℕ) (n : Net) → IsBytes file → readFile file ≡ accepted n → Valid n
 accepted-valid file n bytes e = last-valid bytes (rw e at (readFile-last file))
+
+-- ---- the lines that the read call answers
+
+firstValue : Outcome → ℕ
+firstValue (values []) = 0
+firstValue (values (v ∷ vs)) = v
+firstValue (refusal number place) = 0
+
+read-lines : (file : List ℕ) → IsBytes file → (read : Reading) → readFile file ≡ read → firstValue (readOutcome read) ≤ maxLines
+unfolding readOutcome firstValue
+read-lines file bytes (accepted n) e = accepted-valid file n bytes e .lines
+read-lines file bytes (refused number place) e = omega arith
+
+pub answered-lines : (file : List ℕ) → IsBytes file → (lines : ℕ) (others : List ℕ)
+    → values (lines ∷ others) ≡ readOutcome (readFile file) → lines ≤ maxLines
+unfolding firstValue
+answered-lines file bytes lines others e =
+    subst (λ (k : ℕ). k ≤ maxLines) (sym (ap firstValue e)) (read-lines file bytes (readFile file) refl)
 
 -- ---- the common cycle of a network
 
