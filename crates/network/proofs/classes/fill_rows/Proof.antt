@@ -109,10 +109,10 @@ add-weight-row : tie.Need-add-weight-row Inv-loop μ-loop
 add-weight-row c = omega (arith, size-small (c .before .before) (c .before .if1 .taken), low (c .before .before))
 
 mul-weight-row-3 : tie.Need-mul-weight-row-3 Inv-loop μ-loop
-mul-weight-row-3 c = omega (arith, c .before .if1 .taken)
+mul-weight-row-3 c = omega (arith, c .before .if1 .taken, low (c .before .before))
 
 slice-write-weight-row-2 : tie.Need-slice-write-weight-row-2 Inv-loop μ-loop
-slice-write-weight-row-2 c = omega (arith, c .before .if1 .taken, zeroed-length (c .before .before))
+slice-write-weight-row-2 c = omega (arith, c .before .if1 .taken, low (c .before .before), zeroed-length (c .before .before))
 
 add-count : tie.Need-add-count Inv-loop μ-loop
 add-count c = omega (arith, few (c .before .before), low (c .before .before))
