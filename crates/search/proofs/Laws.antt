@@ -15,4 +15,5 @@ pub mod Lowered
 pub mod Linked
 pub mod Placing
 pub mod Tries
+pub mod Called
 pub mod Optimal

@@ -1,4 +1,5 @@
 // The search for the best timetable: caps, the walk, and the search call.
+pub mod call;
 pub mod caps;
 pub mod layout;
 pub mod place;

@@ -60,7 +60,7 @@ module _ (f g : ℕ → ℕ) (s : ℕ) (others : (t : ℕ) → (t ≡ s → ⊥)
 
 -- ---- the rating over stops that each count once
 
-ratingOfGaps-each-once : (f : ℕ → ℕ) (xs : List ℕ) → 0 < length xs
+pub ratingOfGaps-each-once : (f : ℕ → ℕ) (xs : List ℕ) → 0 < length xs
     → ratingOfGaps f (eachOnce xs) ≡ record { some = true; least = leastOf (map f xs); sum = sumOf f xs }
 unfolding ratingOfGaps eachOnce
 ratingOfGaps-each-once f [] h = absurd (omega arith)

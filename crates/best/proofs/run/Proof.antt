@@ -1,0 +1,54 @@
+-- `best::run` meets its contract: the lines that the read call answers are at most 16. Assumes nothing.
+use mathlib.Core.Path.{_≡_, sym, ap, _∙_}
+use Rattle.network.specs.Reading.{readAnswer}
+use Rattle.network.specs.Valid.{IsBytes}
+use Rattle.network.proofs.Laws.Valid.{answered-lines}
+use borrow.Author.Needs.{needs}
+use Rattle.best.proofs.run.Statement.{statement}
+use Rattle.best.proofs.run.Tie as tie
+use Rattle.best.proofs.run.Reads as reads
+use Rattle.best.proofs.run.Lts as lts
+use Rattle.best.proofs.find.Reads as find-reads
+use Rattle.best.proofs.print_refusal.Reads as print-refusal-reads
+use Rattle.network.proofs.reader.read.Reads as read-reads
+
+read-requires : tie.Need-read-requires
+read-requires c κs = search needs
+
+enum-known-answer : tie.Need-enum-known-answer
+enum-known-answer c = search needs
+
+print-refusal-requires : tie.Need-print-refusal-requires
+print-refusal-requires c κs = search needs
+
+enum-known-answer-2 : tie.Need-enum-known-answer-2
+enum-known-answer-2 c = search needs
+
+cast-find : tie.Need-cast-find
+cast-find c = search needs
+
+find-requires : tie.Need-find-requires
+unfolding IsBytes readAnswer
+find-requires c κs =
+    let r = c .before .before .before in
+    answered-lines (r .before .before .args .file .now) (λ i. r .before .shared-slice-known .given i .fits) _ _
+    (sym (ap readAnswer (c .before .answer2 .given .1)) ∙ r .read .ensures)
+
+returns : tie.Need-returns
+returns c = search needs
+
+returns-2 : tie.Need-returns-2
+returns-2 c = search needs
+
+pub run-spec : {M : Type 1} → statement M
+run-spec =
+    tie.close
+    (tie.spec
+    read-requires
+    enum-known-answer
+    print-refusal-requires
+    enum-known-answer-2
+    cast-find
+    find-requires
+    returns
+    returns-2)

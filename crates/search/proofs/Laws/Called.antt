@@ -1,0 +1,242 @@
+-- Laws of the search call: before the first try each stop's upper value is its cap, the rows in line order hold the network, and the walk
+-- over a network is the tries of its first line. Assumes nothing.
+use Prim.Native.Nat.{ℕ, zero, suc, _+_, _*_, _<_, _≤_}
+use mathlib.Core.Path.{_≡_, refl, sym, ap, ap₂, fun-ext, _∙_}
+use mathlib.Core.Bool.{Bool, true, false, _&&_}
+use mathlib.Core.List.{List, [], _∷_, map}
+use native.Mathlib.Omega.{arith}
+use borrow.Author.Tests.{le-ltb, eq-eqb, ne-eqb}
+use lib.Dec.{eqb, ltb}
+use lib.IntN.{ℤ}
+use lib.ListN.{length, getD, replicate, length-replicate}
+use Rattle.network.specs.declared.Call.{Call}
+use Rattle.network.specs.declared.Network.{Network}
+use Rattle.network.specs.declared.Rating.{Rating}
+use Rattle.network.specs.Divisor.{gcd}
+use Rattle.network.specs.Lists.{pick, below, sumOf, leastOf}
+use Rattle.network.specs.Network.{Net, isServed, maxStop, maxPeriod}
+use Rattle.network.specs.Rating.{pairGaps, callsOfStop, eachOnce, servedList, noRating}
+use Rattle.network.specs.Reading.{accepted}
+use Rattle.network.specs.Scan.{leastFrom, lastAt, LeadsBack, countedStops, ratingOfGaps}
+use Rattle.network.specs.Stored.{netOf, Sound}
+use Rattle.network.specs.Valid.{Valid, noCall}
+use Rattle.network.proofs.Laws.Gaps.{servedList-some}
+use Rattle.network.proofs.Laws.Rate.{ratingOfGaps-same, counted-served}
+use Rattle.network.proofs.Laws.Scan.{getD-zeros}
+use Rattle.network.proofs.Laws.Stored.{held-lines, held-calls, held-period, held-call}
+use Rattle.network.proofs.Laws.Tables.{below-of-member, sumOf-append}
+use Rattle.search.specs.declared.Walk as code
+use Rattle.search.specs.Caps.{cap, placedCalls, upperValue, upperRating}
+use Rattle.search.specs.Held.{Represents, Laid, startsOf, stateOf, walkFrom, tryAt}
+use Rattle.search.specs.Layout.{byLine, inLineOrder}
+use Rattle.search.specs.Search.{startCounts, searched, refusal, outcomeOf, searchOutcome, startRowAfter}
+use Rattle.search.specs.Walk.{State, atFirst, eachStart}
+use Rattle.search.proofs.Laws.CapScan.{cap-le}
+use Rattle.search.proofs.Laws.Layout.{keep-none, length-byLine-all}
+use Rattle.search.proofs.Laws.Linked.{byLine-all}
+use Rattle.search.proofs.Laws.Lowered.{ratingOfGaps-each-once}
+use Rattle.search.proofs.Laws.Tries.{walkFrom-next}
+
+-- ---- no line placed
+
+upperValue-none : (n : Net) (caps : ℕ → ℕ) (stop : ℕ) → upperValue n caps [] stop ≡ caps stop
+unfolding upperValue placedCalls pairGaps leastFrom
+upperValue-none n caps stop =
+    ap (λ (cs : List Call). leastFrom (caps stop) (pairGaps n [] cs))
+    (keep-none (λ (c : Call). ltb (c .line) 0) (λ c. le-ltb (c .line) 0 (omega arith)) (callsOfStop n stop))
+
+-- A sum over the numbers below `n`, none of them above a period
+sumOf-below-le : (f : ℕ → ℕ) (p : ℕ → Bool) (n : ℕ) → ((s : ℕ) → f s ≤ maxPeriod) → sumOf f (below p n) ≤ n * 1440
+unfolding below sumOf
+sumOf-below-le f p zero h = omega arith
+sumOf-below-le f p (suc n) h = rw (sumOf-append f (below p n) (pick (p n) (n ∷ []) [])) (go (p n) (sumOf-below-le f p n h))
+  where
+    go : (t : Bool) → sumOf f (below p n) ≤ n * 1440 → sumOf f (below p n) + sumOf f (pick t (n ∷ []) []) ≤ suc n * 1440
+    go true ih = omega (arith, ih, h n)
+    go false ih = omega (arith, ih)
+
+module _ (n : Net) (valid : Valid n) where
+  abbrev ratingOfCaps : Rating
+  ratingOfCaps = ratingOfGaps (cap n) (eachOnce (servedList n))
+
+  sum-of-caps-low : sumOf (cap n) (servedList n) ≤ 4194240
+  unfolding servedList
+  sum-of-caps-low = omega (arith, sumOf-below-le (cap n) (λ stop. isServed stop (n .calls)) (suc maxStop) (cap-le n valid))
+
+  caps-rating-is : ratingOfCaps ≡ record { some = true; least = leastOf (map (cap n) (servedList n)); sum = sumOf (cap n) (servedList n) }
+  caps-rating-is = ratingOfGaps-each-once (cap n) (servedList n) (servedList-some valid)
+
+  -- the rating that the rows of caps and of served stops give
+  pub caps-rating :
+      (caps served weights : List ℕ)
+      → ((stop : ℕ) → stop < 64 → getD caps stop 0 ≡ cap n stop)
+      → ((stop : ℕ) → stop < 64 → ltb 0 (getD served stop 0) ≡ isServed stop (n .calls))
+      → ((stop : ℕ) → stop < 64 → getD weights stop 0 ≡ 1)
+      → ratingOfGaps (λ stop. getD caps stop 0) (countedStops served weights) ≡ ratingOfGaps (cap n) (eachOnce (servedList n))
+  unfolding eachOnce servedList
+  caps-rating caps served weights h k e =
+      ap (ratingOfGaps (λ stop. getD caps stop 0)) (counted-served n served weights k e)
+      ∙ ratingOfGaps-same (λ stop. getD caps stop 0) (cap n) (λ s. 1) (servedList n)
+      (λ s m. h s (omega (arith, below-of-member (λ stop. isServed stop (n .calls)) (suc maxStop) m .0)))
+
+  -- before the first try
+  pub unplaced-represents :
+      (caps : List ℕ) (r : Rating)
+      → length caps ≡ 64
+      → ((stop : ℕ) → stop < 64 → getD caps stop 0 ≡ cap n stop)
+      → r ≡ ratingOfGaps (cap n) (eachOnce (servedList n))
+      → Represents n 0 (record { starts = replicate 16 0; values = caps; least = r .least; sum = r .sum })
+  unfolding upperRating
+  unplaced-represents caps r row h e =
+      record {
+        starts-row = length-replicate {A = ℕ} 16 0;
+        values-row = row;
+        starts-low = λ i. omega (arith, getD-zeros 16 i);
+        value-of = λ stop b s. h stop b ∙ sym (upperValue-none n (cap n) stop);
+        sum-low = omega (arith, sum-of-caps-low, ap (λ (q : Rating). q .sum) (e ∙ caps-rating-is));
+        rating-of =
+            ap (λ (q : Rating). record { some = true; least = q .least; sum = q .sum }) (e ∙ caps-rating-is)
+            ∙ sym caps-rating-is
+            ∙ ap (λ gap. ratingOfGaps gap (eachOnce (servedList n))) (sym (fun-ext (upperValue-none n (cap n))));
+      }
+
+-- ---- the rows of the calls in line order
+
+-- The latest call at a stop is found in the first calls alone
+lastAt-same : (stop : ℕ) (l m : List Call) (k : ℕ) → ((j : ℕ) → j < k → getD l j noCall ≡ getD m j noCall) → lastAt stop l k ≡ lastAt stop m k
+unfolding lastAt
+lastAt-same stop l m zero h = refl
+lastAt-same stop l m (suc k) h =
+    ap₂ (λ (c : Call) (v : ℕ). pick (eqb (c .stop) stop) (suc k) v) (h k (omega arith)) (lastAt-same stop l m k (λ j b. h j (omega (arith, b))))
+
+leads-same :
+    (previous : List ℕ) (l m : List Call) (k : ℕ)
+    → ((j : ℕ) → j < k → getD l j noCall ≡ getD m j noCall)
+    → LeadsBack previous l k
+    → LeadsBack previous m k
+unfolding LeadsBack
+leads-same previous l m k h leads j b =
+    leads j b
+    ∙ ap (λ (c : Call). lastAt (c .stop) l j) (h j b)
+    ∙ lastAt-same (getD m j noCall .stop) l m j (λ i q. h i (omega (arith, q, b)))
+
+module _
+    (network by : Network)
+    (sound : Sound network)
+    (valid : Valid (netOf network))
+    (by-sound : Sound by)
+    (ordered : netOf by ≡ inLineOrder (netOf network .periods) (netOf network .calls) (length (netOf network .periods))) where
+  abbrev inOrder : List Call
+  inOrder = byLine (netOf network .calls) (length (netOf network .periods))
+
+  calls-are : netOf by .calls ≡ inOrder
+  unfolding inLineOrder
+  calls-are = ap (λ (m : Net). m .calls) ordered
+
+  length-inOrder : length inOrder ≡ length (netOf network .calls)
+  length-inOrder = length-byLine-all (netOf network .calls) (length (netOf network .periods)) (valid .call-line)
+
+  pub count-is : by .calls ≡ length (netOf network .calls)
+  count-is = sym (held-calls by by-sound) ∙ ap (λ (cs : List Call). length cs) calls-are ∙ length-inOrder
+
+  pub call-at : (i : ℕ) → i < length (netOf network .calls) → getD (by .list) i noCall ≡ getD inOrder i noCall
+  call-at i h = sym (held-call by i (omega (arith, h, count-is))) ∙ ap (λ (cs : List Call). getD cs i noCall) calls-are
+
+  pub stops-low : (i : ℕ) → i < by .calls → getD (by .list) i noCall .stop < 64
+  stops-low i h =
+      omega (
+        arith,
+        ap (λ (c : Call). c .stop) (call-at i (omega (arith, h, count-is))),
+        byLine-all (λ (c : Call). c .stop ≤ maxStop) (netOf network .calls) (valid .call-stop) (length (netOf network .periods)) i
+            (omega (arith, h, count-is, length-inOrder)),
+      )
+
+  module _
+      (stops lines offsets previous divisors first : List ℕ)
+      (stop-of : (i : ℕ) → i < by .calls → getD stops i 0 ≡ getD (by .list) i noCall .stop)
+      (line-of : (i : ℕ) → i < by .calls → getD lines i 0 ≡ getD (by .list) i noCall .line)
+      (offset-of : (i : ℕ) → i < by .calls → getD offsets i 0 ≡ getD (by .list) i noCall .offset)
+      (leads : LeadsBack previous (by .list) (by .calls))
+      (divisor-of : (i j : ℕ) → i < 16 → j < 16 → getD divisors (i * 16 + j) 0 ≡ gcd (getD (network .periods) j 0) (getD (network .periods) i 0))
+      (first-of : (k : ℕ) → k ≤ length (netOf network .periods) → getD first k 0 ≡ length (byLine (netOf network .calls) k)) where
+    pub leads-in-order : LeadsBack previous inOrder (length (netOf network .calls))
+    unfolding LeadsBack
+    leads-in-order = leads-same previous (by .list) inOrder (length (netOf network .calls)) call-at (λ j b. leads j (omega (arith, b, count-is)))
+
+    pub divisor-in-order :
+        (i j : ℕ)
+        → i < length (netOf network .periods)
+        → j < length (netOf network .periods)
+        → getD divisors (i * 16 + j) 0 ≡ gcd (getD (netOf network .periods) j 0) (getD (netOf network .periods) i 0)
+    divisor-in-order i j h k =
+        divisor-of i j (omega (arith, h, valid .lines)) (omega (arith, k, valid .lines))
+        ∙ sym
+        (ap₂ gcd (held-period network j (omega (arith, k, held-lines network sound))) (held-period network i (omega (arith, h, held-lines network sound))))
+
+    -- they hold the network
+    abbrev pub laid : Laid stops lines offsets previous divisors first
+    laid =
+        record {
+          linked =
+              record {
+                net = netOf network;
+                valid = valid;
+                line-of = λ i h. line-of i (omega (arith, h, count-is)) ∙ ap (λ (c : Call). c .line) (call-at i h);
+                offset-of = λ i h. offset-of i (omega (arith, h, count-is)) ∙ ap (λ (c : Call). c .offset) (call-at i h);
+                leads = leads-in-order;
+                divisor-of = divisor-in-order;
+              };
+          stop-of = λ i h. stop-of i (omega (arith, h, count-is)) ∙ ap (λ (c : Call). c .stop) (call-at i h);
+          first-of = first-of;
+        }
+
+-- ---- the walk
+
+startCounts-first : (periods : List ℕ) → 0 < length periods → getD (startCounts periods) 0 0 ≡ 1
+unfolding startCounts
+startCounts-first [] h = absurd (omega (arith, h))
+startCounts-first (p ∷ ps) h = refl
+
+-- The walk over a network is the one try of its first line at 0
+pub searched-by-tries :
+    (n : Net)
+    → Valid n
+    → (budget : ℕ) (starts : List ℕ) (r : code.Walk)
+    → stateOf n r ≡ eachStart (tryAt n budget 0 []) 0 1 (stateOf n (record { tries = 0; stopped = false; best = noRating; starts = starts }))
+    → stateOf n r ≡ searched n budget
+unfolding searched walkFrom stateOf
+searched-by-tries n valid budget starts r e =
+    e
+    ∙ sym
+    (walkFrom-next n budget 0 [] atFirst (valid .some-line)
+    ∙ ap (λ (k : ℕ). eachStart (tryAt n budget 0 []) 0 k atFirst) (startCounts-first (n .periods) (valid .some-line)))
+
+-- ---- what the call answers and leaves
+
+pick-twice : (b : Bool) (x y z : List ℤ) → pick b (pick b x y) z ≡ pick b x z
+pick-twice true x y z = refl
+pick-twice false x y z = refl
+
+-- A row with one place for each line
+module _ (n : Net) (budget : ℕ) (row : List ℤ) (fits : length row ≡ length (n .periods)) (w : code.Walk) (walked : stateOf n w ≡ searched n budget) where
+  pub outcome-fit : searchOutcome (accepted n) (length row) budget ≡ outcomeOf (stateOf n w)
+  unfolding searchOutcome
+  outcome-fit = ap (λ b. pick b (outcomeOf (searched n budget)) (refusal 16 0)) (eq-eqb _ _ fits) ∙ ap outcomeOf (sym walked)
+
+  pub row-fit : startRowAfter (accepted n) budget row ≡ pick (w .best .some) (startsOf (length row) (w .starts)) row
+  unfolding startRowAfter stateOf
+  row-fit =
+      ap (λ b. pick (b && searched n budget .best .some) (searched n budget .starts) row) (eq-eqb _ _ fits)
+      ∙ ap (λ (s : State). pick (s .best .some) (s .starts) row) (sym walked)
+      ∙ pick-twice (w .best .some) (startsOf (length (n .periods)) (w .starts)) [] row
+      ∙ ap (λ (k : ℕ). pick (w .best .some) (startsOf k (w .starts)) row) (sym fits)
+
+-- Any other row
+module _ (n : Net) (budget : ℕ) (row : List ℤ) (unfit : length row ≡ length (n .periods) → ⊥) where
+  pub outcome-unfit : searchOutcome (accepted n) (length row) budget ≡ refusal 16 0
+  unfolding searchOutcome
+  outcome-unfit = ap (λ b. pick b (outcomeOf (searched n budget)) (refusal 16 0)) (ne-eqb _ _ unfit)
+
+  pub row-unfit : startRowAfter (accepted n) budget row ≡ row
+  unfolding startRowAfter
+  row-unfit = ap (λ b. pick (b && searched n budget .best .some) (searched n budget .starts) row) (ne-eqb _ _ unfit)

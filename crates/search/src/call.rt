@@ -1,0 +1,161 @@
+// The search call.
+use crate::Placed;
+use crate::SearchAnswer;
+use crate::Walk;
+use crate::caps::cap_row;
+use crate::layout::by_line;
+use crate::layout::divisor_row;
+use crate::layout::line_row;
+use crate::layout::offset_row;
+use crate::layout::previous_row;
+use crate::layout::start_count_row;
+use crate::layout::stop_row;
+use crate::tries::try_starts;
+use network::Check;
+use network::Network;
+use network::Rating;
+use network::ratings::rating_over;
+use network::ratings::served_row;
+use network::reader::read_network;
+ghost use mathlib.Core.Path.{_≡_};
+ghost use Prim.Native.Nat.{ℕ, _<_, _≤_};
+ghost use lib.ListN.{length, getD};
+ghost use Rattle.network.specs.Network.{Net};
+ghost use Rattle.network.specs.Reading.{readFile};
+ghost use Rattle.network.specs.Stored.{netOf, Sound};
+ghost use Rattle.network.specs.Valid.{Valid};
+ghost use Rattle.search.specs.Held as held;
+ghost use Rattle.search.specs.Search as spec;
+
+// The caps as the numbers of a rating.
+pub fn widened(row: &[u16; 64]) -> [u32; 64]
+    ensures { λ r. ⌜ ((stop : ℕ) → stop < 64 → getD r stop 0 ≡ getD (now (row .entry)) stop 0) ⌝ }
+{
+    let caps: &[u16] = row;
+    let mut wide = [0u32; 64];
+    for stop in 0..64usize {
+        wide[stop] = caps[stop] as u32;
+    }
+    wide
+}
+
+// Before the first try: no line is placed, and each stop's upper value is its cap.
+pub fn unplaced(network: Network) -> Placed
+    requires { ⌜ Sound network × Valid (netOf network) ⌝ }
+    ensures { λ r. ⌜ held.Represents (netOf network) 0 r ⌝ }
+{
+    let caps = cap_row(network);
+    let served = served_row(network);
+    let weights = [1u16; 64];
+    let wide = widened(&caps);
+    let upper = rating_over(&wide, &served, &weights);
+    Placed {
+        starts: [0u16; 16],
+        values: caps,
+        least: upper.least,
+        sum: upper.sum,
+    }
+}
+
+// The walk over a network.
+pub fn searched(network: Network, budget: u32) -> Walk
+    requires { ⌜ Sound network × Valid (netOf network) ⌝ }
+    ensures { λ r. ⌜ held.stateOf (netOf network) r ≡ spec.searched (netOf network) budget ⌝ }
+{
+    let ordered = by_line(network);
+    let by = ordered.network;
+    let first = ordered.first;
+    let stops = stop_row(by);
+    let lines = line_row(by);
+    let offsets = offset_row(by);
+    let previous = previous_row(by);
+    let divisors = divisor_row(network);
+    let counts = start_count_row(network);
+    let placed = unplaced(network);
+    let walk = Walk {
+        tries: 0,
+        stopped: false,
+        best: Rating::NONE,
+        starts: [0u16; 16],
+    };
+    let last = network.lines - 1;
+    try_starts(
+        &stops,
+        &lines,
+        &offsets,
+        &previous,
+        &divisors,
+        &first,
+        &counts,
+        last,
+        budget,
+        0,
+        0,
+        1,
+        placed,
+        walk,
+    )
+}
+
+// The best starts, written to the start row.
+pub fn write_starts(row: &mut [i32], starts: &[u16; 16])
+    requires { ⌜ length (now row) ≤ 16 ⌝ }
+    ensures { λ _. ⌜ now (row .exit) ≡ held.startsOf (length (now (row .entry))) (now (starts .entry)) ⌝ }
+{
+    let from: &[u16] = starts;
+    let count = row.len();
+    for i in 0..count {
+        row[i] = from[i] as i32;
+    }
+}
+
+// What a walk at its end answers.
+pub fn outcome(walk: Walk) -> SearchAnswer
+    ensures { λ r. ⌜ ((n : Net) → spec.searchAnswer r ≡ spec.outcomeOf (held.stateOf n walk)) ⌝ }
+{
+    let best = walk.best;
+    if walk.stopped {
+        if best.some {
+            return SearchAnswer::Stopped {
+                least: best.least,
+                sum: best.sum,
+                tries: walk.tries,
+            };
+        }
+        return SearchAnswer::StoppedWithNone { tries: walk.tries };
+    }
+    SearchAnswer::Finished {
+        least: best.least,
+        sum: best.sum,
+        tries: walk.tries,
+    }
+}
+
+// Search: a file, a start row and a budget; the best timetable's rating and starts, or the file's refusal, or ground 16 where the row
+// hasn't one place for each line.
+pub fn search(file: &[u8], row: &mut [i32], budget: u32) -> SearchAnswer
+    ensures answer { λ r. ⌜ spec.searchAnswer r ≡ spec.searchOutcome (readFile (now (file .entry))) (length (now (row .entry))) budget ⌝ }
+    ensures starts { λ _. ⌜ now (row .exit) ≡ spec.startRowAfter (readFile (now (file .entry))) budget (now (row .entry)) ⌝ }
+{
+    let step = read_network(file);
+    let network = step.network;
+    let check = step.check;
+    match check {
+        Check::Refused { number, place } => SearchAnswer::Refused { number, place },
+        Check::Passes => {
+            if row.len() == network.lines {
+                let walk = searched(network, budget);
+                let best = walk.best;
+                let starts = walk.starts;
+                if best.some {
+                    write_starts(row, &starts);
+                }
+                return outcome(walk);
+            }
+            SearchAnswer::Refused {
+                number: 16,
+                place: 0,
+            }
+        }
+    }
+}

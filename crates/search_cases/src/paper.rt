@@ -1,0 +1,79 @@
+// The paper's own searches, and their budgets just at and below what they take.
+use crate::cases::case;
+
+pub fn all() {
+    two_lines();
+    three_lines();
+    other_networks();
+    one_line();
+}
+
+// P1's network. It takes 21 tries: line 0 at 0, then line 1 at 0 to 19.
+fn p1(name: &[u8], budget: u32) {
+    let mut row = [7, 7];
+    case(
+        name,
+        b"4C000F 4C0014 4300000008 4301000011 45",
+        &mut row,
+        budget,
+    );
+}
+
+fn two_lines() {
+    p1(b"P3", 21);
+    p1(b"P4", 20);
+    p1(b"P5", 2);
+    p1(b"P6", 1);
+    p1(b"P1 with budget 0", 0);
+    p1(b"P1 with budget 22", 22);
+    p1(b"P1 with the largest budget", 4294967295);
+}
+
+// P7's network, which takes 51 tries.
+fn p7(name: &[u8], budget: u32) {
+    let mut row = [7, 7, 7];
+    case(
+        name,
+        b"4C000A 4C000A 4C000A 4300000000 4301000000 4302000000 45",
+        &mut row,
+        budget,
+    );
+}
+
+// A search that ends just at its budget is finished; with one try less it is stopped, though its best is the same.
+fn three_lines() {
+    p7(b"P7", 1000000);
+    p7(b"P7 with budget 51", 51);
+    p7(b"P7 with budget 50", 50);
+    p7(b"P7 with budget 3", 3);
+    p7(b"P7 with budget 2", 2);
+}
+
+fn other_networks() {
+    let mut row = [7, 7, 7];
+    case(
+        b"P8",
+        b"4C003C 4C003C 4C000C 4300000000 4301000000 4302010000 45",
+        &mut row,
+        1000000,
+    );
+    let mut pair = [7, 7];
+    case(
+        b"P9",
+        b"4C0014 4C001E 4300000000 4301000000 4300010007 4301010011 4300020005 4301020008 45",
+        &mut pair,
+        1000000,
+    );
+}
+
+// One line: it is tried at 0 only.
+fn lone(name: &[u8], budget: u32) {
+    let mut row = [7];
+    case(name, b"4C000F 4300000008 45", &mut row, budget);
+}
+
+fn one_line() {
+    lone(b"one line", 1);
+    lone(b"one line with budget 0", 0);
+    lone(b"one line with budget 2", 2);
+}
