@@ -3,6 +3,8 @@
 //!
 //! * [`papers`] is the implementation, one file for each section of document 01.
 //! * [`files`] makes network files and sheets, good and bad, from a seed.
+//! * [`program`] runs the proved engine's program `best`.
 
 pub mod files;
 pub mod papers;
+pub mod program;

@@ -67,8 +67,8 @@ pub fn same_remainder(a: u32, b: u32, c: u32, d: u32, period: u16, other: u16) -
     residue(a as i64 - b as i64, g) == residue(c as i64 - d as i64, g)
 }
 
-// Whether the offsets of two lines differ at both stops by the same remainder, as their marks then do. Where one of the lines doesn't call
-// at the first stop, there is nothing to be compared.
+// Whether the offsets of two lines differ at both stops by the same remainder. Marks, being one more, differ as the offsets do. Where one of
+// the lines doesn't call at the first stop, there is nothing to compare.
 pub fn same_difference(
     marks: &[u32; 1024],
     periods: &[u16; 16],
@@ -92,7 +92,7 @@ pub fn same_difference(
     true
 }
 
-// The same for a line and each line before it.
+// The same for a line and each line before it. Every pair of lines is met once, at the later of the two.
 pub fn same_differences(
     marks: &[u32; 1024],
     periods: &[u16; 16],

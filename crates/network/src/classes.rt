@@ -24,8 +24,8 @@ ghost use Rattle.network.specs.Reading.{readFile};
 ghost use Rattle.network.specs.Stored.{netOf, Sound};
 ghost use Rattle.network.specs.Valid.{Valid};
 
-// The lowest stop alike to a stop, 255 if it is unserved. A stop without lines is alike to none that is served, so that `served` is asked
-// of the stop alone.
+// The lowest stop alike to a stop, 255 if it is unserved. Of the stops below it none needs to be asked whether it is served: without a line
+// it has other lines than a served stop.
 pub fn class_of(network: Network, marks: &[u32; 1024], served: &[u8; 64], stop: usize) -> u8
     requires { ⌜ Sound network × Valid (netOf network) × Marks (now marks) (netOf network .calls) ⌝ }
     requires { ⌜ (stop < 64) × (ltb 0 (getD (now served) stop 0) ≡ net.isServed stop (netOf network .calls)) ⌝ }
@@ -43,7 +43,8 @@ pub fn class_of(network: Network, marks: &[u32; 1024], served: &[u8; 64], stop: 
     stop as u8
 }
 
-// Fills both rows and counts the classes. A class's lowest stop comes first, so its weight is 0 before any of its stops is counted.
+// Fills both rows and counts the classes. The lowest stop of a class comes before the others, so that its weight is set to 0 before they
+// are counted there.
 pub fn fill_rows(network: Network, class_row: &mut [u8], weight_row: &mut [u16]) -> u32
     requires { ⌜ Sound network × Valid (netOf network) × (length (now «class_row») ≡ 64) × (length (now «weight_row») ≡ 64) ⌝ }
     ensures { λ r. ⌜ r ≡ class.classCount (netOf network) ⌝ }

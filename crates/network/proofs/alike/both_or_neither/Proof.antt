@@ -12,15 +12,15 @@ beq-called : (t : Bool) → t ≡ Bool·beq true t
 beq-called true = refl
 beq-called false = refl
 
-beq-not-called : (x : ℕ) → eqb x 0 ≡ Bool·beq false (ltb 0 x)
-beq-not-called zero = refl
-beq-not-called (suc x) = ne-eqb (suc x) 0 (λ e. omega arith) ∙ sym (ap (Bool·beq false) (lt-ltb 0 (suc x) (omega arith)))
+beq-absent : (x : ℕ) → eqb x 0 ≡ Bool·beq false (ltb 0 x)
+beq-absent zero = refl
+beq-absent (suc x) = ne-eqb (suc x) 0 (λ e. omega arith) ∙ sym (ap (Bool·beq false) (lt-ltb 0 (suc x) (omega arith)))
 
 returns : tie.Need-returns
 returns c = rw (lt-ltb 0 (c .before .args .here) (c .if1 .taken)) (beq-called (ltb 0 (c .before .args .there)))
 
 returns-2 : tie.Need-returns-2
-returns-2 c = rw (le-ltb 0 (c .before .args .here) (c .if1 .left)) (beq-not-called (c .before .args .there))
+returns-2 c = rw (le-ltb 0 (c .before .args .here) (c .if1 .left)) (beq-absent (c .before .args .there))
 
 pub both-or-neither-spec : {M : Type 1} → statement M
 both-or-neither-spec = tie.close (tie.spec returns returns-2)
