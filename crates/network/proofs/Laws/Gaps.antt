@@ -8,14 +8,19 @@ pub use Rattle.network.proofs.Laws.StopGap.{never-closer, stopGap-le-ca
 -- the calls of a stop: its gap is the least over their pairs, at most half of any g; with one call, the period
 pub use Rattle.network.proofs.Laws.Pairs.{gapOfCalls-symmetric, gapOfCalls-half, IsPairGap, gapOfStop-le-pair, gapOfStop-attained}
 pub use Rattle.network.proofs.Laws.Pairs.{gapOfStop-half, gapOfStop-single, gapOfStop-cong, gapOfStop-periods}
-pub use Rattle.network.proofs.Laws.StopGap.{callsOfStop-lines-differ, callsOfStop-period-pos}
+pub use Rattle.network.proofs.Laws.StopGap.{callsOfStop-lines-differ, callsOfStop-period-pos, call-of-served}
 -- leasts over lists, in which these are stated
 pub use Rattle.network.proofs.Laws.Members.{Has, All, AllPairs}
 pub use Rattle.network.proofs.Laws.Least.{leastOf-cons, leastOf-append, leastOf-has, leastOf-le, leastOf-unique, leastOf-same}
 pub use Rattle.network.proofs.Laws.Scan.{leastOf-cons as leastOf-leastFrom, leastFrom-le}
 pub use Rattle.network.proofs.Laws.Least.{leastOf-map-has, leastOf-map-le}
--- the common cycle
-pub use Rattle.network.proofs.Laws.Valid.{cycle-multiple, cycle-pos}
+-- the least gap of a call to those before it at its stop, and the rating of rows of gaps
+pub use Rattle.network.proofs.Laws.Scan.{leastFrom-append, leastFrom-min, pairGaps-snoc}
+pub use Rattle.network.proofs.Laws.Scan.{callsBefore-hit, callsBefore-miss, callsBefore-lastAt, lastAt-le, lastAt-landed, step-back}
+pub use Rattle.network.proofs.Laws.Scan.{Scanned, scanned-none, scanned-passed, getD-zeros, keep-append, keep-all}
+pub use Rattle.network.proofs.Laws.Rate.{ratingOfGaps-same, counted-served}
+-- an accepted network and its common cycle
+pub use Rattle.network.proofs.Laws.Valid.{accepted-valid, cycle-multiple, cycle-pos}
 -- a stop and the rating, over all trips
 pub use Rattle.network.proofs.Laws.StopGap.{stopGap-is-stop-gap, IsStopGap-unique, IsStopGap-served}
 pub use Rattle.network.proofs.Laws.Rating.{servedList-all, servedList-has, servedList-some, rating-least, rating-sum}
@@ -25,6 +30,7 @@ pub use Rattle.network.proofs.Laws.Starts.{SameResidues, stopGap-residu
 pub use Rattle.network.proofs.Laws.Starts.{stopGap-moved-together, rating-moved-together}
 pub use Rattle.network.proofs.Laws.Starts.{movedByPeriod, stopGap-moved-by-period, rating-moved-by-period}
 -- calls in another order
+pub use Rattle.network.proofs.Laws.Permuted.{length-permuted, all-permuted, keep-permuted}
 pub use Rattle.network.proofs.Laws.Permuted.{gapOfStop-permuted, stopGap-permuted, rating-permuted}
 -- the order of ratings
 pub use Rattle.network.proofs.Laws.Order.{Above, above-of-isAbove, isAbove-of-above, below-of-not-isAbove, isAbove-none}

@@ -21,8 +21,8 @@ use Rattle.network.specs.Scan.{leastFrom, lastAt, LeadsBack, countedStops, rati
 use Rattle.network.specs.Stored.{netOf, Sound}
 use Rattle.network.specs.Valid.{Valid, noCall}
 use Rattle.network.proofs.Laws.Gaps.{servedList-some}
-use Rattle.network.proofs.Laws.Rate.{ratingOfGaps-same, counted-served}
-use Rattle.network.proofs.Laws.Scan.{getD-zeros}
+use Rattle.network.proofs.Laws.Gaps.{ratingOfGaps-same, counted-served}
+use Rattle.network.proofs.Laws.Gaps.{getD-zeros}
 use Rattle.network.proofs.Laws.Stored.{held-lines, held-calls, held-period, held-call}
 use Rattle.network.proofs.Laws.Tables.{below-of-member, sumOf-append}
 use Rattle.search.specs.declared.Walk as code

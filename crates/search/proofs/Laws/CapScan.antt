@@ -17,9 +17,9 @@ use Rattle.network.specs.Rating.{periodOf, callsOfStop}
 use Rattle.network.specs.Scan.{leastFrom, callsBefore}
 use Rattle.network.specs.Valid.{Valid, noCall}
 use Rattle.network.proofs.Laws.Divisor.{gcd-le-left, pos-of-divides, div-mul-of-divides}
-use Rattle.network.proofs.Laws.Scan.{callsBefore-hit, callsBefore-miss, leastFrom-append, leastFrom-le, leastOf-cons, keep-all}
+use Rattle.network.proofs.Laws.Gaps.{callsBefore-hit, callsBefore-miss, leastFrom-append, leastFrom-le, leastOf-leastFrom as leastOf-cons, keep-all}
 use Rattle.network.proofs.Laws.Tables.{sumOf-append}
-use Rattle.network.proofs.Laws.Valid.{cycle-multiple, cycle-pos}
+use Rattle.network.proofs.Laws.Gaps.{cycle-multiple, cycle-pos}
 use Rattle.search.specs.Caps.{halves, evenSpacing, capOfCalls, cap}
 use Rattle.search.specs.CapScan.{halfOf, visitsOf, leastHalf, boundsOf}
 use Rattle.search.proofs.Laws.PairScan.{pairsOf, pairsOf-snoc}

@@ -18,7 +18,7 @@ use Rattle.network.specs.Rating.{Counted, eachOnce, servedList}
 use Rattle.network.specs.Scan.{ratingOfGaps}
 use Rattle.network.proofs.Laws.Gaps.{Has, leastOf-map-has, leastOf-map-le, servedList-has, servedList-some}
 use Rattle.network.proofs.Laws.Tables.{sumOf-same, sumOf-add, sumOf-map, sumOf-below-only}
-use Rattle.network.proofs.Laws.StopGap.{call-of-served}
+use Rattle.network.proofs.Laws.Gaps.{call-of-served}
 
 module _ (f g : ℕ → ℕ) (s : ℕ) (others : (t : ℕ) → (t ≡ s → ⊥) → g t ≡ f t) where
   sumOf-one-other : (p : ℕ → Bool) (n : ℕ) → s < n → p s ≡ true → sumOf g (below p n) + f s ≡ sumOf f (below p n) + g s

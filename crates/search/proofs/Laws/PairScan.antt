@@ -4,7 +4,7 @@ use Prim.Native.Nat.{ℕ, min}
 use mathlib.Core.Path.{_≡_, refl, sym, ap, _∙_}
 use mathlib.Core.List.{List, [], _∷_, _++_, map, map-append}
 use Rattle.network.specs.Scan.{leastFrom}
-use Rattle.network.proofs.Laws.Scan.{leastFrom-append, leastFrom-min}
+use Rattle.network.proofs.Laws.Gaps.{leastFrom-append, leastFrom-min}
 
 -- The numbers of all pairs of different elements
 unfoldable pub pairsOf : {A : Type 0} → (A → A → ℕ) → List A → List ℕ

@@ -19,7 +19,7 @@ use Rattle.network.specs.Rating.{gapOfCalls, eachOnce, servedList}
 use Rattle.network.specs.Scan.{leastFrom, callsBefore, ratingOfGaps}
 use Rattle.network.specs.Valid.{Valid, noCall}
 use Rattle.network.proofs.Laws.Lists.{take-set-next, any-take-found}
-use Rattle.network.proofs.Laws.Scan.{leastFrom-le}
+use Rattle.network.proofs.Laws.Gaps.{leastFrom-le}
 use Rattle.search.specs.declared.Placed.{Placed}
 use Rattle.search.specs.Caps.{cap, upperValue, upperRating}
 use Rattle.search.specs.Layout.{byLine, valueAfter}

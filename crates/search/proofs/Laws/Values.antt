@@ -20,8 +20,8 @@ use Rattle.network.specs.Gap.{gapOf}
 use Rattle.network.specs.Rating.{arrivalOf, periodOf, gapOfCalls, pairGaps, gapOfStop, callsOfStop}
 use Rattle.network.specs.Scan.{callsBefore, leastFrom}
 use Rattle.network.proofs.Laws.Gaps.{All, gapOfStop-cong, gapOfStop-permuted, callsOfStop-period-pos}
-use Rattle.network.proofs.Laws.Permuted.{length-permuted, keep-permuted}
-use Rattle.network.proofs.Laws.Scan.{keep-all, callsBefore-hit, callsBefore-miss, leastFrom-min, leastOf-cons, pairGaps-snoc}
+use Rattle.network.proofs.Laws.Gaps.{length-permuted, keep-permuted}
+use Rattle.network.proofs.Laws.Gaps.{keep-all, callsBefore-hit, callsBefore-miss, leastFrom-min, leastOf-leastFrom as leastOf-cons, pairGaps-snoc}
 use Rattle.search.specs.Caps.{placedCalls, upperValue}
 use Rattle.search.specs.Layout.{byLine, valueAfter}
 use Rattle.search.proofs.Laws.Layout.{byLine-permuted, byLine-prefix}

@@ -15,7 +15,7 @@ use Rattle.network.specs.Reading.{Reading, accepted, readFile}
 use Rattle.network.specs.Stored.{netOf, readingOf}
 use Rattle.network.specs.Valid.{Valid, IsBytes}
 use Rattle.network.proofs.Laws.Stored.{held-lines}
-use Rattle.network.proofs.Laws.Valid.{accepted-valid}
+use Rattle.network.proofs.Laws.Gaps.{accepted-valid}
 use Rattle.search.specs.Held.{startsOf}
 use Rattle.search.specs.Search.{searchAnswer, searchOutcome, startRowAfter}
 use Rattle.search.proofs.Laws.Called.{outcome-fit, row-fit, outcome-unfit, row-unfit}

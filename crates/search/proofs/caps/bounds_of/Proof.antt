@@ -13,7 +13,7 @@ use Rattle.network.specs.Rating.{callsOfStop}
 use Rattle.network.specs.Scan.{callsBefore}
 use Rattle.network.specs.Stored.{netOf}
 use Rattle.network.specs.Valid.{noCall}
-use Rattle.network.proofs.Laws.Scan.{callsBefore-hit, callsBefore-miss}
+use Rattle.network.proofs.Laws.Gaps.{callsBefore-hit, callsBefore-miss}
 use Rattle.network.proofs.Laws.Stored.{held-lines, held-call-line}
 use Rattle.search.specs.CapScan.{visitsOf, leastHalf, boundsOf}
 use Rattle.search.proofs.caps.bounds_of.Statement.{statement}

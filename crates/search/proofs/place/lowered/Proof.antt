@@ -12,7 +12,7 @@ use Rattle.network.specs.Lists.{keep}
 use Rattle.network.specs.Rating.{gapOfCalls}
 use Rattle.network.specs.Scan.{lastAt, callsBefore, leastFrom, LeadsBack}
 use Rattle.network.specs.Valid.{noCall}
-use Rattle.network.proofs.Laws.Scan.{lastAt-le, lastAt-landed, callsBefore-lastAt, step-back}
+use Rattle.network.proofs.Laws.Gaps.{lastAt-le, lastAt-landed, callsBefore-lastAt, step-back}
 use Rattle.search.specs.Held.{Linked, callsIn}
 use Rattle.search.proofs.Laws.Linked.{length-callsIn, calls-few, line-row-lt-16, offset-row-low, divisor-pos, divisor-le, gap-of-rows}
 use Rattle.search.proofs.place.lowered.Statement.{statement}
