@@ -1,0 +1,111 @@
+-- What rate answers of a sheet, as the two calls on sheets use it: two sheets are compared as document 01 wants by the ratings that rate
+-- answers, and a sheet that rate rates fits its file's network. Assumes nothing.
+use Prim.Native.Nat.{ℕ}
+use mathlib.Core.Path.{_≡_, refl, sym, ap, ap₂, _∙_}
+use mathlib.Core.Bool.{Bool, true, false}
+use mathlib.Core.List.{List, [], _∷_}
+use borrow.Author.Tests.{eqb-true, eq-eqb}
+use lib.Dec.{eqb}
+use lib.IntN.{ℤ}
+use lib.ListN.{length}
+use Rattle.network.specs.declared.Rating.{Rating}
+use Rattle.network.specs.declared.RateAnswer.{RateAnswer}
+use Rattle.network.specs.declared.RateAnswer.the-variants as answer
+use Rattle.network.specs.Lists.{pick}
+use Rattle.network.specs.Network.{Net}
+use Rattle.network.specs.Rate.{rateAnswer, ratingValues, onSheet, rateOutcome}
+use Rattle.network.specs.Rating.{noRating, rating, ratingOver, isAbove}
+use Rattle.network.specs.Reading.{Reading, accepted, refused, Outcome, values, refusal}
+use Rattle.network.proofs.Laws.Lists.{zero-ne-one}
+use Rattle.search.specs.Search.{searchOutcome}
+use Rattle.examination.specs.Chosen.{ratingFrom, ratingOn, betterFrom}
+use Rattle.examination.specs.Sheets.{Better, first, second, neither, fits, betterBy, betterOf, marked, markOutcome}
+use Rattle.examination.specs.Sheets as sheets
+
+-- ---- what rate's answer tells
+
+-- A sheet that is rated: the file's network, which it fits, and the rating's numbers
+pub record RatedOn (read : Reading) (sheet : List ℤ) (least sum : ℕ) : Type 0 where
+  pub net : Net
+  pub reads : read ≡ accepted net
+  pub fit : length sheet ≡ length (net .periods)
+  pub its-least : least ≡ rating net sheet .least
+  pub its-sum : sum ≡ rating net sheet .sum
+
+pub rated-on : (read : Reading) (sheet : List ℤ) {least sum : ℕ} → values (least ∷ sum ∷ []) ≡ rateOutcome read sheet
+    → RatedOn read sheet least sum
+unfolding rateOutcome onSheet ratingValues
+rated-on (refused number place) sheet e = absurd (zero-ne-one (cc))
+rated-on (accepted n) sheet {least} {sum} e = go (eqb (length sheet) (length (n .periods))) refl e
+  where
+    go : (b : Bool) → eqb (length sheet) (length (n .periods)) ≡ b
+        → values (least ∷ sum ∷ []) ≡ pick b (values (rating n sheet .least ∷ rating n sheet .sum ∷ [])) (refusal 15 0)
+        → RatedOn (accepted n) sheet least sum
+    go false f e = absurd (zero-ne-one (cc))
+    go true f e = record { net = n; reads = refl; fit = eqb-true _ _ f; its-least = cc; its-sum = cc }
+
+-- ---- better-of-two
+
+rating-whole : (n : Net) (sheet : List ℤ) → record { some = true; least = rating n sheet .least; sum = rating n sheet .sum } ≡ rating n sheet
+unfolding rating ratingOver
+rating-whole n sheet = refl
+
+rating-some : (n : Net) (sheet : List ℤ) → rating n sheet .some ≡ true
+unfolding rating ratingOver
+rating-some n sheet = refl
+
+betterBy-fit : (b : Bool) → betterBy true true b ≡ pick b second first
+unfolding betterBy
+betterBy-fit true = refl
+betterBy-fit false = refl
+
+pub ratingOn-of-rate : (read : Reading) (sheet : List ℤ) (r : RateAnswer) → rateAnswer r ≡ rateOutcome read sheet
+    → ratingFrom r ≡ ratingOn read sheet
+unfolding rateAnswer rateOutcome onSheet ratingFrom ratingOn fits ratingValues
+ratingOn-of-rate read sheet (answer.Rated least sum) e =
+    let r = rated-on read sheet e in
+    ap₂ (λ (l s : ℕ). record { some = true; least = l; sum = s }) (r .its-least) (r .its-sum)
+    ∙ rating-whole (r .net) sheet
+    ∙ sym
+    (ap (λ (k : Reading). ratingOn k sheet) (r .reads)
+    ∙ ap (λ (b : Bool). pick b (rating (r .net) sheet) noRating) (eq-eqb (length sheet) (length (r .net .periods)) (r .fit)))
+ratingOn-of-rate (refused number′ place′) sheet (answer.Refused number place) e = refl
+ratingOn-of-rate (accepted n) sheet (answer.Refused number place) e = go (eqb (length sheet) (length (n .periods))) e
+  where
+    go : (b : Bool) → refusal number place ≡ pick b (values (rating n sheet .least ∷ rating n sheet .sum ∷ [])) (refusal 15 0)
+        → noRating ≡ pick b (rating n sheet) noRating
+    go true e = absurd (zero-ne-one (cc))
+    go false e = refl
+
+pub betterOf-from : (read : Reading) (one other : List ℤ) → betterOf read one other ≡ betterFrom (ratingOn read one) (ratingOn read other)
+unfolding betterOf betterBy betterFrom ratingOn isAbove
+betterOf-from (refused number place) one other = refl
+betterOf-from (accepted n) one other = go (fits n one) (fits n other)
+  where
+    go : (a b : Bool) → betterBy a b (isAbove (rating n other) (rating n one))
+        ≡ betterFrom (pick a (rating n one) noRating) (pick b (rating n other) noRating)
+    go true true =
+        betterBy-fit (isAbove (rating n other) (rating n one))
+        ∙ ap (λ (b : Bool). pick (isAbove (rating n other) (rating n one)) second (pick b first neither)) (sym (rating-some n one))
+    go true false = rw (rating-some n one) refl
+    go false true = rw (rating-some n other) refl
+    go false false = refl
+
+-- ---- mark
+
+pub mark-refused : (read : Reading) (sheet : List ℤ) (budget : ℕ) {number place : ℕ} → refusal number place ≡ rateOutcome read sheet
+    → sheets.refusal number place ≡ markOutcome read sheet budget
+unfolding rateOutcome onSheet ratingValues markOutcome fits
+mark-refused (refused number′ place′) sheet budget e = ap₂ sheets.refusal (cc) (cc)
+mark-refused (accepted n) sheet budget {number} {place} e = go (eqb (length sheet) (length (n .periods))) e
+  where
+    go : (b : Bool) → refusal number place ≡ pick b (values (rating n sheet .least ∷ rating n sheet .sum ∷ [])) (refusal 15 0)
+        → sheets.refusal number place
+        ≡ pick b (marked (rating n sheet .least) (rating n sheet .sum) (searchOutcome (accepted n) (length sheet) budget)) (sheets.refusal 15 0)
+    go true e = absurd (zero-ne-one (cc))
+    go false e = ap₂ sheets.refusal (cc) (cc)
+
+pub mark-rated : (read : Reading) (sheet : List ℤ) (budget : ℕ) {least sum : ℕ} → RatedOn read sheet least sum
+    → marked least sum (searchOutcome read (length sheet) budget) ≡ markOutcome read sheet budget
+unfolding markOutcome fits
+mark-rated read sheet budget r = rw (r .reads, r .its-least, r .its-sum, eq-eqb _ _ (r .fit)) refl

@@ -1,0 +1,40 @@
+-- Document 01, "Sheets", the host program: a sheet as 4 bytes for each start, two's complement, most significant first; a byte count other
+-- than 4×lines is ground 15, after the file's grounds.
+use Prim.Native.Nat.{ℕ, _+_, _*_}
+use mathlib.Core.Bool.{Bool}
+use mathlib.Core.List.{List, [], _∷_}
+use lib.Dec.{eqb, ltb}
+use lib.IntN.{ℤ, pos, _-ℤ_}
+use lib.ListN.{length}
+use Rattle.network.specs.Lists.{pick}
+use Rattle.network.specs.Network.{Net}
+use Rattle.network.specs.Rating.{rating, isAbove}
+use Rattle.network.specs.Reading.{Reading, accepted, refused}
+use Rattle.examination.specs.Sheets.{Better, neither, betterBy}
+
+-- Two's complement in 32 bits: a number of 2^31 or more stands for itself less 2^32
+unfoldable pub signed : ℕ → ℤ
+signed m = pick (ltb m 2147483648) (pos m) (pos m -ℤ pos 4294967296)
+
+-- The starts of a sheet, 4 bytes each, most significant first
+unfoldable pub starts : List ℕ → List ℤ
+starts (a ∷ b ∷ c ∷ d ∷ rest) = signed (((a * 256 + b) * 256 + c) * 256 + d) ∷ starts rest
+starts [] = []
+starts (a ∷ []) = []
+starts (a ∷ b ∷ []) = []
+starts (a ∷ b ∷ c ∷ []) = []
+
+-- There are 4 bytes for each line
+unfoldable pub bytesFit : Net → List ℕ → Bool
+bytesFit n bytes = eqb (length bytes) (4 * length (n .periods))
+
+-- A call on a file and a sheet, the sheet being handed over as bytes: the file's refusal, then ground 15, then the call's answer on the starts
+unfoldable pub byBytes : {A : Type 0} → (Reading → List ℤ → A) → (ℕ → ℕ → A) → Reading → List ℕ → A
+byBytes call refuses (refused number place) bytes = refuses number place
+byBytes call refuses (accepted n) bytes = pick (bytesFit n bytes) (call (accepted n) (starts bytes)) (refuses 15 0)
+
+-- Better-of-two, both sheets being handed over as bytes
+unfoldable pub betterBytes : Reading → List ℕ → List ℕ → Better
+betterBytes (refused number place) one other = neither
+betterBytes (accepted n) one other =
+    betterBy (bytesFit n one) (bytesFit n other) (isAbove (rating n (starts other)) (rating n (starts one)))

@@ -1,0 +1,58 @@
+-- docs/ABI.md: what an export returns, and what it leaves in its answer row.
+use Prim.Native.Nat.{ℕ, _+_, _*_}
+use mathlib.Core.Bool.{Bool, true, false}
+use mathlib.Core.List.{List, [], _∷_}
+use Rattle.network.specs.Reading.{Outcome, values, refusal}
+use Rattle.search.specs.Search.{SearchOutcome}
+use Rattle.search.specs.Search as search
+use Rattle.examination.specs.Sheets.{Better, first, second, neither, MarkOutcome, decided, undecided}
+use Rattle.examination.specs.Sheets as sheets
+
+-- A refusal as one number
+unfoldable pub refusalCode : ℕ → ℕ → ℕ
+refusalCode number place = 65536 * number + place
+
+-- Read, rate, the weighted rating and the class call: 0, and the answer's values in the row; a refusal leaves the row as it was
+unfoldable pub status : Outcome → ℕ
+status (values vs) = 0
+status (refusal number place) = refusalCode number place
+
+unfoldable pub rowAfter : Outcome → List ℕ → List ℕ
+rowAfter (values vs) row = vs
+rowAfter (refusal number place) row = row
+
+-- The search: 0 finished, 1 stopped with a best, 2 stopped with none; the best rating, 0 and 0 where there is none, and the tries
+unfoldable pub searchStatus : SearchOutcome → ℕ
+searchStatus (search.finished least sum tries) = 0
+searchStatus (search.stopped least sum tries) = 1
+searchStatus (search.stoppedWithNone tries) = 2
+searchStatus (search.refusal number place) = refusalCode number place
+
+unfoldable pub searchRow : SearchOutcome → List ℕ → List ℕ
+searchRow (search.finished least sum tries) row = least ∷ sum ∷ tries ∷ []
+searchRow (search.stopped least sum tries) row = least ∷ sum ∷ tries ∷ []
+searchRow (search.stoppedWithNone tries) row = 0 ∷ 0 ∷ tries ∷ []
+searchRow (search.refusal number place) row = row
+
+-- Better-of-two: 1 the first, 2 the second, 0 neither
+unfoldable pub betterStatus : Better → ℕ
+betterStatus first = 1
+betterStatus second = 2
+betterStatus neither = 0
+
+-- A mark: 0 decided, 1 undecided; the sheet's rating, the best rating, 1 if they are equal and 0 if not, and the tries; undecided has 0 in
+-- the places of what is not known
+unfoldable pub markStatus : MarkOutcome → ℕ
+markStatus (decided least sum bestLeast bestSum equal tries) = 0
+markStatus (undecided least sum tries) = 1
+markStatus (sheets.refusal number place) = refusalCode number place
+
+unfoldable pub oneIf : Bool → ℕ
+oneIf true = 1
+oneIf false = 0
+
+unfoldable pub markRow : MarkOutcome → List ℕ → List ℕ
+markRow (decided least sum bestLeast bestSum equal tries) row =
+    least ∷ sum ∷ bestLeast ∷ bestSum ∷ oneIf equal ∷ tries ∷ []
+markRow (undecided least sum tries) row = least ∷ sum ∷ 0 ∷ 0 ∷ 0 ∷ tries ∷ []
+markRow (sheets.refusal number place) row = row

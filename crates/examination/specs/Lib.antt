@@ -1,0 +1,5 @@
+pub mod Sheets
+pub mod Bytes
+pub mod Exports
+pub mod Taken
+pub mod Chosen

@@ -1,0 +1,80 @@
+-- Document 01, "Sheets": better-of-two and mark, on a file and sheets of starts.
+use Prim.Native.Nat.{ℕ}
+use mathlib.Core.Bool.{Bool, true, false, _&&_}
+use mathlib.Core.List.{List}
+use lib.Dec.{eqb}
+use lib.IntN.{ℤ}
+use lib.ListN.{length}
+use Rattle.network.specs.Lists.{pick}
+use Rattle.network.specs.Network.{Net}
+use Rattle.network.specs.Rating.{rating, isAbove}
+use Rattle.network.specs.Reading.{Reading, accepted, refused}
+use Rattle.search.specs.Search.{SearchOutcome, searchOutcome}
+use Rattle.search.specs.Search as search
+use Rattle.examination.specs.declared.Choice.{Choice}
+use Rattle.examination.specs.declared.Choice.the-variants as choice
+use Rattle.examination.specs.declared.MarkAnswer.{MarkAnswer}
+use Rattle.examination.specs.declared.MarkAnswer.the-variants as answer
+
+-- ---- Better-of-two
+
+-- Which of two sheets is handed back: the first, the second, or the empty part
+pub data Better : Type 0 where
+  first : Better
+  second : Better
+  neither : Better
+
+-- The better-of-two's enum, case by case
+unfoldable pub choiceOf : Choice → Better
+choiceOf choice.First = first
+choiceOf choice.Second = second
+choiceOf choice.Neither = neither
+
+-- The sheet has one start for each line
+unfoldable pub fits : Net → List ℤ → Bool
+fits n sheet = eqb (length sheet) (length (n .periods))
+
+-- By whether the first fits, whether the second fits, and whether the second's rating is above the first's: the better; the first if equal;
+-- a sheet of the wrong length loses to one that fits; none if neither fits
+unfoldable pub betterBy : Bool → Bool → Bool → Better
+betterBy true true true = second
+betterBy true true false = first
+betterBy true false above = first
+betterBy false true above = second
+betterBy false false above = neither
+
+-- Which of two sheets is the better on a file; none if the file is refused
+unfoldable pub betterOf : Reading → List ℤ → List ℤ → Better
+betterOf (refused number place) one other = neither
+betterOf (accepted n) one other = betterBy (fits n one) (fits n other) (isAbove (rating n other) (rating n one))
+
+-- ---- Mark
+
+-- What a mark answers, as the paper has it: decided, with the sheet's rating, the best rating, whether they are equal, and the tries;
+-- undecided, with the sheet's rating and the tries; or the number and place of a refusal
+pub data MarkOutcome : Type 0 where
+  decided : (least sum bestLeast bestSum : ℕ) (equal : Bool) (tries : ℕ) → MarkOutcome
+  undecided : (least sum tries : ℕ) → MarkOutcome
+  refusal : (number place : ℕ) → MarkOutcome
+
+-- The mark call's enum, case by case
+unfoldable pub markAnswer : MarkAnswer → MarkOutcome
+markAnswer (answer.Decided least sum bestLeast bestSum equal tries) = decided least sum bestLeast bestSum equal tries
+markAnswer (answer.Undecided least sum tries) = undecided least sum tries
+markAnswer (answer.Refused number place) = refusal number place
+
+-- A sheet of this rating beside what the search answers: if the search stops, undecided
+unfoldable pub marked : (least sum : ℕ) → SearchOutcome → MarkOutcome
+marked least sum (search.finished bestLeast bestSum tries) =
+    decided least sum bestLeast bestSum (eqb least bestLeast && eqb sum bestSum) tries
+marked least sum (search.stopped bestLeast bestSum tries) = undecided least sum tries
+marked least sum (search.stoppedWithNone tries) = undecided least sum tries
+marked least sum (search.refusal number place) = refusal number place
+
+-- What the mark call has to answer: it refuses as rate; otherwise the sheet's rating beside the search with a start row of the sheet's length
+unfoldable pub markOutcome : Reading → List ℤ → ℕ → MarkOutcome
+markOutcome (refused number place) sheet budget = refusal number place
+markOutcome (accepted n) sheet budget =
+    pick (fits n sheet)
+    (marked (rating n sheet .least) (rating n sheet .sum) (searchOutcome (accepted n) (length sheet) budget))
+    (refusal 15 0)

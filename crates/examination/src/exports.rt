@@ -1,0 +1,209 @@
+// The exports: the calls for programs in other languages, as docs/ABI.md sets them down.
+use crate::Choice;
+use crate::MarkAnswer;
+use crate::better::choose;
+use crate::bytes::sheet_of;
+use crate::marking::mark;
+use network::ClassAnswer;
+use network::RateAnswer;
+use network::ReadAnswer;
+use network::classes::classes;
+use network::classes::weighted;
+use network::rate::rate;
+use network::reader::read;
+use search::SearchAnswer;
+use search::call::search;
+ghost use mathlib.Core.Path.{_≡_};
+ghost use mathlib.Core.List.{List};
+ghost use Prim.Native.Nat.{_<_};
+ghost use lib.IntN.{ℤ};
+ghost use lib.ListN.{length};
+ghost use Rattle.network.specs.ClassCall as call;
+ghost use Rattle.network.specs.Rate.{rateOutcome};
+ghost use Rattle.network.specs.Reading.{Reading, readFile, readOutcome, refusal};
+ghost use Rattle.search.specs.Search.{searchOutcome, startRowAfter};
+ghost use Rattle.examination.specs.Bytes as bytes;
+ghost use Rattle.examination.specs.Exports as export;
+ghost use Rattle.examination.specs.Sheets as sheets;
+
+// A refusal as one number.
+pub fn refusal_code(number: u8, place: usize) -> u32
+    requires { ⌜ place < 65536 ⌝ }
+    ensures { λ r. ⌜ r ≡ export.refusalCode number place ⌝ }
+{
+    number as u32 * 65536 + place as u32
+}
+
+// 1 where the test holds, else 0.
+pub fn one_if(test: bool) -> u32
+    ensures { λ r. ⌜ r ≡ export.oneIf test ⌝ }
+{
+    if test { 1 } else { 0 }
+}
+
+// Read.
+#[no_mangle]
+pub extern "C" fn examination_read(file: &[u8], answer: &mut [u32; 4]) -> u32
+    ensures returned { λ r. ⌜ r ≡ export.status (readOutcome (readFile (now (file .entry)))) ⌝ }
+    ensures row { λ _. ⌜ now (answer .exit) ≡ export.rowAfter (readOutcome (readFile (now (file .entry)))) (now (answer .entry)) ⌝ }
+{
+    let told = read(file);
+    match told {
+        ReadAnswer::Refused { number, place } => refusal_code(number, place),
+        ReadAnswer::Accepted {
+            lines,
+            stops,
+            calls,
+            cycle,
+        } => {
+            *answer = [lines, stops, calls, cycle];
+            0
+        }
+    }
+}
+
+// Rate, the sheet as bytes.
+#[no_mangle]
+pub extern "C" fn examination_rate(file: &[u8], sheet: &[u8], answer: &mut [u32; 2]) -> u32
+    ensures returned { λ r. ⌜ r ≡ export.status (bytes.byBytes rateOutcome refusal (readFile (now (file .entry))) (now (sheet .entry))) ⌝ }
+    ensures row { λ _. ⌜ now (answer .exit) ≡ export.rowAfter (bytes.byBytes rateOutcome refusal (readFile (now (file .entry))) (now (sheet .entry))) (now (answer .entry)) ⌝ }
+{
+    let taken = sheet_of(sheet);
+    let starts = taken.starts;
+    let count = taken.count;
+    let told = rate(file, &starts[..count]);
+    match told {
+        RateAnswer::Refused { number, place } => refusal_code(number, place),
+        RateAnswer::Rated { least, sum } => {
+            *answer = [least, sum];
+            0
+        }
+    }
+}
+
+// The weighted rating, the sheet as bytes.
+#[no_mangle]
+pub extern "C" fn examination_weighted(file: &[u8], sheet: &[u8], answer: &mut [u32; 2]) -> u32
+    ensures returned { λ r. ⌜ r ≡ export.status (bytes.byBytes call.weightedOutcome refusal (readFile (now (file .entry))) (now (sheet .entry))) ⌝ }
+    ensures row { λ _. ⌜ now (answer .exit) ≡ export.rowAfter (bytes.byBytes call.weightedOutcome refusal (readFile (now (file .entry))) (now (sheet .entry))) (now (answer .entry)) ⌝ }
+{
+    let taken = sheet_of(sheet);
+    let starts = taken.starts;
+    let count = taken.count;
+    let told = weighted(file, &starts[..count]);
+    match told {
+        RateAnswer::Refused { number, place } => refusal_code(number, place),
+        RateAnswer::Rated { least, sum } => {
+            *answer = [least, sum];
+            0
+        }
+    }
+}
+
+// The class call.
+#[no_mangle]
+pub extern "C" fn examination_classes(
+    file: &[u8],
+    class_row: &mut [u8],
+    weight_row: &mut [u16],
+    answer: &mut [u32; 1],
+) -> u32
+    ensures returned { λ r. ⌜ r ≡ export.status (call.classOutcome (readFile (now (file .entry))) (length (now («class_row» .entry))) (length (now («weight_row» .entry)))) ⌝ }
+    ensures row { λ _. ⌜ now (answer .exit) ≡ export.rowAfter (call.classOutcome (readFile (now (file .entry))) (length (now («class_row» .entry))) (length (now («weight_row» .entry)))) (now (answer .entry)) ⌝ }
+    ensures classes { λ _. ⌜ now («class_row» .exit) ≡ call.classRowAfter (readFile (now (file .entry))) (now («class_row» .entry)) (now («weight_row» .entry)) ⌝ }
+    ensures weights { λ _. ⌜ now («weight_row» .exit) ≡ call.weightRowAfter (readFile (now (file .entry))) (now («class_row» .entry)) (now («weight_row» .entry)) ⌝ }
+{
+    let told = classes(file, class_row, weight_row);
+    match told {
+        ClassAnswer::Refused { number, place } => refusal_code(number, place),
+        ClassAnswer::Classes { count } => {
+            *answer = [count];
+            0
+        }
+    }
+}
+
+// The search.
+#[no_mangle]
+pub extern "C" fn examination_search(
+    file: &[u8],
+    start_row: &mut [i32],
+    budget: u32,
+    answer: &mut [u32; 3],
+) -> u32
+    ensures returned { λ r. ⌜ r ≡ export.searchStatus (searchOutcome (readFile (now (file .entry))) (length (now («start_row» .entry))) budget) ⌝ }
+    ensures row { λ _. ⌜ now (answer .exit) ≡ export.searchRow (searchOutcome (readFile (now (file .entry))) (length (now («start_row» .entry))) budget) (now (answer .entry)) ⌝ }
+    ensures starts { λ _. ⌜ now («start_row» .exit) ≡ startRowAfter (readFile (now (file .entry))) budget (now («start_row» .entry)) ⌝ }
+{
+    let told = search(file, start_row, budget);
+    match told {
+        SearchAnswer::Refused { number, place } => refusal_code(number, place),
+        SearchAnswer::Finished { least, sum, tries } => {
+            *answer = [least, sum, tries];
+            0
+        }
+        SearchAnswer::Stopped { least, sum, tries } => {
+            *answer = [least, sum, tries];
+            1
+        }
+        SearchAnswer::StoppedWithNone { tries } => {
+            *answer = [0, 0, tries];
+            2
+        }
+    }
+}
+
+// Better-of-two, both sheets as bytes: 1 the first, 2 the second, 0 neither.
+#[no_mangle]
+pub extern "C" fn examination_better(file: &[u8], first: &[u8], second: &[u8]) -> u32
+    ensures { λ r. ⌜ r ≡ export.betterStatus (bytes.betterBytes (readFile (now (file .entry))) (now (first .entry)) (now (second .entry))) ⌝ }
+{
+    let one = sheet_of(first);
+    let one_starts = one.starts;
+    let one_count = one.count;
+    let other = sheet_of(second);
+    let other_starts = other.starts;
+    let other_count = other.count;
+    let choice = choose(file, &one_starts[..one_count], &other_starts[..other_count]);
+    match choice {
+        Choice::First => 1,
+        Choice::Second => 2,
+        Choice::Neither => 0,
+    }
+}
+
+// Mark, the sheet as bytes.
+#[no_mangle]
+pub extern "C" fn examination_mark(
+    file: &[u8],
+    sheet: &[u8],
+    budget: u32,
+    answer: &mut [u32; 6],
+) -> u32
+    ensures returned { λ r. ⌜ r ≡ export.markStatus (bytes.byBytes (λ (f : Reading) (s : List ℤ). sheets.markOutcome f s budget) sheets.refusal (readFile (now (file .entry))) (now (sheet .entry))) ⌝ }
+    ensures row { λ _. ⌜ now (answer .exit) ≡ export.markRow (bytes.byBytes (λ (f : Reading) (s : List ℤ). sheets.markOutcome f s budget) sheets.refusal (readFile (now (file .entry))) (now (sheet .entry))) (now (answer .entry)) ⌝ }
+{
+    let taken = sheet_of(sheet);
+    let starts = taken.starts;
+    let count = taken.count;
+    let told = mark(file, &starts[..count], budget);
+    match told {
+        MarkAnswer::Refused { number, place } => refusal_code(number, place),
+        MarkAnswer::Undecided { least, sum, tries } => {
+            *answer = [least, sum, 0, 0, 0, tries];
+            1
+        }
+        MarkAnswer::Decided {
+            least,
+            sum,
+            best_least,
+            best_sum,
+            equal,
+            tries,
+        } => {
+            let same = one_if(equal);
+            *answer = [least, sum, best_least, best_sum, same, tries];
+            0
+        }
+    }
+}

@@ -1,0 +1,56 @@
+// The mark call.
+use crate::MarkAnswer;
+use network::RateAnswer;
+use network::rate::rate;
+use search::SearchAnswer;
+use search::call::search;
+ghost use mathlib.Core.Path.{_≡_};
+ghost use Rattle.network.specs.Reading.{readFile};
+ghost use Rattle.search.specs.Search.{searchAnswer};
+ghost use Rattle.examination.specs.Sheets as sheets;
+
+// A sheet of this rating beside what the search answers.
+pub fn marked(least: u32, sum: u32, answer: SearchAnswer) -> MarkAnswer
+    ensures { λ r. ⌜ sheets.markAnswer r ≡ sheets.marked least sum (searchAnswer answer) ⌝ }
+{
+    match answer {
+        SearchAnswer::Finished {
+            least: best_least,
+            sum: best_sum,
+            tries,
+        } => {
+            let equal = least == best_least && sum == best_sum;
+            MarkAnswer::Decided {
+                least,
+                sum,
+                best_least,
+                best_sum,
+                equal,
+                tries,
+            }
+        }
+        SearchAnswer::Stopped {
+            least: best_least,
+            sum: best_sum,
+            tries,
+        } => MarkAnswer::Undecided { least, sum, tries },
+        SearchAnswer::StoppedWithNone { tries } => MarkAnswer::Undecided { least, sum, tries },
+        SearchAnswer::Refused { number, place } => MarkAnswer::Refused { number, place },
+    }
+}
+
+// Mark: a file, a sheet and a budget; the sheet's rating beside the best one, or undecided where the search stops, or the refusal of rate.
+pub fn mark(file: &[u8], sheet: &[i32], budget: u32) -> MarkAnswer
+    ensures { λ r. ⌜ sheets.markAnswer r ≡ sheets.markOutcome (readFile (now (file .entry))) (now (sheet .entry)) budget ⌝ }
+{
+    let rated = rate(file, sheet);
+    match rated {
+        RateAnswer::Refused { number, place } => MarkAnswer::Refused { number, place },
+        RateAnswer::Rated { least, sum } => {
+            let mut row = [0i32; 16];
+            let count = sheet.len();
+            let found = search(file, &mut row[..count], budget);
+            marked(least, sum, found)
+        }
+    }
+}
