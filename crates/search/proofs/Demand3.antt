@@ -17,7 +17,7 @@ use Rattle.network.proofs.Laws.Valid.{accepted-valid}
 use Rattle.network.proofs.Laws.Classes.{lowest-rating}
 use Rattle.network.proofs.Laws.Weighted.{weighted-is-rate}
 use Rattle.search.specs.Search.{SearchOutcome, finished, searchOutcome, startRowAfter, triesBound, triesOf, productsFrom}
-use Rattle.search.proofs.Laws.Optimal.{outcome-rated, outcome-best, outcome-tries-le, outcome-finished, triesBound-products}
+use Rattle.search.proofs.Laws.Optimal.{outcome-rated, outcome-length, outcome-best, outcome-tries-le, outcome-finished, triesBound-products}
 
 -- A search call by its contract: what it answers, and what it leaves in the start row
 pub record Searches (file : List ℕ) (row : List ℤ) (budget : ℕ) (answer : SearchOutcome) (exit : List ℤ) : Type 0 where
@@ -33,6 +33,12 @@ module _ {file : List ℕ} {row : List ℤ} {budget : ℕ} {answer : SearchOutco
   finished-has-its-rating e =
       rw (call .left, reads)
       (outcome-rated (accepted-valid file n (call .bytes) reads) row budget (rw reads at (sym (call .answered) ∙ e)))
+
+  -- .. one start for each line
+  pub finished-fills-the-row : {least sum tries : ℕ} → answer ≡ finished least sum tries → length exit ≡ length (n .periods)
+  finished-fills-the-row e =
+      rw (call .left, reads)
+      (outcome-length (accepted-valid file n (call .bytes) reads) row budget (rw reads at (sym (call .answered) ∙ e)))
 
   -- (2) .. and every choice of one whole-number start for each line has a smaller least gap, or the same least gap and a sum no larger
   pub finished-is-best : {least sum tries : ℕ} → answer ≡ finished least sum tries

@@ -71,6 +71,12 @@ module _ {n : Net} (valid : Valid n) (budget : ℕ) (ended : searched n budget .
       b .rated searched-some
       ∙ upper-full valid _ (Chosen-length (b .chosen searched-some) ∙ length-startCounts (n .periods))
 
+  searched-length : length (searched n budget .starts) ≡ length (n .periods)
+  unfolding searched
+  searched-length =
+      let b = best-is-chosen (upperRating n (cap n)) budget (upperRating-some valid (cap n)) (startCounts (n .periods)) notAbove in
+      Chosen-length (b .chosen searched-some) ∙ length-startCounts (n .periods)
+
   searched-rating : IsRating n (searched n budget .starts) (searched n budget .best .least) (searched n budget .best .sum)
   searched-rating = rw searched-rated (rating-is-rating n valid (searched n budget .starts))
 
@@ -122,6 +128,11 @@ module _ {n : Net} (valid : Valid n) (row : List ℤ) (budget : ℕ) {least sum 
   outcome-rated =
       rw (eq-eqb _ _ (told .fits), searched-some valid budget (told .ended), ← told .its-least, ← told .its-sum)
       (searched-rating valid budget (told .ended))
+
+  pub outcome-length : length (startRowAfter (accepted n) budget row) ≡ length (n .periods)
+  unfolding startRowAfter
+  outcome-length =
+      rw (eq-eqb _ _ (told .fits), searched-some valid budget (told .ended)) (searched-length valid budget (told .ended))
 
   pub outcome-best : (starts : List ℤ) → length starts ≡ length (n .periods) → {least′ sum′ : ℕ} → IsRating n starts least′ sum′
       → (least′ < least) ⊎ ((least′ ≡ least) × (sum′ ≤ sum))
