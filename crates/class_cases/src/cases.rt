@@ -1,8 +1,10 @@
 // One case of the class call: a line says what it answers, and what the rows hold afterwards.
-use crate::text::name_length;
-use crate::text::put_hex;
 use libc::STDOUT_FILENO;
 use network::ClassAnswer;
+use typed::name_length;
+use typed::put_hex;
+use typed::show::show_number;
+use typed::show::show_refusal;
 ghost use Prim.Native.Nat.{_≤_};
 ghost use lib.ListN.{length};
 
@@ -41,10 +43,7 @@ pub fn show_answer(answer: ClassAnswer) {
             show_number(count as u64);
         }
         ClassAnswer::Refused { number, place } => {
-            io::write_all(STDOUT_FILENO, b": refused");
-            show_number(number as u64);
-            io::write_all(STDOUT_FILENO, b" at");
-            show_number(place as u64);
+            show_refusal(number, place);
         }
     }
 }
@@ -89,10 +88,4 @@ fn weight_sum(row: &[u16]) -> u64
         sum += row[i] as u64;
     }
     sum
-}
-
-// A space and a number.
-pub fn show_number(number: u64) {
-    io::write_all(STDOUT_FILENO, b" ");
-    io::print_decimal(STDOUT_FILENO, number);
 }

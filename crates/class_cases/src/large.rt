@@ -1,7 +1,7 @@
 // Files with many lines and many calls.
 use crate::cases::show;
-use crate::text::name_length;
-use crate::text::put_hex;
+use typed::name_length;
+use typed::put_hex;
 ghost use Prim.Native.Nat.{_<_, _≤_};
 
 // A case whose file has so many lines of one period and so many calls, and ends as the text says. The calls go round the lines: each line

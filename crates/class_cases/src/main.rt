@@ -6,7 +6,6 @@ mod large;
 mod networks;
 mod rows;
 mod sheets;
-mod text;
 
 fn main() {
     networks::all();

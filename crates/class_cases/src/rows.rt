@@ -1,9 +1,9 @@
 // Rows of other lengths, and files that are refused: the rows stay untouched.
 use crate::cases::show_answer;
 use crate::cases::show_sums;
-use crate::text::name_length;
-use crate::text::put_hex;
 use libc::STDOUT_FILENO;
+use typed::name_length;
+use typed::put_hex;
 ghost use Prim.Native.Nat.{_≤_};
 
 pub fn all() {

@@ -1,8 +1,8 @@
 // The weighted rating beside the rating, on the same file and sheet.
-use crate::cases::show_number;
-use crate::text::put_hex;
 use libc::STDOUT_FILENO;
 use network::RateAnswer;
+use typed::put_hex;
+use typed::show::show_number;
 
 pub fn all() {
     paper();

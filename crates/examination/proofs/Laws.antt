@@ -2,3 +2,4 @@
 pub mod Bytes
 pub mod Chosen
 pub mod Places
+pub mod Refusals

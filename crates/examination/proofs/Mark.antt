@@ -7,6 +7,10 @@ use mathlib.Core.List.{List}
 use mathlib.Core.Logic.{_⊎_, inl, inr, ⊎-elim}
 use native.Mathlib.Omega.{arith}
 use borrow.Author.Tests.{eqb-true, eqb-false, eq-eqb}
+use borrow.Fn.World.{ArgsD, ResD}
+use borrow.Fn.Kinds.{endedOf}
+use contract.Lifetimes.{Lfts}
+use denote.Triple.Clauses.{AtExit}
 use lib.Dec.{eqb}
 use lib.IntN.{ℤ}
 use lib.ListN.{length}
@@ -20,12 +24,20 @@ use Rattle.network.proofs.Laws.Lists.{zero-ne-one}
 use Rattle.search.specs.Search.{SearchOutcome, finished, stopped, stoppedWithNone, searchOutcome, startRowAfter}
 use Rattle.search.specs.Search as search
 use Rattle.search.proofs.Demand3.{Searches, finished-has-its-rating, finished-fills-the-row, finished-is-best}
-use Rattle.examination.specs.Sheets.{MarkOutcome, decided, undecided, refusal, fits, marked, markOutcome}
+use Rattle.examination.proofs.marking.mark as mark
+use Rattle.examination.proofs.marking.mark.Kinds as kinds
+use Rattle.examination.proofs.marking.mark.Reads as mark-contract
+use Rattle.examination.specs.Sheets.{MarkOutcome, markAnswer, decided, undecided, refusal, fits, marked, markOutcome}
 
 -- A mark call by its contract
 pub record Marks (file : List ℕ) (sheet : List ℤ) (budget : ℕ) (answer : MarkOutcome) : Type 0 where
   pub bytes : IsBytes file
   pub answered : answer ≡ markOutcome (readFile file) sheet budget
+
+-- What the contract in src/marking.rt says is this record
+pub marks-by-contract : (κs : Lfts 2) (a : ArgsD mark.signature κs) (r : ResD mark.signature κs) (s : AtExit (endedOf 2 kinds.ps kinds.r) κs)
+    → IsBytes (a .0 .now) → mark-contract.Post κs a r s → Marks (a .0 .now) (a .1 .0 .now) (a .1 .1 .0) (markAnswer r)
+marks-by-contract κs a r s bytes post = record { bytes = bytes; answered = post }
 
 -- What a decided mark tells of the sheet and of the search
 record Told (n : Net) (sheet : List ℤ) (budget least sum bestLeast bestSum : ℕ) (equal : Bool) (tries : ℕ) : Type 0 where
@@ -106,9 +118,9 @@ module _ {file : List ℕ} {sheet : List ℤ} {budget : ℕ} {answer : MarkOutco
       → (starts : List ℤ) × (length starts ≡ length (n .periods)) × IsRating n starts bestLeast bestSum
       × ((least < bestLeast) ⊎ ((least ≡ bestLeast) × (sum < bestSum)))
   unequal-is-beaten e = (
-      startRowAfter (readFile file) budget sheet,
-      finished-fills-the-row searches reads ended,
-      finished-has-its-rating searches reads ended,
-      below-or-equal least sum bestLeast bestSum (told .compared ∙ e)
-          (finished-is-best searches reads ended sheet (told .fit) sheet-has-its-rating),
-    )
+    startRowAfter (readFile file) budget sheet,
+    finished-fills-the-row searches reads ended,
+    finished-has-its-rating searches reads ended,
+    below-or-equal least sum bestLeast bestSum (told .compared ∙ e)
+        (finished-is-best searches reads ended sheet (told .fit) sheet-has-its-rating),
+  )

@@ -8,7 +8,7 @@ use lib.IntN.{ℤ, pos, _-ℤ_}
 use lib.ListN.{length}
 use Rattle.network.specs.Lists.{pick}
 use Rattle.network.specs.Network.{Net}
-use Rattle.network.specs.Rating.{rating, isAbove}
+use Rattle.network.specs.Rating.{rating}
 use Rattle.network.specs.Reading.{Reading, accepted, refused}
 use Rattle.examination.specs.Sheets.{Better, neither, betterBy}
 
@@ -37,4 +37,4 @@ byBytes call refuses (accepted n) bytes = pick (bytesFit n bytes) (call (accepte
 unfoldable pub betterBytes : Reading → List ℕ → List ℕ → Better
 betterBytes (refused number place) one other = neither
 betterBytes (accepted n) one other =
-    betterBy (bytesFit n one) (bytesFit n other) (isAbove (rating n (starts other)) (rating n (starts one)))
+    betterBy (bytesFit n one) (bytesFit n other) (rating n (starts one)) (rating n (starts other))

@@ -5,6 +5,7 @@ use mathlib.Core.List.{List}
 use lib.Dec.{eqb}
 use lib.IntN.{ℤ}
 use lib.ListN.{length}
+use Rattle.network.specs.declared.Rating.{Rating}
 use Rattle.network.specs.Lists.{pick}
 use Rattle.network.specs.Network.{Net}
 use Rattle.network.specs.Rating.{rating, isAbove}
@@ -34,19 +35,18 @@ choiceOf choice.Neither = neither
 unfoldable pub fits : Net → List ℤ → Bool
 fits n sheet = eqb (length sheet) (length (n .periods))
 
--- By whether the first fits, whether the second fits, and whether the second's rating is above the first's: the better; the first if equal;
--- a sheet of the wrong length loses to one that fits; none if neither fits
-unfoldable pub betterBy : Bool → Bool → Bool → Better
-betterBy true true true = second
-betterBy true true false = first
-betterBy true false above = first
-betterBy false true above = second
-betterBy false false above = neither
+-- By whether each of them fits, and by their ratings: the better; the first if equal; a sheet of the wrong length loses to one that fits; none
+-- if neither fits
+unfoldable pub betterBy : Bool → Bool → Rating → Rating → Better
+betterBy true true one other = pick (isAbove other one) second first
+betterBy true false one other = first
+betterBy false true one other = second
+betterBy false false one other = neither
 
 -- Which of two sheets is the better on a file; none if the file is refused
 unfoldable pub betterOf : Reading → List ℤ → List ℤ → Better
 betterOf (refused number place) one other = neither
-betterOf (accepted n) one other = betterBy (fits n one) (fits n other) (isAbove (rating n other) (rating n one))
+betterOf (accepted n) one other = betterBy (fits n one) (fits n other) (rating n one) (rating n other)
 
 -- ---- Mark
 

@@ -1,8 +1,10 @@
 // One case: a file and a sheet are given to the rate call, and a line says what it answers.
-use crate::large::large_file;
-use crate::text::put_hex;
 use libc::STDOUT_FILENO;
 use network::RateAnswer;
+use typed::large::large_file;
+use typed::put_hex;
+use typed::show::show_number;
+use typed::show::show_refusal;
 ghost use Prim.Native.Nat.{_<_, _≤_};
 
 // A case: its name, a file of at most 64 bytes in hexadecimal, as the paper writes files, and the starts of its sheet.
@@ -16,7 +18,7 @@ pub fn case(name: &[u8], text: &[u8], sheet: &[i32]) {
 pub fn large_case(name: &[u8], lines: usize, period: u16, calls: usize, sheet: &[i32])
     requires { ⌜ (0 < lines) × (lines ≤ 16) × (calls ≤ 256) ⌝ }
 {
-    let mut file = large_file(lines, period);
+    let mut file = large_file(lines, lines, period);
     let end = put_hex(b"45", &mut file, 3 * lines + 5 * calls);
     show(name, &file[..end], sheet);
 }
@@ -32,17 +34,8 @@ fn show(name: &[u8], file: &[u8], sheet: &[i32]) {
             show_number(sum as u64);
         }
         RateAnswer::Refused { number, place } => {
-            io::write_all(STDOUT_FILENO, b": refused");
-            show_number(number as u64);
-            io::write_all(STDOUT_FILENO, b" at");
-            show_number(place as u64);
+            show_refusal(number, place);
         }
     }
     io::write_all(STDOUT_FILENO, b"\n");
-}
-
-// A space and a number.
-fn show_number(number: u64) {
-    io::write_all(STDOUT_FILENO, b" ");
-    io::print_decimal(STDOUT_FILENO, number);
 }

@@ -4,12 +4,10 @@
 // the difference of two arrivals reduced to 0..g-1.
 mod cases;
 mod extremes;
-mod large;
 mod mistakes;
 mod paper;
 mod periods;
 mod refusals;
-mod text;
 
 fn main() {
     paper::all();

@@ -1,9 +1,11 @@
 // One case: a file is given to the reader, and a line says what it answers.
-use crate::large::large_file;
-use crate::text::name_length;
-use crate::text::put_hex;
 use libc::STDOUT_FILENO;
 use network::ReadAnswer;
+use typed::large::large_file;
+use typed::name_length;
+use typed::put_hex;
+use typed::show::show_number;
+use typed::show::show_refusal;
 ghost use Prim.Native.Nat.{_<_, _≤_};
 
 // A case: its name, a colon, and a file of at most 64 bytes in hexadecimal, as the paper writes files.
@@ -19,7 +21,7 @@ pub fn large_case(text: &[u8], lines: usize, callers: usize, calls: usize)
     requires { ⌜ (lines ≤ 16) × (0 < callers) × (calls ≤ 256) ⌝ }
 {
     let colon = name_length(text);
-    let mut file = large_file(lines, callers);
+    let mut file = large_file(lines, callers, 60);
     let end = put_hex(&text[colon..], &mut file, 3 * lines + 5 * calls);
     show(&text[..colon], &file[..end]);
 }
@@ -47,17 +49,8 @@ pub fn show(name: &[u8], file: &[u8]) {
             show_number(cycle as u64);
         }
         ReadAnswer::Refused { number, place } => {
-            io::write_all(STDOUT_FILENO, b": refused");
-            show_number(number as u64);
-            io::write_all(STDOUT_FILENO, b" at");
-            show_number(place as u64);
+            show_refusal(number, place);
         }
     }
     io::write_all(STDOUT_FILENO, b"\n");
-}
-
-// A space and a number.
-fn show_number(number: u64) {
-    io::write_all(STDOUT_FILENO, b" ");
-    io::print_decimal(STDOUT_FILENO, number);
 }

@@ -4,11 +4,9 @@
 mod cases;
 mod edges;
 mod grounds;
-mod large;
 mod limits;
 mod pairs;
 mod tails;
-mod text;
 
 fn main() {
     edges::all();

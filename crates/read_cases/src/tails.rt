@@ -1,6 +1,6 @@
 // Long files.
 use crate::cases::show;
-use crate::text::put_hex;
+use typed::put_hex;
 
 pub fn all() {
     behind_the_end();

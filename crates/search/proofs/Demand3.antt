@@ -4,19 +4,35 @@ use Prim.Native.Nat.{ℕ, _+_, _≤_, _<_}
 use mathlib.Core.Path.{_≡_, sym, _∙_}
 use mathlib.Core.List.{List}
 use mathlib.Core.Logic.{_⊎_}
+use borrow.Fn.World.{ArgsD, ResD}
+use borrow.Fn.Kinds.{endedOf}
+use contract.Lifetimes.{Lfts}
+use denote.Triple.Clauses.{AtExit}
 use lib.IntN.{ℤ}
 use lib.ListN.{length, drop}
 use Rattle.network.specs.Network.{Net}
 use Rattle.network.specs.Valid.{IsBytes}
 use Rattle.network.specs.Rating.{IsRating, rating, ratingOver}
 use Rattle.network.specs.Reading.{Outcome, readFile, accepted}
-use Rattle.network.specs.Rate.{rateOutcome}
+use Rattle.network.specs.Rate.{rateAnswer, rateOutcome}
 use Rattle.network.specs.Classes.{classRow, weightRow, lowestStops}
-use Rattle.network.specs.ClassCall.{rowsFit, classOutcome, classRowAfter, weightRowAfter, weightedOutcome}
+use Rattle.network.specs.ClassCall.{rowsFit, classAnswer, classOutcome, classRowAfter, weightRowAfter, weightedOutcome}
 use Rattle.network.proofs.Laws.Valid.{accepted-valid}
 use Rattle.network.proofs.Laws.Classes.{lowest-rating}
 use Rattle.network.proofs.Laws.Weighted.{weighted-is-rate}
-use Rattle.search.specs.Search.{SearchOutcome, finished, searchOutcome, startRowAfter, triesBound, triesOf, productsFrom}
+use Rattle.search.specs.Search.{SearchOutcome, finished, searchAnswer, searchOutcome, startRowAfter, triesBound, triesOf, productsFrom}
+use Rattle.network.proofs.classes.classes as classes
+use Rattle.network.proofs.classes.classes.Kinds as classes-kinds
+use Rattle.network.proofs.classes.classes.Reads as classes-contract
+use Rattle.network.proofs.classes.weighted as weighted
+use Rattle.network.proofs.classes.weighted.Kinds as weighted-kinds
+use Rattle.network.proofs.classes.weighted.Reads as weighted-contract
+use Rattle.network.proofs.rate.rate as rate
+use Rattle.network.proofs.rate.rate.Kinds as rate-kinds
+use Rattle.network.proofs.rate.rate.Reads as rate-contract
+use Rattle.search.proofs.call.search as search
+use Rattle.search.proofs.call.search.Kinds as search-kinds
+use Rattle.search.proofs.call.search.Reads as search-contract
 use Rattle.search.proofs.Laws.Optimal.{outcome-rated, outcome-length, outcome-best, outcome-tries-le, outcome-finished, triesBound-products}
 
 -- A search call by its contract: what it answers, and what it leaves in the start row
@@ -24,6 +40,12 @@ pub record Searches (file : List ℕ) (row : List ℤ) (budget : ℕ) (answer : 
   pub bytes : IsBytes file
   pub answered : answer ≡ searchOutcome (readFile file) (length row) budget
   pub left : exit ≡ startRowAfter (readFile file) budget row
+
+-- .. which is what the contract in src/call.rt says
+pub searches-by-contract : (κs : Lfts 2) (a : ArgsD search.signature κs) (r : ResD search.signature κs)
+    (s : AtExit (endedOf 2 search-kinds.ps search-kinds.r) κs) → IsBytes (a .0 .now) → search-contract.Post κs a r s
+    → Searches (a .0 .now) (a .1 .0 .now) (a .1 .1 .0) (searchAnswer r) (s .1 .0 .now)
+searches-by-contract κs a r s bytes post = record { bytes = bytes; answered = post .0; left = post .1 }
 
 -- Any such call on an accepted file
 module _ {file : List ℕ} {row : List ℤ} {budget : ℕ} {answer : SearchOutcome} {exit : List ℤ}
@@ -67,6 +89,13 @@ pub record Classifies (file classes weights : List ℕ) (answer : Outcome) (clas
   pub class-row : classes′ ≡ classRowAfter (readFile file) classes weights
   pub weight-row : weights′ ≡ weightRowAfter (readFile file) classes weights
 
+-- .. which is what the contract in the network's src/classes.rt says
+pub classifies-by-contract : (κs : Lfts 3) (a : ArgsD classes.signature κs) (r : ResD classes.signature κs)
+    (s : AtExit (endedOf 3 classes-kinds.ps classes-kinds.r) κs) → IsBytes (a .0 .now) → classes-contract.Post κs a r s
+    → Classifies (a .0 .now) (a .1 .0 .now) (a .1 .1 .0 .now) (classAnswer r) (s .1 .0 .now) (s .1 .1 .0 .now)
+classifies-by-contract κs a r s bytes post =
+    record { bytes = bytes; answered = post .0; class-row = post .1 .0; weight-row = post .1 .1 }
+
 -- (5) Every choice of whole-number starts rates the same over the lowest stops alone, with their weights, as over all stops, lowest stops and
 -- weights being those in the rows that the class call fills
 pub lowest-stops-rate-alike : {file classes weights : List ℕ} {answer : Outcome} {classes′ weights′ : List ℕ}
@@ -76,6 +105,17 @@ pub lowest-stops-rate-alike : {file classes weights : List ℕ} {answer : Outcom
 unfolding classRowAfter weightRowAfter rowsFit
 lowest-stops-rate-alike {file} call {n} reads c w starts =
     rw (call .class-row, call .weight-row, reads, c, w) (lowest-rating n (accepted-valid file n (call .bytes) reads) starts)
+
+-- The weighted rating and rate by their contracts, in the network's src/classes.rt and src/rate.rt
+pub weighted-by-contract : (κs : Lfts 2) (a : ArgsD weighted.signature κs) (r : ResD weighted.signature κs)
+    (s : AtExit (endedOf 2 weighted-kinds.ps weighted-kinds.r) κs) → weighted-contract.Post κs a r s
+    → rateAnswer r ≡ weightedOutcome (readFile (a .0 .now)) (a .1 .0 .now)
+weighted-by-contract κs a r s post = post
+
+pub rate-by-contract : (κs : Lfts 2) (a : ArgsD rate.signature κs) (r : ResD rate.signature κs)
+    (s : AtExit (endedOf 2 rate-kinds.ps rate-kinds.r) κs) → rate-contract.Post κs a r s
+    → rateAnswer r ≡ rateOutcome (readFile (a .0 .now)) (a .1 .0 .now)
+rate-by-contract κs a r s post = post
 
 -- (6) On every file and sheet, accepted or refused, the weighted rating and rate answer alike
 pub weighted-answers-as-rate : (file : List ℕ) → IsBytes file → (sheet : List ℤ) {weighted rated : Outcome}

@@ -1,7 +1,10 @@
 // One case: a file, a start row and a budget are given to the search call, and a line says what it answers.
-use crate::text::put_hex;
 use libc::STDOUT_FILENO;
 use search::SearchAnswer;
+use typed::put_hex;
+use typed::show::show_number;
+use typed::show::show_refusal;
+use typed::show::show_row;
 
 // A case: its name, a file of at most 64 bytes in hexadecimal, as the paper writes files, what the start row holds before, and the
 // budget.
@@ -32,10 +35,7 @@ fn show(answer: SearchAnswer) {
             show_number(tries as u64);
         }
         SearchAnswer::Refused { number, place } => {
-            io::write_all(STDOUT_FILENO, b": refused");
-            show_number(number as u64);
-            io::write_all(STDOUT_FILENO, b" at");
-            show_number(place as u64);
+            show_refusal(number, place);
         }
     }
 }
@@ -45,23 +45,4 @@ fn show_best(least: u32, sum: u32, tries: u32) {
     show_number(sum as u64);
     io::write_all(STDOUT_FILENO, b", tries");
     show_number(tries as u64);
-}
-
-fn show_row(row: &[i32]) {
-    for i in 0..row.len() {
-        show_start(row[i]);
-    }
-}
-
-// A start of a row, none of which is negative here.
-fn show_start(start: i32) {
-    if 0 <= start {
-        show_number(start as u64);
-    }
-}
-
-// A space and a number.
-fn show_number(number: u64) {
-    io::write_all(STDOUT_FILENO, b" ");
-    io::print_decimal(STDOUT_FILENO, number);
 }

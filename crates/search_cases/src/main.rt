@@ -3,7 +3,6 @@
 mod cases;
 mod paper;
 mod refusals;
-mod text;
 
 fn main() {
     paper::all();

@@ -11,7 +11,7 @@ use lib.IntN.{ℤ, pos}
 use lib.ListN.{length, getD, replicate}
 use Rattle.network.specs.Lists.{pick}
 use Rattle.network.specs.Network.{Net, word}
-use Rattle.network.specs.Rating.{rating, isAbove}
+use Rattle.network.specs.Rating.{rating}
 use Rattle.network.specs.declared.Rating.{Rating}
 use Rattle.network.specs.Rate.{onSheet, ratingValues}
 use Rattle.network.specs.Reading.{Reading, accepted, refused, refusal, readFile}
@@ -138,8 +138,8 @@ mark-on-bytes budget =
     e)
 
 -- Better-of-two on the sheets that the bytes stand for is better-of-two on the bytes
-better-of-fit : (n : Net) (one other : List ℤ) (one′ other′ : List ℤ) (a b : Bool) → (a ≡ true → one ≡ one′) → (b ≡ true → other ≡ other′)
-    → betterBy a b (isAbove (rating n other) (rating n one)) ≡ betterBy a b (isAbove (rating n other′) (rating n one′))
+better-of-fit : (n : Net) (one other one′ other′ : List ℤ) (a b : Bool) → (a ≡ true → one ≡ one′) → (b ≡ true → other ≡ other′)
+    → betterBy a b (rating n one) (rating n other) ≡ betterBy a b (rating n one′) (rating n other′)
 unfolding betterBy
 better-of-fit n one other one′ other′ true true e f = rw (e refl, f refl) refl
 better-of-fit n one other one′ other′ true false e f = refl

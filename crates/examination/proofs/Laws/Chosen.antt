@@ -54,11 +54,6 @@ rating-some : (n : Net) (sheet : List ℤ) → rating n sheet .some ≡ true
 unfolding rating ratingOver
 rating-some n sheet = refl
 
-betterBy-fit : (b : Bool) → betterBy true true b ≡ pick b second first
-unfolding betterBy
-betterBy-fit true = refl
-betterBy-fit false = refl
-
 pub ratingOn-of-rate : (read : Reading) (sheet : List ℤ) (r : RateAnswer) → rateAnswer r ≡ rateOutcome read sheet
     → ratingFrom r ≡ ratingOn read sheet
 unfolding rateAnswer rateOutcome onSheet ratingFrom ratingOn fits ratingValues
@@ -82,11 +77,10 @@ unfolding betterOf betterBy betterFrom ratingOn isAbove
 betterOf-from (refused number place) one other = refl
 betterOf-from (accepted n) one other = go (fits n one) (fits n other)
   where
-    go : (a b : Bool) → betterBy a b (isAbove (rating n other) (rating n one))
+    go : (a b : Bool) → betterBy a b (rating n one) (rating n other)
         ≡ betterFrom (pick a (rating n one) noRating) (pick b (rating n other) noRating)
     go true true =
-        betterBy-fit (isAbove (rating n other) (rating n one))
-        ∙ ap (λ (b : Bool). pick (isAbove (rating n other) (rating n one)) second (pick b first neither)) (sym (rating-some n one))
+        ap (λ (b : Bool). pick (isAbove (rating n other) (rating n one)) second (pick b first neither)) (sym (rating-some n one))
     go true false = rw (rating-some n one) refl
     go false true = rw (rating-some n other) refl
     go false false = refl
