@@ -1,7 +1,7 @@
 -- How the search's code holds the network, a partial timetable and a walk: rows over the calls in line order, and what they stand for.
 use Prim.Native.Nat.{ℕ, suc, _+_, _*_, _<_, _≤_}
 use mathlib.Core.Path.{_≡_}
-use mathlib.Core.Bool.{true}
+use mathlib.Core.Bool.{true, false}
 use mathlib.Core.List.{List, [], _∷_, _++_, map}
 use lib.IntN.{ℤ, pos}
 use lib.ListN.{length, getD, take, drop}
@@ -10,6 +10,7 @@ use Rattle.network.specs.declared.Rating.{Rating}
 use Rattle.network.specs.Lists.{pick}
 use Rattle.network.specs.Divisor.{gcd}
 use Rattle.network.specs.Network.{Net, isServed, maxPeriod}
+use Rattle.network.specs.Rating.{isAbove}
 use Rattle.network.specs.Scan.{LeadsBack}
 use Rattle.network.specs.Valid.{Valid, noCall}
 use Rattle.search.specs.declared.Placed.{Placed}
@@ -66,6 +67,11 @@ pub record CanPlace (n : Net) (line start : ℕ) (p : Placed) : Type 0 where
 pub record PlacedMore (n : Net) (line start : ℕ) (p r : Placed) : Type 0 where
   pub one-more : Represents n (line + 1) r
   pub appended : startsOf (line + 1) (r .starts) ≡ startsOf line (p .starts) ++ (pos start ∷ [])
+
+-- Or it is given up: neither what it has come to nor its upper rating is above the best so far
+pub record GivenUp (n : Net) (line start : ℕ) (p : Placed) (best : Rating) (r : Placed) : Type 0 where
+  pub come-to : isAbove (record { some = true; least = r .least; sum = r .sum }) best ≡ false
+  pub upper : isAbove (upperRating n (cap n) (startsOf line (p .starts) ++ (pos start ∷ []))) best ≡ false
 
 -- A line can be tried: the lines before it are placed, and beside the rows stand the numbers of starts and the last line
 pub record CanTry (n : Net) (counts : List ℕ) (last line : ℕ) (p : Placed) : Type 0 where

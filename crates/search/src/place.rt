@@ -1,6 +1,9 @@
 // Placing a line: the upper values of its stops fall to the gaps of its pairs with lines placed before.
 use crate::Placed;
+use network::Rating;
+ghost use mathlib.Core.Logic.{_⊎_};
 ghost use mathlib.Core.Path.{_≡_};
+ghost use mathlib.Core.Bool.{true};
 ghost use mathlib.Core.List.{map};
 ghost use Prim.Native.Nat.{ℕ, _+_, _<_, _≤_};
 ghost use lib.IntN.{pos, _-ℤ_};
@@ -10,6 +13,7 @@ ghost use Rattle.network.specs.Rating.{gapOfCalls};
 ghost use Rattle.network.specs.Scan.{leastFrom, callsBefore};
 ghost use Rattle.network.specs.Valid.{noCall};
 ghost use Rattle.search.specs.Held as held;
+ghost use Rattle.search.specs.Search.{notAbove};
 
 // The gap of two arrivals by the divisor of their periods. An arrival is a start below 1,440 and an offset below 65,536.
 pub fn gap_by(divisor: u32, earlier: u32, later: u32) -> u32
@@ -56,7 +60,23 @@ pub fn lowered(
     least
 }
 
-// The partial timetable with one line more.
+// Whether an upper rating isn't above the best so far.
+pub fn falls_short(least: u32, sum: u32, best: Rating) -> bool
+    ensures { λ r. ⌜ r ≡ notAbove (record { some = true; least = least; sum = sum }) best ⌝ }
+{
+    let upper = Rating {
+        some: true,
+        least,
+        sum,
+    };
+    if upper.is_above(best) {
+        return false;
+    }
+    true
+}
+
+// The partial timetable with one line more. Values only fall, so where the rating isn't above the best so far after some of the line's
+// calls, it isn't after all of them, and the rest isn't looked at.
 pub fn place(
     stops: &[u8; 256],
     lines: &[u8; 256],
@@ -67,9 +87,10 @@ pub fn place(
     line: usize,
     start: u16,
     placed: Placed,
+    best: Rating,
 ) -> Placed
     requires { ⌜ ((l : held.Laid (now stops) (now lines) (now offsets) (now previous) (now divisors) (now first)) × held.CanPlace (l .linked .net) line start placed) ⌝ }
-    ensures { λ r. ⌜ ((l : held.Laid (now (stops .entry)) (now (lines .entry)) (now (offsets .entry)) (now (previous .entry)) (now (divisors .entry)) (now (first .entry))) → held.CanPlace (l .linked .net) line start placed → held.PlacedMore (l .linked .net) line start placed r) ⌝ }
+    ensures { λ r. ⌜ ((l : held.Laid (now (stops .entry)) (now (lines .entry)) (now (offsets .entry)) (now (previous .entry)) (now (divisors .entry)) (now (first .entry))) → held.CanPlace (l .linked .net) line start placed → held.PlacedMore (l .linked .net) line start placed r ⊎ held.GivenUp (l .linked .net) line start placed best r) ⌝ }
 {
     let begin = first[line] as usize;
     let end = first[line + 1] as usize;
@@ -77,6 +98,9 @@ pub fn place(
     next.starts[line] = start;
     let starts = next.starts;
     for i in begin..end {
+        if falls_short(next.least, next.sum, best) {
+            return next;
+        }
         let stop = stops[i] as usize;
         let old = next.values[stop];
         let value = lowered(lines, offsets, previous, divisors, &starts, i, old);

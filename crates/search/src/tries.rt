@@ -40,6 +40,7 @@ pub fn judge(
         return next;
     }
     next.tries = walk.tries + 1;
+    let best = walk.best;
     let tried = place(
         stops,
         lines,
@@ -50,13 +51,13 @@ pub fn judge(
         line,
         start,
         placed,
+        best,
     );
     let upper = Rating {
         some: true,
         least: tried.least,
         sum: tried.sum,
     };
-    let best = walk.best;
     if upper.is_above(best) {
         if line < last {
             return try_starts(

@@ -1,8 +1,8 @@
 -- Placing a line call by call: after each of its calls the values are those of the calls up to it, and the rating is the values'; before the
--- first call they are the partial timetable's, and after the last those of one line more. Assumes nothing.
+-- first call they are the partial timetable's, and after the last those of one line more. From call to call they only fall. Assumes nothing.
 use Prim.Native.Nat.{ℕ, suc, _+_, _-_, _<_, _≤_, min}
-use mathlib.Core.Path.{_≡_, refl, sym, ap, ap₂, fun-ext, _∙_}
-use mathlib.Core.Bool.{true}
+use mathlib.Core.Path.{_≡_, refl, sym, ap, ap₂, subst, fun-ext, _∙_}
+use mathlib.Core.Bool.{true, false}
 use mathlib.Core.List.{List, [], _∷_, _++_, map, map-append}
 use borrow.Author.Tests.{eq-eqb}
 use native.Mathlib.Decide.{ℕ-discrete}
@@ -15,7 +15,7 @@ use lib.Seq.{getD-set-same, getD-set-other, getD-take, length-take-le, take-leng
 use Rattle.network.specs.declared.Call.{Call}
 use Rattle.network.specs.declared.Rating.{Rating}
 use Rattle.network.specs.Network.{Net, isServed, maxPeriod}
-use Rattle.network.specs.Rating.{gapOfCalls, eachOnce, servedList}
+use Rattle.network.specs.Rating.{gapOfCalls, eachOnce, servedList, isAbove}
 use Rattle.network.specs.Scan.{leastFrom, callsBefore, ratingOfGaps}
 use Rattle.network.specs.Valid.{Valid, noCall}
 use Rattle.network.proofs.Laws.Lists.{take-set-next, any-take-found}
@@ -24,9 +24,11 @@ use Rattle.search.specs.declared.Placed.{Placed}
 use Rattle.search.specs.Caps.{cap, upperValue, upperRating}
 use Rattle.search.specs.Layout.{byLine, valueAfter}
 use Rattle.search.specs.Held.{startsOf, Represents}
-use Rattle.search.proofs.Laws.Layout.{byLine-line-lt, length-byLine-all}
+use Rattle.search.proofs.Laws.Layout.{byLine-line-lt, length-byLine-all, length-byLine-le}
 use Rattle.search.proofs.Laws.Linked.{byLine-all}
-use Rattle.search.proofs.Laws.Values.{value-hit, value-miss, value-placed, value-local}
+use Rattle.search.proofs.Laws.Values.{value-hit, value-miss, value-falls, value-placed, value-local}
+use Rattle.search.proofs.Laws.Upper.{ratingOfGaps-not-above}
+use Rattle.search.proofs.Laws.Walk.{not-above-transitive}
 use Rattle.search.proofs.Laws.Lowered.{value-le-sum, rating-lowered}
 
 -- The calls in the order of their lines
@@ -183,6 +185,47 @@ lowering-last n valid line starts values least sum h row low now =
     same : (stop : ℕ) → upperValue n (cap n) (startsOf (line + 1) starts) stop
         ≡ valueAfter n (cap n) (map pos starts) (inOrder n) (length (byLine (n .calls) (line + 1))) stop
     same = value-of-prefix n valid (line + 1) starts starts (omega arith) (omega (arith, row, valid .lines)) (λ j b. refl)
+
+-- What is not above a rating after some of a line's calls is not above it after all of them
+pub given-up :
+    (n : Net) → Valid n → (line start : ℕ) (p : Placed)
+    → line < length (n .periods)
+    → Represents n line p
+    → (values : List ℕ) (least sum i : ℕ)
+    → Lowering n (map pos (set (p .starts) line start)) values least sum i
+    → i ≤ length (byLine (n .calls) (line + 1))
+    → (best : Rating)
+    → isAbove (record { some = true; least = least; sum = sum }) best ≡ false
+    → isAbove (upperRating n (cap n) (startsOf line (p .starts) ++ (pos start ∷ []))) best ≡ false
+unfolding upperRating
+given-up n valid line start p h rep values least sum i now l best short =
+    not-above-transitive _ _ best
+    (ap₂ isAbove at-end (now .rating-of) ∙ ratingOfGaps-not-above (after end) (after i) falls (eachOnce (servedList n)))
+    short
+  where
+    starts : List ℕ
+    starts = set (p .starts) line start
+
+    end : ℕ
+    end = length (byLine (n .calls) (line + 1))
+
+    after : ℕ → ℕ → ℕ
+    after = valueAfter n (cap n) (map pos starts) (inOrder n)
+
+    in-row : line < length (p .starts)
+    in-row = omega (arith, rep .starts-row, valid .lines)
+
+    at-end : upperRating n (cap n) (startsOf line (p .starts) ++ (pos start ∷ [])) ≡ ratingOfGaps (after end) (eachOnce (servedList n))
+    at-end =
+        ap (upperRating n (cap n)) (sym (startsOf-next (p .starts) line start in-row))
+        ∙ ap (λ f. ratingOfGaps f (eachOnce (servedList n)))
+        (fun-ext (value-of-prefix n valid (line + 1) starts starts (omega arith) (omega (arith, in-row, length-set (p .starts) line start)) (λ j b. refl)))
+
+    falls : (stop : ℕ) → after end stop ≤ after i stop
+    falls stop =
+        subst (λ (j : ℕ). after j stop ≤ after i stop) (omega arith)
+        (value-falls n (cap n) (map pos starts) (inOrder n) stop i (end - i)
+        (omega (arith, length-byLine-le (n .calls) (line + 1), length-byLine-all (n .calls) (length (n .periods)) (valid .call-line))))
 
 -- ---- facts of the calls in line order
 

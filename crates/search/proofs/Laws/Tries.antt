@@ -4,6 +4,7 @@ use Prim.Native.Nat.{ℕ, zero, suc, _+_, _-_, _<_, _≤_}
 use mathlib.Core.Path.{_≡_, refl, sym, ap, subst, _∙_}
 use mathlib.Core.Bool.{Bool, true, false, not}
 use mathlib.Core.List.{List, [], _∷_, _++_}
+use mathlib.Core.Logic.{_⊎_, inl, inr}
 use borrow.Author.Tests.{eq-eqb, ne-eqb}
 use native.Mathlib.Numerals.{add-one}
 use native.Mathlib.Omega.{arith}
@@ -15,11 +16,12 @@ use Rattle.network.specs.Lists.{pick}
 use Rattle.network.specs.Network.{Net, maxPeriod}
 use Rattle.network.specs.Rating.{isAbove}
 use Rattle.network.specs.Valid.{Valid}
+use Rattle.network.proofs.Laws.Lists.{zero-ne-one}
 use Rattle.search.specs.declared.Walk as code
 use Rattle.search.specs.Caps.{cap, upperRating}
 use Rattle.search.specs.Walk.{State, counted, stop, becomesBest, unless, stopIf, oneTry, eachStart, walk}
 use Rattle.search.specs.Search.{startCounts, notAbove}
-use Rattle.search.specs.Held.{startsOf, stateOf, walkFrom, tryAt, CanTry, CanPlace, PlacedMore}
+use Rattle.search.specs.Held.{startsOf, stateOf, walkFrom, tryAt, CanTry, CanPlace, PlacedMore, GivenUp}
 use Rattle.search.specs.declared.Placed.{Placed}
 use Rattle.search.proofs.Laws.Walk.{eachStart-split, eachStart-one}
 
@@ -178,6 +180,23 @@ module _ {n : Net} {counts : List ℕ} {last line : ℕ} {p : Placed} (can : Can
         ∙ try-best n budget line (startsOf line (p .starts)) start w e b (above f) (omega (arith, l, can .last-of, can .stated)) (r .starts)
         (subst (λ (k : ℕ). startsOf k (r .starts) ≡ together) (add-one line) (more-placed .appended))
         (ap (λ (u : Rating). u .some) (sym made-is))
+
+-- ---- the same where a placing may have been given up
+
+module _ {n : Net} {counts : List ℕ} {last line : ℕ} {p : Placed} (can : CanTry n counts last line p) {start : ℕ} {r : Placed} where
+  -- a placing above the best was not
+  pub placed-of-above : {best : Rating} → PlacedMore n line start p r ⊎ GivenUp n line start p best r
+      → isAbove (record { some = true; least = r .least; sum = r .sum }) best ≡ true → PlacedMore n line start p r
+  placed-of-above (inl more-placed) e = more-placed
+  placed-of-above (inr given-up) e = absurd (zero-ne-one (cc (given-up .come-to)))
+
+  pub dropped-or-given-up : (budget : ℕ) (w : code.Walk) → w .stopped ≡ false → (w .tries ≡ budget → ⊥)
+      → PlacedMore n line start p r ⊎ GivenUp n line start p (w .best) r
+      → isAbove (record { some = true; least = r .least; sum = r .sum }) (w .best) ≡ false
+      → stateOf n (record { tries = w .tries + 1; stopped = w .stopped; best = w .best; starts = w .starts })
+      ≡ tryAt n budget line (startsOf line (p .starts)) start (stateOf n w)
+  dropped-or-given-up budget w e b (inl more-placed) f = judged-dropped can more-placed budget w e b f
+  dropped-or-given-up budget w e b (inr given-up) f = try-dropped n budget line (startsOf line (p .starts)) start w e b (given-up .upper)
 
 -- ---- a line's starts in two halves
 

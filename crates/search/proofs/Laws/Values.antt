@@ -1,12 +1,12 @@
 -- The upper value of a stop, call by call: one more call at it adds its gaps to those before, the calls of the placed lines make it the
 -- upper value of document 01, and of the starts only theirs count. It is the least of the cap and the gaps of all pairs, which is the
 -- same in whatever order the calls are listed. Assumes nothing.
-use Prim.Native.Nat.{ℕ, _+_, _≤_, _<_, min}
-use mathlib.Core.Path.{_≡_, refl, sym, ap, ap₂, _∙_}
+use Prim.Native.Nat.{ℕ, zero, suc, _+_, _≤_, _<_, min}
+use mathlib.Core.Path.{_≡_, refl, sym, ap, ap₂, subst, _∙_}
 use mathlib.Core.Bool.{Bool, true, false}
 use mathlib.Core.List.{List, [], _∷_, map, List·Permᴰ, Permᴰ·symm}
-use native.Mathlib.Nat.{min-comm}
-use native.Mathlib.Decide.{decLt}
+use native.Mathlib.Nat.{add-zero, le-trans, min-comm}
+use native.Mathlib.Decide.{decLt, ℕ-discrete}
 use native.Mathlib.Omega.{arith}
 use lib.Dec.{eqb, ltb}
 use lib.IntN.{ℤ, pos, _+ℤ_}
@@ -21,7 +21,7 @@ use Rattle.network.specs.Rating.{arrivalOf, periodOf, gapOfCalls, pairGaps, gap
 use Rattle.network.specs.Scan.{callsBefore, leastFrom}
 use Rattle.network.proofs.Laws.Gaps.{All, gapOfStop-cong, gapOfStop-permuted, callsOfStop-period-pos}
 use Rattle.network.proofs.Laws.Gaps.{length-permuted, keep-permuted}
-use Rattle.network.proofs.Laws.Gaps.{keep-all, callsBefore-hit, callsBefore-miss, leastFrom-min, leastOf-leastFrom as leastOf-cons, pairGaps-snoc}
+use Rattle.network.proofs.Laws.Gaps.{keep-all, callsBefore-hit, callsBefore-miss, leastFrom-le, leastFrom-min, leastOf-leastFrom as leastOf-cons, pairGaps-snoc}
 use Rattle.search.specs.Caps.{placedCalls, upperValue}
 use Rattle.search.specs.Layout.{byLine, valueAfter}
 use Rattle.search.proofs.Laws.Layout.{byLine-permuted, byLine-prefix}
@@ -43,6 +43,23 @@ module _ (n : Net) (caps : ℕ → ℕ) (starts : List ℤ) (calls : List Call) 
       (getD calls i noCall .stop ≡ stop → ⊥) → valueAfter n caps starts calls (i + 1) stop ≡ valueAfter n caps starts calls i stop
   unfolding valueAfter
   value-miss f = ap (λ cs. leastFrom (caps stop) (pairGaps n starts cs)) (callsBefore-miss stop calls i stated f)
+
+-- Values only fall
+module _ (n : Net) (caps : ℕ → ℕ) (starts : List ℤ) (calls : List Call) (stop : ℕ) where
+  value-falls-once : (i : ℕ) → i < length calls → valueAfter n caps starts calls (i + 1) stop ≤ valueAfter n caps starts calls i stop
+  value-falls-once i h = go (ℕ-discrete (getD calls i noCall .stop) stop)
+    where
+      go : Dec (getD calls i noCall .stop ≡ stop) → valueAfter n caps starts calls (i + 1) stop ≤ valueAfter n caps starts calls i stop
+      go (yes e) = rw (value-hit n caps starts calls i h stop e) (leastFrom-le _ _)
+      go (no f) = omega (arith, value-miss n caps starts calls i h stop f)
+
+  pub value-falls : (i more : ℕ) → i + more ≤ length calls → valueAfter n caps starts calls (i + more) stop ≤ valueAfter n caps starts calls i stop
+  value-falls i zero h = rw add-zero (omega arith)
+  value-falls i (suc more) h =
+      le-trans
+      (subst (λ (j : ℕ). valueAfter n caps starts calls j stop ≤ valueAfter n caps starts calls (i + more) stop) (omega arith)
+      (value-falls-once (i + more) (omega arith)))
+      (value-falls i more (omega arith))
 
 -- ---- the gaps of pairs beside a number
 

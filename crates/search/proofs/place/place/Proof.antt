@@ -3,19 +3,21 @@
 use Prim.Native.Nat.{ℕ, _+_, _-_, _<_, _≤_, min}
 use mathlib.Core.Path.{_≡_, refl, sym, ap, subst, _∙_}
 use mathlib.Core.List.{List, _∷_, [], map}
-use mathlib.Core.Logic.{⊎-elim}
+use mathlib.Core.Logic.{⊎-elim, inl, inr}
 use native.Mathlib.Nat.{le-antisymm}
 use native.Mathlib.Omega.{arith}
 use lib.IntN.{ℤ, pos}
 use lib.ListN.{length, getD, set, length-set}
 use borrow.Author.Needs.{needs}
-use mathlib.Core.Bool.{true}
+use borrow.Author.Tests.{not-true}
+use mathlib.Core.Bool.{true, false}
 use Rattle.network.specs.Network.{Net, isServed, maxPeriod}
-use Rattle.network.specs.Rating.{gapOfCalls}
+use Rattle.network.specs.Rating.{gapOfCalls, isAbove}
 use Rattle.network.specs.Scan.{leastFrom, callsBefore}
 use Rattle.network.specs.Valid.{noCall}
 use Rattle.search.specs.declared.Placed.{Placed}
 use Rattle.search.specs.Layout.{byLine}
+use Rattle.search.specs.Search.{notAbove}
 use Rattle.search.specs.Held.{Laid, Linked, callsIn, CanPlace, PlacedMore, startsOf, Represents}
 use Rattle.search.proofs.Laws.Layout.{length-byLine-le}
 use Rattle.search.proofs.Laws.Placing.{length-byLine-grows}
@@ -25,6 +27,7 @@ use Rattle.search.proofs.Laws.Placing.{
   lowering-first,
   lowering-next,
   lowering-last,
+  given-up,
   startsOf-next,
   stop-served,
   set-low,
@@ -35,10 +38,11 @@ use Rattle.search.proofs.place.place.Statement.{statement}
 use Rattle.search.proofs.place.place.Tie as tie
 use Rattle.search.proofs.place.place.Reads as reads
 use Rattle.search.proofs.place.place.Lts as lts
+use Rattle.search.proofs.place.falls_short.Reads as falls-short-reads
 use Rattle.search.proofs.place.lowered.Reads as lowered-reads
 
 abbrev Inv-loop : tie.InvT-loop
-Inv-loop stops lines offsets previous divisors first line start begin end next₀ starts i₀ next i =
+Inv-loop stops lines offsets previous divisors first line start best begin end next₀ starts i₀ next i =
     (i ≤ end)
     × (next .starts ≡ starts)
     × ((l : Laid stops lines offsets previous divisors first)
@@ -47,7 +51,7 @@ Inv-loop stops lines offsets previous divisors first line start begin end next�
     → Lowering (l .linked .net) (map pos starts) (next .values) (next .least) (next .sum) i)
 
 abbrev μ-loop : tie.MeasureT-loop
-μ-loop stops lines offsets previous divisors first line start begin end next₀ starts i₀ next i = end - i
+μ-loop stops lines offsets previous divisors first line start best begin end next₀ starts i₀ next i = end - i
 
 -- At the start: the network that is known to be held, and what begins the loop for any other
 module _ (s : tie.Start Inv-loop μ-loop) where
@@ -139,7 +143,7 @@ module _ (t : tie.In-loop Inv-loop μ-loop) where
 -- Where the value is known: it is the least of what it was and the gaps of this call
 module _ (c : tie.After-lowered Inv-loop μ-loop) where
   abbrev turn : tie.In-loop Inv-loop μ-loop
-  turn = c .before .before .before .before
+  turn = c .before .before .before .before .before .before
 
   known-old-le-sum : getD (next turn .values) (stop turn) 0 ≤ next turn .sum
   known-old-le-sum =
@@ -215,26 +219,47 @@ element-write-next c = line-low (c .before .before)
 loop-holds : tie.Need-loop-holds Inv-loop μ-loop
 loop-holds c = let s = c .before .before .before in (begin-end s, refl, λ l begun stated. begun)
 
+falls-short-requires : tie.Need-falls-short-requires Inv-loop μ-loop
+falls-short-requires c κs = tt
+
+-- given up
+returns : tie.Need-returns Inv-loop μ-loop
+unfolding notAbove
+returns c l can' =
+    let t = c .before .before in
+    let s = start t in
+    let short : isAbove (record { some = true; least = next t .least; sum = next t .sum }) (s .args .best) ≡ false =
+    not-true _ (sym (c .before .falls-short .ensures) ∙ c .if1 .taken) in
+    inr (record {
+      come-to = short;
+      upper =
+          given-up (l .linked .net) (l .linked .valid) (s .args .line) (s .args .start) (s .args .placed) (can' .stated) (can' .before) (next t .values)
+          (next t .least) (next t .sum) (i t)
+          (now t l (begins s l can') (can' .stated))
+          (omega (arith, t .before .loop .inv .0, l .first-of (s .args .line + 1) (omega (arith, can' .stated))))
+          (s .args .best) short;
+    })
+
 -- src/place.rt:80:20
 element-copy-out-stop : tie.Need-element-copy-out-stop Inv-loop μ-loop
-element-copy-out-stop c = small c
+element-copy-out-stop c = small (c .before .before)
 
 -- src/place.rt:80:20
 cast-stop : tie.Need-cast-stop Inv-loop μ-loop
-cast-stop c = omega (arith, known-low (c .before))
+cast-stop c = omega (arith, known-low (c .before .before .before))
 
 -- src/place.rt:81:19
 mul-old : tie.Need-mul-old Inv-loop μ-loop
-mul-old c = omega (arith, known-low (c .before))
+mul-old c = omega (arith, known-low (c .before .before .before))
 
 -- src/place.rt:81:19
 element-copy-out-old : tie.Need-element-copy-out-old Inv-loop μ-loop
-element-copy-out-old c = known-low (c .before)
+element-copy-out-old c = known-low (c .before .before .before)
 
 -- src/place.rt:82:13
 lowered-requires : tie.Need-lowered-requires Inv-loop μ-loop
 lowered-requires c κs =
-    let t = c .before .before .before in
+    let t = c .before .before .before .before .before in
     let s = start t in (
       (rows s .linked, known-in-file t),
       set-low (s .args .placed .starts) (s .args .line) (s .args .start) (can s .before .starts-row) (line-low s) (can s .start-low) (can s .before .starts-low),
@@ -242,11 +267,11 @@ lowered-requires c κs =
 
 -- src/place.rt:83:9
 mul-next-2 : tie.Need-mul-next-2 Inv-loop μ-loop
-mul-next-2 c = omega (arith, known-low (c .before .before .before .before))
+mul-next-2 c = omega (arith, known-low (turn c))
 
 -- src/place.rt:83:9
 element-write-next-2 : tie.Need-element-write-next-2 Inv-loop μ-loop
-element-write-next-2 c = known-low (c .before .before .before .before)
+element-write-next-2 c = known-low (turn c)
 
 -- src/place.rt:84:31
 cast-next : tie.Need-cast-next Inv-loop μ-loop
@@ -265,8 +290,8 @@ sub-next : tie.Need-sub-next Inv-loop μ-loop
 sub-next c = omega (arith, known-old-le-sum c)
 
 -- src/place.rt:85:13
-cast-if1 : tie.Need-cast-if1 Inv-loop μ-loop
-cast-if1 c = search needs
+cast-if2 : tie.Need-cast-if2 Inv-loop μ-loop
+cast-if2 c = search needs
 
 -- src/place.rt:86:26
 cast-next-3 : tie.Need-cast-next-3 Inv-loop μ-loop
@@ -274,19 +299,19 @@ cast-next-3 c = search needs
 
 -- src/place.rt:79:9
 add-i : tie.Need-add-i Inv-loop μ-loop
-add-i c = omega (arith, small (c .before .before .before .before .before))
+add-i c = omega (arith, small (turn (c .before)))
 
 -- src/place.rt:79:5
 loop-less : tie.Need-loop-less Inv-loop μ-loop
-loop-less c = omega (arith, (c .before .before .before .before .before) .loop-test .taken)
+loop-less c = omega (arith, turn (c .before) .loop-test .taken)
 
 -- src/place.rt:79:5
 loop-again : tie.Need-loop-again Inv-loop μ-loop
 loop-again c =
-    let t = c .before .before .before .before .before in
+    let t = turn (c .before) in
     let a = c .before in (
       omega (arith, t .loop-test .taken),
-      ⊎-elim (λ w. ap (λ (p : Placed). p .starts) (w .1) ∙ t .before .loop .inv .1) (λ w. ap (λ (p : Placed). p .starts) (w .1) ∙ t .before .loop .inv .1) (c .if1 .came),
+      ⊎-elim (λ w. ap (λ (p : Placed). p .starts) (w .1) ∙ t .before .loop .inv .1) (λ w. ap (λ (p : Placed). p .starts) (w .1) ∙ t .before .loop .inv .1) (c .if2 .came),
       λ l begun stated.
           let here' = lowered-here a l begun stated in
           ⊎-elim
@@ -298,19 +323,19 @@ loop-again c =
           rw (w .1)
           (subst (λ (v : ℕ). Lowering (l .linked .net) (map pos (starts (start t))) (set (next t .values) (stop t) (a .lowered .result)) v
           (next t .sum + a .lowered .result - getD (next t .values) (stop t) 0) (i t + 1)) (omega (arith, w .0 .left)) here'))
-          (c .if1 .came),
+          (c .if2 .came),
     )
 
 -- src/place.rt:60:1
-returns : tie.Need-returns Inv-loop μ-loop
-returns c l can' =
+returns-2 : tie.Need-returns-2 Inv-loop μ-loop
+returns-2 c l can' =
     let s = c .before .before .before .before .before in
     let p = c .before .loop in
     let last : p .i ≡ length (byLine (l .linked .net .calls) (s .args .line + 1)) =
     le-antisymm (p .inv .0) (c .loop-test .left) ∙ l .first-of (s .args .line + 1) (omega (arith, can' .stated)) in
     let end = subst (Lowering (l .linked .net) (map pos (starts s)) (p .next .values) (p .next .least) (p .next .sum)) last
     (p .inv .2 l (begins s l can') (can' .stated)) in
-    record {
+    inl (record {
       one-more =
           subst (λ (st : List ℕ). Represents (l .linked .net) (s .args .line + 1) (record { starts = st; values = p .next .values; least = p .next .least; sum = p .next .sum }))
           (sym (p .inv .1))
@@ -321,7 +346,7 @@ returns c l can' =
       appended =
           ap (startsOf (s .args .line + 1)) (p .inv .1)
           ∙ startsOf-next (s .args .placed .starts) (s .args .line) (s .args .start) (omega (arith, can' .before .starts-row, line-low s));
-    }
+    })
 
 pub place-spec : {M : Type 1} → statement M
 place-spec =
@@ -339,6 +364,8 @@ place-spec =
     mul-next
     element-write-next
     loop-holds
+    falls-short-requires
+    returns
     element-copy-out-stop
     cast-stop
     mul-old
@@ -350,9 +377,9 @@ place-spec =
     add-next
     cast-next-2
     sub-next
-    cast-if1
+    cast-if2
     cast-next-3
     add-i
     loop-less
     loop-again
-    returns)
+    returns-2)

@@ -7,7 +7,8 @@ use Rattle.search.proofs.Laws.Tries.{
   try-at-budget,
   can-place,
   can-try-next,
-  judged-dropped,
+  placed-of-above,
+  dropped-or-given-up,
   judged-next,
   judged-best,
   halves,
@@ -92,7 +93,7 @@ judge-place-requires : (t : ℕ) → judge-lts.Need-place-requires (
   try-starts-below t,
   try-starts.Post,
 ) (judge-at t) judge.Post
-judge-place-requires t c κs = (c .before .before .before .before .pre .1 .0 .0, can-place (c .before .before .before .before .pre .1 .0 .1) _ (c .before .before .before .before .pre .1 .1 .0))
+judge-place-requires t c κs = let s = c .before .before .before .before .before in (s .pre .1 .0 .0, can-place (s .pre .1 .0 .1) _ (s .pre .1 .1 .0))
 
 -- src/tries.rt:60:8
 judge-is-above-requires : (t : ℕ) → judge-lts.Need-is-above-requires (
@@ -159,7 +160,8 @@ judge-try-starts-requires : (t : ℕ) → judge-lts.Need-try-starts-requires (
   try-starts.Post,
 ) (judge-at t) judge.Post
 judge-try-starts-requires t c κs = let s = c .before .before .before .before .before .before .before .before .before .before in
-    let more = c .before .before .before .before .before .place .ensures (s .pre .1 .0 .0) (can-place (s .pre .1 .0 .1) (s .args .start) (s .pre .1 .1 .0)) in
+    let more = placed-of-above (s .pre .1 .0 .1) (c .before .before .before .before .place .ensures (s .pre .1 .0 .0) (can-place (s .pre .1 .0 .1) (s .args .start) (s .pre .1 .1 .0)))
+    (sym (c .before .before .before .is-above .ensures) ∙ c .before .before .if3 .taken) in
     let few = next-few (s .pre .1 .0 .1) more (s .pre .1 .0 .0 .linked .valid) (c .before .if4 .taken) in (
       omega (arith, s .pre .0, few, c .before .if4 .taken),
       (
@@ -180,9 +182,10 @@ judge-returns-3 : (t : ℕ) → judge-lts.Need-returns-3 (
 judge-returns-3 t c = let s = c .before .before .before .before .before .before .before .before .before .before .before in (
   c .try-starts .ensures .0,
   λ l can.
-      let more = c .before .before .before .before .before .before .place .ensures l (can-place can (s .args .start) (s .pre .1 .1 .0)) in
+      let above = sym (c .before .before .before .before .is-above .ensures) ∙ c .before .before .before .if3 .taken in
+      let more = placed-of-above can (c .before .before .before .before .before .place .ensures l (can-place can (s .args .start) (s .pre .1 .1 .0))) above in
       judged-next can more (s .args .budget) (s .args .walk) (c .before .before .before .before .before .before .before .before .before .before .if1 .left) (c .before .before .before .before .before .before .before .before .if2 .left)
-      (sym (c .before .before .before .before .is-above .ensures) ∙ c .before .before .before .if3 .taken) (c .before .before .if4 .taken) (c .try-starts .result)
+      above (c .before .before .if4 .taken) (c .try-starts .result)
       (c .try-starts .ensures .1 l (can-try-next can more (c .before .before .if4 .taken))),
 )
 
@@ -198,9 +201,10 @@ judge-returns-4 : (t : ℕ) → judge-lts.Need-returns-4 (
 judge-returns-4 t c = let s = c .before .before .before .before .before .before .before .before .before .before in (
   omega (arith, s .pre .1 .1 .1, c .before .before .before .before .before .before .before .if2 .left),
   λ l can.
-      let more = c .before .before .before .before .before .place .ensures l (can-place can (s .args .start) (s .pre .1 .1 .0)) in
+      let above = sym (c .before .before .before .is-above .ensures) ∙ c .before .before .if3 .taken in
+      let more = placed-of-above can (c .before .before .before .before .place .ensures l (can-place can (s .args .start) (s .pre .1 .1 .0))) above in
       judged-best can more (s .args .budget) (s .args .walk) (c .before .before .before .before .before .before .before .before .before .if1 .left) (c .before .before .before .before .before .before .before .if2 .left)
-      (sym (c .before .before .before .is-above .ensures) ∙ c .before .before .if3 .taken) (c .before .if4 .left),
+      above (c .before .if4 .left),
 )
 
 -- src/tries.rt:14:1
@@ -215,8 +219,8 @@ judge-returns-5 : (t : ℕ) → judge-lts.Need-returns-5 (
 judge-returns-5 t c = let s = c .before .before .before .before .before .before .before .before in (
   omega (arith, s .pre .1 .1 .1, c .before .before .before .before .before .if2 .left),
   λ l can.
-      let more = c .before .before .before .place .ensures l (can-place can (s .args .start) (s .pre .1 .1 .0)) in
-      judged-dropped can more (s .args .budget) (s .args .walk) (c .before .before .before .before .before .before .before .if1 .left) (c .before .before .before .before .before .if2 .left)
+      dropped-or-given-up can (s .args .budget) (s .args .walk) (c .before .before .before .before .before .before .before .if1 .left) (c .before .before .before .before .before .if2 .left)
+      (c .before .before .place .ensures l (can-place can (s .args .start) (s .pre .1 .1 .0)))
       (sym (c .before .is-above .ensures) ∙ c .if3 .left),
 )
 
