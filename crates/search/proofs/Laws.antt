@@ -12,6 +12,7 @@ pub mod Appended
 pub mod Rows
 pub mod Values
 pub mod Lowered
+pub mod Reciprocal
 pub mod Linked
 pub mod Placing
 pub mod Tries

@@ -1,5 +1,5 @@
 -- How the search's code holds the network, a partial timetable and a walk: rows over the calls in line order, and what they stand for.
-use Prim.Native.Nat.{ℕ, suc, _+_, _*_, _<_, _≤_}
+use Prim.Native.Nat.{ℕ, zero, suc, _+_, _*_, _/_, _<_, _≤_}
 use mathlib.Core.Path.{_≡_}
 use mathlib.Core.Bool.{true, false}
 use mathlib.Core.List.{List, [], _∷_, _++_, map}
@@ -20,6 +20,15 @@ use Rattle.search.specs.Walk.{State, oneTry, eachStart, walk}
 use Rattle.search.specs.Search.{startCounts, notAbove}
 use Rattle.search.specs.Layout.{byLine}
 
+-- The reciprocal of a divisor: 2^40 over it, rounded up
+unfoldable pub reciprocal : ℕ → ℕ
+reciprocal g = 1099511627775 / g + 1
+
+-- A divisor below 2,048 and its reciprocal in one number, 0 for 0
+unfoldable pub withReciprocal : ℕ → ℕ
+withReciprocal zero = 0
+withReciprocal (suc g) = reciprocal (suc g) * 2048 + suc g
+
 -- Rows that hold the lines, the offsets, the way back at a stop and the divisors of the calls of a valid network, in the order of their lines
 pub record Linked (lines offsets previous divisors : List ℕ) : Type 0 where
   pub net : Net
@@ -31,7 +40,7 @@ pub record Linked (lines offsets previous divisors : List ℕ) : Type 0 where
       (i j : ℕ)
       → i < length (net .periods)
       → j < length (net .periods)
-      → getD divisors (i * 16 + j) 0 ≡ gcd (getD (net .periods) j 0) (getD (net .periods) i 0)
+      → getD divisors (i * 16 + j) 0 ≡ withReciprocal (gcd (getD (net .periods) j 0) (getD (net .periods) i 0))
 
 -- The calls in the order of their lines
 abbrev pub callsIn : {lines offsets previous divisors : List ℕ} → Linked lines offsets previous divisors → List Call

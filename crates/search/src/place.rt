@@ -15,12 +15,16 @@ ghost use Rattle.network.specs.Valid.{noCall};
 ghost use Rattle.search.specs.Held as held;
 ghost use Rattle.search.specs.Search.{notAbove};
 
-// The gap of two arrivals by the divisor of their periods. An arrival is a start below 1,440 and an offset below 65,536.
-pub fn gap_by(divisor: u32, earlier: u32, later: u32) -> u32
-    requires { ⌜ (0 < divisor) × (divisor ≤ 1440) × (earlier < 67000) × (later < 67000) ⌝ }
+// The gap of two arrivals by the divisor of their periods. An arrival is a start below 1,440 and an offset below 65,536. The divisor's
+// reciprocal makes two products of what would be a division, which takes longer than all the rest.
+pub fn gap_by(divisor: u32, reciprocal: u64, earlier: u32, later: u32) -> u32
+    requires { ⌜ (0 < divisor) × (divisor ≤ 1440) × (reciprocal ≡ held.reciprocal divisor) ⌝ }
+    requires { ⌜ (earlier < 67000) × (later < 67000) ⌝ }
     ensures { λ r. ⌜ r ≡ gaps.fold divisor (gaps.residue (pos earlier -ℤ pos later) divisor) ⌝ }
 {
-    let d = (earlier + divisor * 67000 - later) % divisor;
+    let apart = earlier + divisor * 67000 - later;
+    let times = apart as u64 * reciprocal / 1099511627776;
+    let d = apart - times as u32 * divisor;
     if d < divisor - d { d } else { divisor - d }
 }
 
@@ -29,7 +33,7 @@ pub fn lowered(
     lines: &[u8; 256],
     offsets: &[u16; 256],
     previous: &[u16; 256],
-    divisors: &[u16; 256],
+    divisors: &[u64; 256],
     starts: &[u16; 16],
     at: usize,
     value: u16,
@@ -46,9 +50,10 @@ pub fn lowered(
     while 0 < from {
         let before = from - 1;
         let other = lines[before] as usize;
-        let divisor = divisors[row + other] as u32;
+        let word = divisors[row + other];
         let between = gap_by(
-            divisor,
+            (word % 2048) as u32,
+            word / 2048,
             starts[other] as u32 + offsets[before] as u32,
             arrival,
         );
@@ -82,7 +87,7 @@ pub fn place(
     lines: &[u8; 256],
     offsets: &[u16; 256],
     previous: &[u16; 256],
-    divisors: &[u16; 256],
+    divisors: &[u64; 256],
     first: &[u16; 17],
     line: usize,
     start: u16,

@@ -27,7 +27,7 @@ use Rattle.network.proofs.Laws.Stored.{held-lines, held-calls, held-period, hel
 use Rattle.network.proofs.Laws.Tables.{below-of-member, sumOf-append}
 use Rattle.search.specs.declared.Walk as code
 use Rattle.search.specs.Caps.{cap, placedCalls, upperValue, upperRating}
-use Rattle.search.specs.Held.{Represents, Laid, startsOf, stateOf, walkFrom, tryAt}
+use Rattle.search.specs.Held.{Represents, Laid, startsOf, stateOf, walkFrom, tryAt, withReciprocal}
 use Rattle.search.specs.Layout.{byLine, inLineOrder}
 use Rattle.search.specs.Search.{startCounts, searched, refusal, outcomeOf, searchOutcome, startRowAfter}
 use Rattle.search.specs.Walk.{State, atFirst, eachStart}
@@ -157,7 +157,7 @@ module _
       (line-of : (i : ℕ) → i < by .calls → getD lines i 0 ≡ getD (by .list) i noCall .line)
       (offset-of : (i : ℕ) → i < by .calls → getD offsets i 0 ≡ getD (by .list) i noCall .offset)
       (leads : LeadsBack previous (by .list) (by .calls))
-      (divisor-of : (i j : ℕ) → i < 16 → j < 16 → getD divisors (i * 16 + j) 0 ≡ gcd (getD (network .periods) j 0) (getD (network .periods) i 0))
+      (divisor-of : (i j : ℕ) → i < 16 → j < 16 → getD divisors (i * 16 + j) 0 ≡ withReciprocal (gcd (getD (network .periods) j 0) (getD (network .periods) i 0)))
       (first-of : (k : ℕ) → k ≤ length (netOf network .periods) → getD first k 0 ≡ length (byLine (netOf network .calls) k)) where
     pub leads-in-order : LeadsBack previous inOrder (length (netOf network .calls))
     unfolding LeadsBack
@@ -167,11 +167,11 @@ module _
         (i j : ℕ)
         → i < length (netOf network .periods)
         → j < length (netOf network .periods)
-        → getD divisors (i * 16 + j) 0 ≡ gcd (getD (netOf network .periods) j 0) (getD (netOf network .periods) i 0)
+        → getD divisors (i * 16 + j) 0 ≡ withReciprocal (gcd (getD (netOf network .periods) j 0) (getD (netOf network .periods) i 0))
     divisor-in-order i j h k =
         divisor-of i j (omega (arith, h, valid .lines)) (omega (arith, k, valid .lines))
         ∙ sym
-        (ap₂ gcd (held-period network j (omega (arith, k, held-lines network sound))) (held-period network i (omega (arith, h, held-lines network sound))))
+        (ap₂ (λ (a b : ℕ). withReciprocal (gcd a b)) (held-period network j (omega (arith, k, held-lines network sound))) (held-period network i (omega (arith, h, held-lines network sound))))
 
     -- they hold the network
     abbrev pub laid : Laid stops lines offsets previous divisors first

@@ -1,5 +1,5 @@
 -- What the rows of the walk tell of the network that they hold: the lines, divisors and gaps of its calls. Assumes nothing.
-use Prim.Native.Nat.{ℕ, zero, suc, _+_, _*_, _-_, _%_, _<_, _≤_}
+use Prim.Native.Nat.{ℕ, zero, suc, _+_, _*_, _-_, _/_, _%_, _<_, _≤_}
 use mathlib.Core.Path.{_≡_, refl, sym, ap, ap₂, _∙_}
 use mathlib.Core.List.{List, map}
 use native.Mathlib.Nat.{le-trans}
@@ -19,8 +19,9 @@ use Rattle.network.proofs.Laws.Divisor.{gcd-pos-left, gcd-le-left}
 use Rattle.network.proofs.Laws.Gaps.{residue-eq-of-multiple}
 use Rattle.network.proofs.Laws.Integers.{difference-pos, difference-sub, difference-add-multiple, eq-of-difference}
 use Rattle.search.specs.Layout.{byLine}
-use Rattle.search.specs.Held.{Linked, callsIn}
+use Rattle.search.specs.Held.{Linked, callsIn, reciprocal, withReciprocal}
 use Rattle.search.proofs.Laws.Layout.{length-byLine-all, byLine-line-lt}
+use Rattle.search.proofs.Laws.Reciprocal.{divisor-part, reciprocal-part}
 
 -- What holds of every call holds of every call in line order
 pub byLine-all : (P : Call → Type 0) (calls : List Call) → All noCall P calls → (k : ℕ) → All noCall P (byLine calls k)
@@ -74,13 +75,13 @@ module _ {lines offsets previous divisors : List ℕ} (l : Linked lines offsets 
 
   -- the divisor of two calls
   module _ (i j : ℕ) (hi : i < length (l .net .calls)) (hj : j < length (l .net .calls)) where
-    divisor-is :
+    word-is :
         getD divisors (getD lines i 0 * 16 + getD lines j 0) 0
-        ≡ gcd (periodOf (l .net) (getD (callsIn l) j noCall)) (periodOf (l .net) (getD (callsIn l) i noCall))
+        ≡ withReciprocal (gcd (periodOf (l .net) (getD (callsIn l) j noCall)) (periodOf (l .net) (getD (callsIn l) i noCall)))
     unfolding periodOf
-    divisor-is =
+    word-is =
         l .divisor-of (getD lines i 0) (getD lines j 0) (line-row-low i hi) (line-row-low j hj)
-        ∙ ap₂ (λ (a b : ℕ). gcd (getD (l .net .periods) a 0) (getD (l .net .periods) b 0)) (l .line-of j hj) (l .line-of i hi)
+        ∙ ap₂ (λ (a b : ℕ). withReciprocal (gcd (getD (l .net .periods) a 0) (getD (l .net .periods) b 0))) (l .line-of j hj) (l .line-of i hi)
 
     period-pos : 0 < periodOf (l .net) (getD (callsIn l) j noCall)
     unfolding periodOf
@@ -90,18 +91,33 @@ module _ {lines offsets previous divisors : List ℕ} (l : Linked lines offsets 
     unfolding periodOf
     period-le = l .valid .period _ (line-low j hj)
 
-    pub divisor-pos : 0 < getD divisors (getD lines i 0 * 16 + getD lines j 0) 0
-    divisor-pos = rw divisor-is (gcd-pos-left _ _ period-pos)
+    gcd-pos : 0 < gcd (periodOf (l .net) (getD (callsIn l) j noCall)) (periodOf (l .net) (getD (callsIn l) i noCall))
+    gcd-pos = gcd-pos-left _ _ period-pos
 
-    pub divisor-le : getD divisors (getD lines i 0 * 16 + getD lines j 0) 0 ≤ 1440
-    divisor-le = rw divisor-is (le-trans (gcd-le-left _ _ period-pos) period-le)
+    gcd-low : gcd (periodOf (l .net) (getD (callsIn l) j noCall)) (periodOf (l .net) (getD (callsIn l) i noCall)) ≤ 1440
+    gcd-low = le-trans (gcd-le-left _ _ period-pos) period-le
+
+    divisor-is :
+        getD divisors (getD lines i 0 * 16 + getD lines j 0) 0 % 2048
+        ≡ gcd (periodOf (l .net) (getD (callsIn l) j noCall)) (periodOf (l .net) (getD (callsIn l) i noCall))
+    divisor-is = ap (λ (w : ℕ). w % 2048) word-is ∙ divisor-part _ gcd-pos (omega (arith, gcd-low))
+
+    pub divisor-pos : 0 < getD divisors (getD lines i 0 * 16 + getD lines j 0) 0 % 2048
+    divisor-pos = rw divisor-is gcd-pos
+
+    pub divisor-le : getD divisors (getD lines i 0 * 16 + getD lines j 0) 0 % 2048 ≤ 1440
+    divisor-le = rw divisor-is gcd-low
+
+    pub reciprocal-is :
+        getD divisors (getD lines i 0 * 16 + getD lines j 0) 0 / 2048 ≡ reciprocal (getD divisors (getD lines i 0 * 16 + getD lines j 0) 0 % 2048)
+    reciprocal-is = ap (λ (w : ℕ). w / 2048) word-is ∙ reciprocal-part _ gcd-pos (omega (arith, gcd-low)) ∙ ap reciprocal (sym divisor-is)
 
     -- the gap of two calls, by their arrivals and that divisor
     pub gap-of-rows :
         (starts : List ℕ)
-        → fold (getD divisors (getD lines i 0 * 16 + getD lines j 0) 0)
+        → fold (getD divisors (getD lines i 0 * 16 + getD lines j 0) 0 % 2048)
         (residue (pos (getD starts (getD lines j 0) 0 + getD offsets j 0) -ℤ pos (getD starts (getD lines i 0) 0 + getD offsets i 0))
-        (getD divisors (getD lines i 0 * 16 + getD lines j 0) 0))
+        (getD divisors (getD lines i 0 * 16 + getD lines j 0) 0 % 2048))
         ≡ gapOfCalls (l .net) (map pos starts) (getD (callsIn l) j noCall) (getD (callsIn l) i noCall)
     unfolding gapOfCalls gapOf
     gap-of-rows starts =

@@ -1,63 +1,103 @@
 -- `search::place::gap_by` meets its contract: the formula of theorem 3.1.2, its difference made a natural number by a multiple of the
--- divisor. Assumes nothing.
-use Prim.Native.Nat.{ℕ, _+_, _*_, _-_, _%_, _<_, _≤_, min}
-use mathlib.Core.Path.{_≡_, refl, sym, ap, _∙_}
-use native.Mathlib.Nat.{mod-lt}
+-- divisor, and the whole part that a remainder leaves out found by the law of the reciprocal. Assumes nothing.
+use Prim.Native.Nat.{ℕ, _+_, _*_, _-_, _/_, _%_, _<_, _≤_, min}
+use mathlib.Core.Path.{_≡_, sym, ap, _∙_}
+use native.Mathlib.Nat.{mod-lt, mod-add-div', mul-le-mul, mul-le-mul-right}
+use native.Mathlib.Decide.{decLt}
 use native.Mathlib.Omega.{arith}
 use borrow.Author.Needs.{needs}
+use lib.IntN.{pos, _-ℤ_}
 use Rattle.network.specs.Gap as gaps
 use Rattle.search.proofs.Laws.Linked.{residue-of-difference}
+use Rattle.search.proofs.Laws.Reciprocal.{div-by-reciprocal}
 use Rattle.search.proofs.place.gap_by.Statement.{statement}
 use Rattle.search.proofs.place.gap_by.Tie as tie
-use Rattle.search.proofs.place.gap_by.Reads as reads
-use Rattle.search.proofs.place.gap_by.Lts as lts
 
 module _ (s : tie.Start) where
-  abbrev reduced : ℕ
-  reduced = (s .args .earlier + s .args .divisor * 67000 - s .args .later) % s .args .divisor
+  abbrev g : ℕ
+  g = s .args .divisor
 
-  below : reduced < s .args .divisor
-  below = mod-lt _ (s .pre .0)
+  abbrev apart : ℕ
+  apart = s .args .earlier + g * 67000 - s .args .later
 
--- src/place.rt:19:24
+  abbrev times : ℕ
+  times = (apart * s .args .reciprocal) / 1099511627776
+
+  apart-low : apart < 67000 + g * 67000
+  apart-low = omega (arith, s .pre .1 .0)
+
+  product-low : apart * g < 1099511627776
+  product-low = omega (arith, mul-le-mul {n₁ = apart} {m₁ = g} {n₂ = 96547000} {m₂ = 1440} (omega (arith, apart-low, s .pre .0 .1)) (s .pre .0 .1))
+
+  times-is : times ≡ apart / g
+  times-is = ap (λ (m : ℕ). (apart * m) / 1099511627776) (s .pre .0 .2) ∙ div-by-reciprocal g apart (s .pre .0 .0) product-low
+
+  parts : apart % g + times * g ≡ apart
+  parts = ap (λ (q : ℕ). apart % g + q * g) times-is ∙ mod-add-div' apart g
+
+  times-few : times < 134000
+  times-few = go (decLt times 134000)
+    where
+      go : Dec (times < 134000) → times < 134000
+      go (yes h) = h
+      go (no h) =
+          let many : 134000 ≤ times = omega (arith, h) in
+          absurd (omega (arith, mul-le-mul-right g many, parts, apart-low, s .pre .0 .0))
+
+  reduced-is : apart - times * g ≡ apart % g
+  reduced-is = omega (arith, parts)
+
+  below : apart - times * g < g
+  below = rw reduced-is (mod-lt apart (s .pre .0 .0))
+
+  reduced-residue : apart - times * g ≡ gaps.residue (pos (s .args .earlier) -ℤ pos (s .args .later)) g
+  reduced-residue = reduced-is ∙ residue-of-difference g (s .args .earlier) (s .args .later) 67000 (omega (arith, s .pre .0 .0, s .pre .1 .1))
+
+mul-apart : tie.Need-mul-apart
+mul-apart c = search needs
+
+add-apart : tie.Need-add-apart
+add-apart c = search needs
+
+sub-apart : tie.Need-sub-apart
+sub-apart c = search needs
+
+cast-times : tie.Need-cast-times
+cast-times c = search needs
+
+mul-times : tie.Need-mul-times
+mul-times c = omega (arith, times-few c)
+
+cast-d : tie.Need-cast-d
+cast-d c = omega (arith, times-few c)
+
 mul-d : tie.Need-mul-d
-mul-d c = search needs
+mul-d c = omega (arith, parts c, apart-low c, c .pre .0 .1)
 
--- src/place.rt:19:14
-add-d : tie.Need-add-d
-add-d c = search needs
-
--- src/place.rt:19:14
 sub-d : tie.Need-sub-d
-sub-d c = search needs
+sub-d c = omega (arith, parts c)
 
--- src/place.rt:19:13
-rem-d : tie.Need-rem-d
-rem-d c = search needs
-
--- src/place.rt:20:12
 sub-if1 : tie.Need-sub-if1
 sub-if1 c = omega (arith, below c)
 
--- src/place.rt:20:37
 sub-result : tie.Need-sub-result
 sub-result c = omega (arith, below (c .before))
 
--- src/place.rt:15:1
 returns : tie.Need-returns
 unfolding gaps.fold
 returns c =
     let s = c .before in
-    let lesser : reduced s ≡ min (reduced s) (s .args .divisor - reduced s) = omega arith in
-    lesser ∙ ap (λ (d : ℕ). min d (s .args .divisor - d)) (residue-of-difference (s .args .divisor) (s .args .earlier) (s .args .later) 67000 (omega arith))
+    let d = apart s - times s * g s in
+    let lesser : d ≡ min d (g s - d) = omega arith in
+    lesser ∙ ap (λ (d : ℕ). min d (g s - d)) (reduced-residue s)
 
--- src/place.rt:15:1
 returns-2 : tie.Need-returns-2
 unfolding gaps.fold
 returns-2 c =
     let s = c .before in
-    let lesser : s .args .divisor - reduced s ≡ min (reduced s) (s .args .divisor - reduced s) = omega arith in
-    lesser ∙ ap (λ (d : ℕ). min d (s .args .divisor - d)) (residue-of-difference (s .args .divisor) (s .args .earlier) (s .args .later) 67000 (omega arith))
+    let d = apart s - times s * g s in
+    let lesser : g s - d ≡ min d (g s - d) = omega arith in
+    lesser ∙ ap (λ (d : ℕ). min d (g s - d)) (reduced-residue s)
 
 pub gap-by-spec : {M : Type 1} → statement M
-gap-by-spec = tie.close (tie.spec mul-d add-d sub-d rem-d sub-if1 sub-result returns returns-2)
+gap-by-spec = tie.close (tie.spec mul-apart add-apart sub-apart cast-times mul-times cast-d mul-d sub-d sub-if1 sub-result returns returns-2)

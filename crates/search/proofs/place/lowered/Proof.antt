@@ -14,7 +14,7 @@ use Rattle.network.specs.Scan.{lastAt, callsBefore, leastFrom, LeadsBack}
 use Rattle.network.specs.Valid.{noCall}
 use Rattle.network.proofs.Laws.Gaps.{lastAt-le, lastAt-landed, callsBefore-lastAt, step-back}
 use Rattle.search.specs.Held.{Linked, callsIn}
-use Rattle.search.proofs.Laws.Linked.{length-callsIn, calls-few, line-row-lt-16, offset-row-low, divisor-pos, divisor-le, gap-of-rows}
+use Rattle.search.proofs.Laws.Linked.{length-callsIn, calls-few, line-row-lt-16, offset-row-low, divisor-pos, divisor-le, reciprocal-is, gap-of-rows}
 use Rattle.search.proofs.place.lowered.Statement.{statement}
 use Rattle.search.proofs.place.lowered.Tie as tie
 use Rattle.search.proofs.place.lowered.Reads as reads
@@ -195,20 +195,20 @@ cast-other : tie.Need-cast-other Inv-loop μ-loop
 cast-other c = omega (arith, other-small (c .before))
 
 -- src/place.rt:38:32
-add-divisor : tie.Need-add-divisor Inv-loop μ-loop
-add-divisor c = omega (arith, other-small (c .before), line-small (start (c .before)))
+add-word : tie.Need-add-word Inv-loop μ-loop
+add-word c = omega (arith, other-small (c .before), line-small (start (c .before)))
 
 -- src/place.rt:38:23
-mul-divisor : tie.Need-mul-divisor Inv-loop μ-loop
-mul-divisor c = omega (arith, other-small (c .before), line-small (start (c .before)))
+mul-word : tie.Need-mul-word Inv-loop μ-loop
+mul-word c = omega (arith, other-small (c .before), line-small (start (c .before)))
 
 -- src/place.rt:38:23
-element-copy-out-divisor : tie.Need-element-copy-out-divisor Inv-loop μ-loop
-element-copy-out-divisor c = omega (arith, other-small (c .before), line-small (start (c .before)))
+element-copy-out-word : tie.Need-element-copy-out-word Inv-loop μ-loop
+element-copy-out-word c = omega (arith, other-small (c .before), line-small (start (c .before)))
 
 -- src/place.rt:38:23
-cast-divisor : tie.Need-cast-divisor Inv-loop μ-loop
-cast-divisor c = let t = c .before .before in omega (arith, divisor-le (rows (start t)) (start t .args .at) (before t) (at-low (start t)) (before-low t))
+cast-gap-by : tie.Need-cast-gap-by Inv-loop μ-loop
+cast-gap-by c = let t = c .before .before in omega (arith, divisor-le (rows (start t)) (start t .args .at) (before t) (at-low (start t)) (before-low t))
 
 -- src/place.rt:39:39
 mul-gap-by : tie.Need-mul-gap-by Inv-loop μ-loop
@@ -219,8 +219,8 @@ element-copy-out-gap-by : tie.Need-element-copy-out-gap-by Inv-loop μ-loop
 element-copy-out-gap-by c = other-small (c .before .before)
 
 -- src/place.rt:39:39
-cast-gap-by : tie.Need-cast-gap-by Inv-loop μ-loop
-cast-gap-by c = let t = c .before .before .before in omega (arith, start-small (start t) (getD (start t .args .lines .now) (before t) 0))
+cast-gap-by-2 : tie.Need-cast-gap-by-2 Inv-loop μ-loop
+cast-gap-by-2 c = let t = c .before .before .before in omega (arith, start-small (start t) (getD (start t .args .lines .now) (before t) 0))
 
 -- src/place.rt:39:62
 mul-gap-by-2 : tie.Need-mul-gap-by-2 Inv-loop μ-loop
@@ -231,8 +231,8 @@ element-copy-out-gap-by-2 : tie.Need-element-copy-out-gap-by-2 Inv-loop μ-loop
 element-copy-out-gap-by-2 c = before-small (c .before .before .before)
 
 -- src/place.rt:39:62
-cast-gap-by-2 : tie.Need-cast-gap-by-2 Inv-loop μ-loop
-cast-gap-by-2 c = let t = c .before .before .before .before in omega (arith, offset-row-low (rows (start t)) (before t) (before-low t))
+cast-gap-by-3 : tie.Need-cast-gap-by-3 Inv-loop μ-loop
+cast-gap-by-3 c = let t = c .before .before .before .before in omega (arith, offset-row-low (rows (start t)) (before t) (before-low t))
 
 -- src/place.rt:39:39
 add-gap-by : tie.Need-add-gap-by Inv-loop μ-loop
@@ -245,10 +245,15 @@ gap-by-requires : tie.Need-gap-by-requires Inv-loop μ-loop
 gap-by-requires c κs =
     let t = c .before .before .before .before in
     let s = start t in (
-      divisor-pos (rows s) (s .args .at) (before t) (at-low s) (before-low t),
-      divisor-le (rows s) (s .args .at) (before t) (at-low s) (before-low t),
-      omega (arith, offset-row-low (rows s) (before t) (before-low t), start-small s (getD (s .args .lines .now) (before t) 0)),
-      omega (arith, offset-row-low (rows s) (s .args .at) (at-low s), start-small s (getD (s .args .lines .now) (s .args .at) 0)),
+      (
+        divisor-pos (rows s) (s .args .at) (before t) (at-low s) (before-low t),
+        divisor-le (rows s) (s .args .at) (before t) (at-low s) (before-low t),
+        reciprocal-is (rows s) (s .args .at) (before t) (at-low s) (before-low t),
+      ),
+      (
+        omega (arith, offset-row-low (rows s) (before t) (before-low t), start-small s (getD (s .args .lines .now) (before t) 0)),
+        omega (arith, offset-row-low (rows s) (s .args .at) (at-low s), start-small s (getD (s .args .lines .now) (s .args .at) 0)),
+      ),
     )
 
 -- src/place.rt:40:22
@@ -328,16 +333,16 @@ lowered-spec =
     sub-before
     element-copy-out-other
     cast-other
-    add-divisor
-    mul-divisor
-    element-copy-out-divisor
-    cast-divisor
+    add-word
+    mul-word
+    element-copy-out-word
+    cast-gap-by
     mul-gap-by
     element-copy-out-gap-by
-    cast-gap-by
+    cast-gap-by-2
     mul-gap-by-2
     element-copy-out-gap-by-2
-    cast-gap-by-2
+    cast-gap-by-3
     add-gap-by
     gap-by-requires
     cast-if1
