@@ -101,14 +101,13 @@ pub fn place(
     let end = first[line + 1] as usize;
     let mut next = placed;
     next.starts[line] = start;
-    let starts = next.starts;
     for i in begin..end {
         if falls_short(next.least, next.sum, best) {
             return next;
         }
         let stop = stops[i] as usize;
         let old = next.values[stop];
-        let value = lowered(lines, offsets, previous, divisors, &starts, i, old);
+        let value = lowered(lines, offsets, previous, divisors, &next.starts, i, old);
         next.values[stop] = value;
         next.sum = next.sum + value as u32 - old as u32;
         if (value as u32) < next.least {

@@ -1,7 +1,7 @@
 -- `search::place::place` meets its contract. The loop's invariant: for any network that the rows hold, values and rating are those after the
 -- calls passed. Assumes nothing.
 use Prim.Native.Nat.{ℕ, _+_, _-_, _<_, _≤_, min}
-use mathlib.Core.Path.{_≡_, refl, sym, ap, subst, _∙_}
+use mathlib.Core.Path.{_≡_, refl, sym, ap, ap₂, subst, _∙_}
 use mathlib.Core.List.{List, _∷_, [], map}
 use mathlib.Core.Logic.{⊎-elim, inl, inr}
 use native.Mathlib.Nat.{le-antisymm}
@@ -42,16 +42,16 @@ use Rattle.search.proofs.place.falls_short.Reads as falls-short-reads
 use Rattle.search.proofs.place.lowered.Reads as lowered-reads
 
 abbrev Inv-loop : tie.InvT-loop
-Inv-loop stops lines offsets previous divisors first line start best begin end next₀ starts i₀ next i =
+Inv-loop stops lines offsets previous divisors first line start best begin end next₀ i₀ next i =
     (i ≤ end)
-    × (next .starts ≡ starts)
+    × (next .starts ≡ next₀ .starts)
     × ((l : Laid stops lines offsets previous divisors first)
-    → Lowering (l .linked .net) (map pos starts) (next₀ .values) (next₀ .least) (next₀ .sum) begin
+    → Lowering (l .linked .net) (map pos (next₀ .starts)) (next₀ .values) (next₀ .least) (next₀ .sum) begin
     → line < length (l .linked .net .periods)
-    → Lowering (l .linked .net) (map pos starts) (next .values) (next .least) (next .sum) i)
+    → Lowering (l .linked .net) (map pos (next₀ .starts)) (next .values) (next .least) (next .sum) i)
 
 abbrev μ-loop : tie.MeasureT-loop
-μ-loop stops lines offsets previous divisors first line start best begin end next₀ starts i₀ next i = end - i
+μ-loop stops lines offsets previous divisors first line start best begin end next₀ i₀ next i = end - i
 
 -- At the start: the network that is known to be held, and what begins the loop for any other
 module _ (s : tie.Start Inv-loop μ-loop) where
@@ -91,7 +91,7 @@ module _ (s : tie.Start Inv-loop μ-loop) where
 -- At a turn of the loop: the call that is looked at
 module _ (t : tie.In-loop Inv-loop μ-loop) where
   abbrev start : tie.Start Inv-loop μ-loop
-  start = t .before .before .before .before .before
+  start = t .before .before .before .before
 
   abbrev i : ℕ
   i = t .before .loop .i
@@ -143,7 +143,7 @@ module _ (t : tie.In-loop Inv-loop μ-loop) where
 -- Where the value is known: it is the least of what it was and the gaps of this call
 module _ (c : tie.After-lowered Inv-loop μ-loop) where
   abbrev turn : tie.In-loop Inv-loop μ-loop
-  turn = c .before .before .before .before .before .before
+  turn = c .before .before .before .before .before .before .before
 
   known-old-le-sum : getD (next turn .values) (stop turn) 0 ≤ next turn .sum
   known-old-le-sum =
@@ -164,9 +164,10 @@ module _ (c : tie.After-lowered Inv-loop μ-loop) where
         (callsBefore (stop turn) (callsIn (l .linked)) (i turn)))
     value-is =
         c .lowered .ensures (l .linked) (in-file turn l begun stated)
-        ∙ ap (λ (k : ℕ). leastFrom (getD (next turn .values) (stop turn) 0)
-        (map (λ d. gapOfCalls (l .linked .net) (map pos (starts (start turn))) d (getD (callsIn (l .linked)) (i turn) noCall))
+        ∙ ap₂ (λ (st : List ℕ) (k : ℕ). leastFrom (getD (next turn .values) (stop turn) 0)
+        (map (λ d. gapOfCalls (l .linked .net) (map pos st) d (getD (callsIn (l .linked)) (i turn) noCall))
         (callsBefore k (callsIn (l .linked)) (i turn))))
+        (turn .before .loop .inv .1)
         (here turn l begun stated)
 
     lowered-here :
@@ -217,7 +218,7 @@ element-write-next c = line-low (c .before .before)
 
 -- src/place.rt:79:5
 loop-holds : tie.Need-loop-holds Inv-loop μ-loop
-loop-holds c = let s = c .before .before .before in (begin-end s, refl, λ l begun stated. begun)
+loop-holds c = let s = c .before .before in (begin-end s, refl, λ l begun stated. begun)
 
 falls-short-requires : tie.Need-falls-short-requires Inv-loop μ-loop
 falls-short-requires c κs = tt
@@ -259,10 +260,11 @@ element-copy-out-old c = known-low (c .before .before .before)
 -- src/place.rt:82:13
 lowered-requires : tie.Need-lowered-requires Inv-loop μ-loop
 lowered-requires c κs =
-    let t = c .before .before .before .before .before in
+    let t = c .before .before .before .before .before .before in
     let s = start t in (
       (rows s .linked, known-in-file t),
-      set-low (s .args .placed .starts) (s .args .line) (s .args .start) (can s .before .starts-row) (line-low s) (can s .start-low) (can s .before .starts-low),
+      λ k. rw (t .before .loop .inv .1)
+          (set-low (s .args .placed .starts) (s .args .line) (s .args .start) (can s .before .starts-row) (line-low s) (can s .start-low) (can s .before .starts-low) k),
     )
 
 -- src/place.rt:83:9
@@ -329,7 +331,7 @@ loop-again c =
 -- src/place.rt:60:1
 returns-2 : tie.Need-returns-2 Inv-loop μ-loop
 returns-2 c l can' =
-    let s = c .before .before .before .before .before in
+    let s = c .before .before .before .before in
     let p = c .before .loop in
     let last : p .i ≡ length (byLine (l .linked .net .calls) (s .args .line + 1)) =
     le-antisymm (p .inv .0) (c .loop-test .left) ∙ l .first-of (s .args .line + 1) (omega (arith, can' .stated)) in
