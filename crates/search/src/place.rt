@@ -45,7 +45,7 @@ pub fn lowered(
     let line = lines[at] as usize;
     let row = line * 16;
     let arrival = starts[line] as u32 + offsets[at] as u32;
-    let mut least = value;
+    let mut least = value as u32;
     let mut from = previous[at] as usize;
     while 0 < from {
         let before = from - 1;
@@ -57,12 +57,12 @@ pub fn lowered(
             starts[other] as u32 + offsets[before] as u32,
             arrival,
         );
-        if between < least as u32 {
-            least = between as u16;
+        if between < least {
+            least = between;
         }
         from = previous[before] as usize;
     }
-    least
+    least as u16
 }
 
 // Whether an upper rating isn't above the best so far.

@@ -89,7 +89,7 @@ pub fn judge(
 }
 
 // A line's starts from `from` on, `count` of them, ascending. They are split into halves, so that the calls nest only as deep as the
-// number of starts has digits in base two.
+// number of starts has digits in base two. One or two are judged at once, which saves half the calls.
 pub fn try_starts(
     stops: &[u8; 256],
     lines: &[u8; 256],
@@ -114,8 +114,8 @@ pub fn try_starts(
     if count == 0 {
         return walk;
     }
-    if count == 1 {
-        return judge(
+    if count < 3 {
+        let lower = judge(
             stops,
             lines,
             offsets,
@@ -129,6 +129,24 @@ pub fn try_starts(
             from,
             placed,
             walk,
+        );
+        if count == 1 {
+            return lower;
+        }
+        return judge(
+            stops,
+            lines,
+            offsets,
+            previous,
+            divisors,
+            first,
+            counts,
+            last,
+            budget,
+            line,
+            from + 1,
+            placed,
+            lower,
         );
     }
     let half = count / 2;

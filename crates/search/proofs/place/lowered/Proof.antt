@@ -124,123 +124,94 @@ in-file :
     → before t < length (l .net .calls)
 in-file l t h = omega (arith, t .before .loop .inv .0, t .loop-test .taken)
 
--- src/place.rt:30:16
 element-copy-out-line : tie.Need-element-copy-out-line Inv-loop μ-loop
 element-copy-out-line c = at-small c
 
--- src/place.rt:30:16
 cast-line : tie.Need-cast-line Inv-loop μ-loop
 cast-line c = omega (arith, line-small (c .before))
 
--- src/place.rt:31:15
 mul-row : tie.Need-mul-row Inv-loop μ-loop
 mul-row c = omega (arith, line-small (c .before))
 
--- src/place.rt:32:19
 mul-arrival : tie.Need-mul-arrival Inv-loop μ-loop
 mul-arrival c = omega (arith, line-small (c .before))
 
--- src/place.rt:32:19
 element-copy-out-arrival : tie.Need-element-copy-out-arrival Inv-loop μ-loop
 element-copy-out-arrival c = line-small (c .before)
 
--- src/place.rt:32:19
 cast-arrival : tie.Need-cast-arrival Inv-loop μ-loop
 cast-arrival c = omega (arith, start-small (c .before .before) (getD ((c .before .before) .args .lines .now) ((c .before .before) .args .at) 0))
 
--- src/place.rt:32:41
 mul-arrival-2 : tie.Need-mul-arrival-2 Inv-loop μ-loop
 mul-arrival-2 c = omega (arith, at-small (c .before .before))
 
--- src/place.rt:32:41
 element-copy-out-arrival-2 : tie.Need-element-copy-out-arrival-2 Inv-loop μ-loop
 element-copy-out-arrival-2 c = at-small (c .before .before)
 
--- src/place.rt:32:41
 cast-arrival-2 : tie.Need-cast-arrival-2 Inv-loop μ-loop
 cast-arrival-2 c = let s = c .before .before .before in omega (arith, offset-row-low (rows s) (s .args .at) (at-low s))
 
--- src/place.rt:32:19
 add-arrival : tie.Need-add-arrival Inv-loop μ-loop
 add-arrival c = let s = c .before .before .before in omega (arith, offset-row-low (rows s) (s .args .at) (at-low s), start-small s (getD (s .args .lines .now) (s .args .at) 0))
 
--- src/place.rt:34:20
 mul-from : tie.Need-mul-from Inv-loop μ-loop
 mul-from c = omega (arith, at-small (c .before .before .before))
 
--- src/place.rt:34:20
 element-copy-out-from : tie.Need-element-copy-out-from Inv-loop μ-loop
 element-copy-out-from c = at-small (c .before .before .before)
 
--- src/place.rt:34:20
 cast-from : tie.Need-cast-from Inv-loop μ-loop
 cast-from c = let s = c .before .before .before .before in omega (arith, led-le (rows s) (s .args .at) (at-low s), at-small s)
 
--- src/place.rt:35:5
 loop-holds : tie.Need-loop-holds Inv-loop μ-loop
 loop-holds c =
     let s = c .before .before .before .before in
     (led-le (rows s) (s .args .at) (at-low s), omega arith, λ l h. first-turn l (s .args .starts .now) (s .args .at) (s .args .value) h)
 
--- src/place.rt:36:22
 sub-before : tie.Need-sub-before Inv-loop μ-loop
 sub-before c = c .loop-test .taken
 
--- src/place.rt:37:21
 element-copy-out-other : tie.Need-element-copy-out-other Inv-loop μ-loop
 element-copy-out-other c = before-small c
 
--- src/place.rt:37:21
 cast-other : tie.Need-cast-other Inv-loop μ-loop
 cast-other c = omega (arith, other-small (c .before))
 
--- src/place.rt:38:32
 add-word : tie.Need-add-word Inv-loop μ-loop
 add-word c = omega (arith, other-small (c .before), line-small (start (c .before)))
 
--- src/place.rt:38:23
 mul-word : tie.Need-mul-word Inv-loop μ-loop
 mul-word c = omega (arith, other-small (c .before), line-small (start (c .before)))
 
--- src/place.rt:38:23
 element-copy-out-word : tie.Need-element-copy-out-word Inv-loop μ-loop
 element-copy-out-word c = omega (arith, other-small (c .before), line-small (start (c .before)))
 
--- src/place.rt:38:23
 cast-gap-by : tie.Need-cast-gap-by Inv-loop μ-loop
 cast-gap-by c = let t = c .before .before in omega (arith, divisor-le (rows (start t)) (start t .args .at) (before t) (at-low (start t)) (before-low t))
 
--- src/place.rt:39:39
 mul-gap-by : tie.Need-mul-gap-by Inv-loop μ-loop
 mul-gap-by c = omega (arith, other-small (c .before .before))
 
--- src/place.rt:39:39
 element-copy-out-gap-by : tie.Need-element-copy-out-gap-by Inv-loop μ-loop
 element-copy-out-gap-by c = other-small (c .before .before)
 
--- src/place.rt:39:39
 cast-gap-by-2 : tie.Need-cast-gap-by-2 Inv-loop μ-loop
 cast-gap-by-2 c = let t = c .before .before .before in omega (arith, start-small (start t) (getD (start t .args .lines .now) (before t) 0))
 
--- src/place.rt:39:62
 mul-gap-by-2 : tie.Need-mul-gap-by-2 Inv-loop μ-loop
 mul-gap-by-2 c = omega (arith, before-small (c .before .before .before))
 
--- src/place.rt:39:62
 element-copy-out-gap-by-2 : tie.Need-element-copy-out-gap-by-2 Inv-loop μ-loop
 element-copy-out-gap-by-2 c = before-small (c .before .before .before)
 
--- src/place.rt:39:62
 cast-gap-by-3 : tie.Need-cast-gap-by-3 Inv-loop μ-loop
 cast-gap-by-3 c = let t = c .before .before .before .before in omega (arith, offset-row-low (rows (start t)) (before t) (before-low t))
 
--- src/place.rt:39:39
 add-gap-by : tie.Need-add-gap-by Inv-loop μ-loop
 add-gap-by c =
     let t = c .before .before .before .before in
     omega (arith, offset-row-low (rows (start t)) (before t) (before-low t), start-small (start t) (getD (start t .args .lines .now) (before t) 0))
 
--- src/place.rt:39:13
 gap-by-requires : tie.Need-gap-by-requires Inv-loop μ-loop
 gap-by-requires c κs =
     let t = c .before .before .before .before in
@@ -256,31 +227,18 @@ gap-by-requires c κs =
       ),
     )
 
--- src/place.rt:40:22
-cast-if1 : tie.Need-cast-if1 Inv-loop μ-loop
-cast-if1 c = let t = c .before .before .before .before .before in omega (arith, t .before .loop .inv .1, start t .fits .value)
-
--- src/place.rt:41:21
-cast-least : tie.Need-cast-least Inv-loop μ-loop
-cast-least c = let t = c .before .before .before .before .before .before in omega (arith, c .if1 .taken, t .before .loop .inv .1, start t .fits .value)
-
--- src/place.rt:43:16
 mul-from-2 : tie.Need-mul-from-2 Inv-loop μ-loop
 mul-from-2 c = omega (arith, before-small (c .before .before .before .before .before .before))
 
--- src/place.rt:43:16
 element-copy-out-from-2 : tie.Need-element-copy-out-from-2 Inv-loop μ-loop
 element-copy-out-from-2 c = before-small (c .before .before .before .before .before .before)
 
--- src/place.rt:43:16
 cast-from-2 : tie.Need-cast-from-2 Inv-loop μ-loop
 cast-from-2 c = let t = c .before .before .before .before .before .before .before in omega (arith, led-le (rows (start t)) (before t) (before-low t), before-small t)
 
--- src/place.rt:35:5
 loop-less : tie.Need-loop-less Inv-loop μ-loop
 loop-less c = let t = c .before .before .before .before .before .before .before in omega (arith, led-le (rows (start t)) (before t) (before-low t), t .loop-test .taken)
 
--- src/place.rt:35:5
 loop-again : tie.Need-loop-again Inv-loop μ-loop
 loop-again c =
     let t = c .before .before .before .before .before .before .before in
@@ -300,7 +258,9 @@ loop-again c =
           ),
     )
 
--- src/place.rt:24:1
+cast-result : tie.Need-cast-result Inv-loop μ-loop
+cast-result c = let s = c .before .before .before .before .before .before in omega (arith, c .before .loop .inv .1, s .fits .value)
+
 returns : tie.Need-returns Inv-loop μ-loop
 unfolding leastFrom callsBefore keep
 returns c l h =
@@ -345,11 +305,10 @@ lowered-spec =
     cast-gap-by-3
     add-gap-by
     gap-by-requires
-    cast-if1
-    cast-least
     mul-from-2
     element-copy-out-from-2
     cast-from-2
     loop-less
     loop-again
+    cast-result
     returns)

@@ -180,43 +180,33 @@ module _ (c : tie.After-lowered Inv-loop μ-loop) where
         (now turn l begun stated) (in-order turn l begun stated) (stop turn) (here turn l begun stated) (low turn l begun stated) (served turn l begun stated)
         (c .lowered .result) value-is
 
--- src/place.rt:74:17
 mul-begin : tie.Need-mul-begin Inv-loop μ-loop
 mul-begin c = omega (arith, line-low c)
 
--- src/place.rt:74:17
 element-copy-out-begin : tie.Need-element-copy-out-begin Inv-loop μ-loop
 element-copy-out-begin c = omega (arith, line-low c)
 
--- src/place.rt:74:17
 cast-begin : tie.Need-cast-begin Inv-loop μ-loop
 cast-begin c = omega (arith, begin-end (c .before), end-low (c .before), calls-few (rows (c .before) .linked))
 
--- src/place.rt:75:21
 add-end : tie.Need-add-end Inv-loop μ-loop
 add-end c = omega (arith, line-low (c .before))
 
--- src/place.rt:75:15
 mul-end : tie.Need-mul-end Inv-loop μ-loop
 mul-end c = omega (arith, line-low (c .before))
 
--- src/place.rt:75:15
 element-copy-out-end : tie.Need-element-copy-out-end Inv-loop μ-loop
 element-copy-out-end c = omega (arith, line-low (c .before))
 
--- src/place.rt:75:15
 cast-end : tie.Need-cast-end Inv-loop μ-loop
 cast-end c = omega (arith, end-low (c .before .before), calls-few (rows (c .before .before) .linked))
 
--- src/place.rt:77:5
 mul-next : tie.Need-mul-next Inv-loop μ-loop
 mul-next c = omega (arith, line-low (c .before .before))
 
--- src/place.rt:77:5
 element-write-next : tie.Need-element-write-next Inv-loop μ-loop
 element-write-next c = line-low (c .before .before)
 
--- src/place.rt:79:5
 loop-holds : tie.Need-loop-holds Inv-loop μ-loop
 loop-holds c = let s = c .before .before in (begin-end s, refl, λ l begun stated. begun)
 
@@ -241,23 +231,18 @@ returns c l can' =
           (s .args .best) short;
     })
 
--- src/place.rt:80:20
 element-copy-out-stop : tie.Need-element-copy-out-stop Inv-loop μ-loop
 element-copy-out-stop c = small (c .before .before)
 
--- src/place.rt:80:20
 cast-stop : tie.Need-cast-stop Inv-loop μ-loop
 cast-stop c = omega (arith, known-low (c .before .before .before))
 
--- src/place.rt:81:19
 mul-old : tie.Need-mul-old Inv-loop μ-loop
 mul-old c = omega (arith, known-low (c .before .before .before))
 
--- src/place.rt:81:19
 element-copy-out-old : tie.Need-element-copy-out-old Inv-loop μ-loop
 element-copy-out-old c = known-low (c .before .before .before)
 
--- src/place.rt:82:13
 lowered-requires : tie.Need-lowered-requires Inv-loop μ-loop
 lowered-requires c κs =
     let t = c .before .before .before .before .before .before in
@@ -267,47 +252,36 @@ lowered-requires c κs =
           (set-low (s .args .placed .starts) (s .args .line) (s .args .start) (can s .before .starts-row) (line-low s) (can s .start-low) (can s .before .starts-low) k),
     )
 
--- src/place.rt:83:9
 mul-next-2 : tie.Need-mul-next-2 Inv-loop μ-loop
 mul-next-2 c = omega (arith, known-low (turn c))
 
--- src/place.rt:83:9
 element-write-next-2 : tie.Need-element-write-next-2 Inv-loop μ-loop
 element-write-next-2 c = known-low (turn c)
 
--- src/place.rt:84:31
 cast-next : tie.Need-cast-next Inv-loop μ-loop
 cast-next c = search needs
 
--- src/place.rt:84:20
 add-next : tie.Need-add-next Inv-loop μ-loop
 add-next c = omega (arith, c .lowered .ok, known-now (turn c) .sum-low)
 
--- src/place.rt:84:46
 cast-next-2 : tie.Need-cast-next-2 Inv-loop μ-loop
 cast-next-2 c = omega (arith, known-old-le-sum c, known-now (turn c) .sum-low)
 
--- src/place.rt:84:20
 sub-next : tie.Need-sub-next Inv-loop μ-loop
 sub-next c = omega (arith, known-old-le-sum c)
 
--- src/place.rt:85:13
 cast-if2 : tie.Need-cast-if2 Inv-loop μ-loop
 cast-if2 c = search needs
 
--- src/place.rt:86:26
 cast-next-3 : tie.Need-cast-next-3 Inv-loop μ-loop
 cast-next-3 c = search needs
 
--- src/place.rt:79:9
 add-i : tie.Need-add-i Inv-loop μ-loop
 add-i c = omega (arith, small (turn (c .before)))
 
--- src/place.rt:79:5
 loop-less : tie.Need-loop-less Inv-loop μ-loop
 loop-less c = omega (arith, turn (c .before) .loop-test .taken)
 
--- src/place.rt:79:5
 loop-again : tie.Need-loop-again Inv-loop μ-loop
 loop-again c =
     let t = turn (c .before) in
@@ -328,7 +302,6 @@ loop-again c =
           (c .if2 .came),
     )
 
--- src/place.rt:60:1
 returns-2 : tie.Need-returns-2 Inv-loop μ-loop
 returns-2 c l can' =
     let s = c .before .before .before .before in

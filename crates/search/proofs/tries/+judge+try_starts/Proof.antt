@@ -16,7 +16,7 @@ use Rattle.search.proofs.Laws.Tries.{
   none-left,
   one-left,
 }
-use mathlib.Core.Path.{_≡_, sym, _∙_}
+use mathlib.Core.Path.{_≡_, refl, sym, _∙_}
 use native.Mathlib.Omega.{arith}
 use borrow.Fn.Kinds.{In}
 use borrow.Fn.PlainCycle.{Measures, is, falls, and}
@@ -51,7 +51,6 @@ abbrev try-starts-below : ℕ → In 7 try-starts-kinds.ps
 try-starts-below t =
     and 7 try-starts-kinds.ps (falls 7 try-starts-kinds.ps _<_ μ-try-starts t) try-starts.Pre
 
--- src/tries.rt:35:9
 judge-returns : (t : ℕ) → judge-lts.Need-returns (
   place-reads.Asked,
   place-reads.Learnt,
@@ -62,7 +61,6 @@ judge-returns : (t : ℕ) → judge-lts.Need-returns (
 ) (judge-at t) judge.Post
 judge-returns t c = (c .before .pre .1 .1 .1, λ l can. try-stopped (l .linked .net) _ _ _ _ (c .before .args .walk) (c .if1 .taken))
 
--- src/tries.rt:40:9
 judge-returns-2 : (t : ℕ) → judge-lts.Need-returns-2 (
   place-reads.Asked,
   place-reads.Learnt,
@@ -73,7 +71,6 @@ judge-returns-2 : (t : ℕ) → judge-lts.Need-returns-2 (
 ) (judge-at t) judge.Post
 judge-returns-2 t c = (c .before .before .before .pre .1 .1 .1, λ l can. try-at-budget (l .linked .net) _ _ _ _ (c .before .before .before .args .walk) (c .before .before .if1 .left) (c .if2 .taken))
 
--- src/tries.rt:42:18
 judge-add-next : (t : ℕ) → judge-lts.Need-add-next (
   place-reads.Asked,
   place-reads.Learnt,
@@ -84,7 +81,6 @@ judge-add-next : (t : ℕ) → judge-lts.Need-add-next (
 ) (judge-at t) judge.Post
 judge-add-next t c = let s = c .before .before .before .before in omega (arith, s .pre .1 .1 .1, s .fits .budget, c .before .if2 .left)
 
--- src/tries.rt:43:9
 judge-place-requires : (t : ℕ) → judge-lts.Need-place-requires (
   place-reads.Asked,
   place-reads.Learnt,
@@ -95,7 +91,6 @@ judge-place-requires : (t : ℕ) → judge-lts.Need-place-requires (
 ) (judge-at t) judge.Post
 judge-place-requires t c κs = let s = c .before .before .before .before .before in (s .pre .1 .0 .0, can-place (s .pre .1 .0 .1) _ (s .pre .1 .1 .0))
 
--- src/tries.rt:60:8
 judge-is-above-requires : (t : ℕ) → judge-lts.Need-is-above-requires (
   place-reads.Asked,
   place-reads.Learnt,
@@ -106,7 +101,6 @@ judge-is-above-requires : (t : ℕ) → judge-lts.Need-is-above-requires (
 ) (judge-at t) judge.Post
 judge-is-above-requires t c κs = tt
 
--- src/tries.rt:72:17
 judge-add-try-starts : (t : ℕ) → judge-lts.Need-add-try-starts (
   place-reads.Asked,
   place-reads.Learnt,
@@ -117,7 +111,6 @@ judge-add-try-starts : (t : ℕ) → judge-lts.Need-add-try-starts (
 ) (judge-at t) judge.Post
 judge-add-try-starts t c = let s = c .before .before .before .before .before .before .before .before .before in omega (arith, s .pre .1 .0 .1 .stated, s .pre .1 .0 .0 .linked .valid .lines)
 
--- src/tries.rt:74:24
 judge-add-try-starts-2 : (t : ℕ) → judge-lts.Need-add-try-starts-2 (
   place-reads.Asked,
   place-reads.Learnt,
@@ -128,7 +121,6 @@ judge-add-try-starts-2 : (t : ℕ) → judge-lts.Need-add-try-starts-2 (
 ) (judge-at t) judge.Post
 judge-add-try-starts-2 t c = let s = c .before .before .before .before .before .before .before .before .before in omega (arith, s .pre .1 .0 .1 .stated, s .pre .1 .0 .0 .linked .valid .lines)
 
--- src/tries.rt:74:17
 judge-mul-try-starts : (t : ℕ) → judge-lts.Need-mul-try-starts (
   place-reads.Asked,
   place-reads.Learnt,
@@ -139,7 +131,6 @@ judge-mul-try-starts : (t : ℕ) → judge-lts.Need-mul-try-starts (
 ) (judge-at t) judge.Post
 judge-mul-try-starts t c = let s = c .before .before .before .before .before .before .before .before .before in omega (arith, s .pre .1 .0 .1 .stated, s .pre .1 .0 .0 .linked .valid .lines)
 
--- src/tries.rt:74:17
 judge-element-copy-out-try-starts : (t : ℕ) → judge-lts.Need-element-copy-out-try-starts (
   place-reads.Asked,
   place-reads.Learnt,
@@ -150,7 +141,6 @@ judge-element-copy-out-try-starts : (t : ℕ) → judge-lts.Need-element-copy-ou
 ) (judge-at t) judge.Post
 judge-element-copy-out-try-starts t c = let s = c .before .before .before .before .before .before .before .before .before in omega (arith, c .if4 .taken, s .pre .1 .0 .1 .last-of, s .pre .1 .0 .1 .stated, s .pre .1 .0 .0 .linked .valid .lines)
 
--- src/tries.rt:62:13
 judge-try-starts-requires : (t : ℕ) → judge-lts.Need-try-starts-requires (
   place-reads.Asked,
   place-reads.Learnt,
@@ -170,7 +160,6 @@ judge-try-starts-requires t c κs = let s = c .before .before .before .before .b
       ),
     )
 
--- src/tries.rt:62:13
 judge-returns-3 : (t : ℕ) → judge-lts.Need-returns-3 (
   place-reads.Asked,
   place-reads.Learnt,
@@ -189,7 +178,6 @@ judge-returns-3 t c = let s = c .before .before .before .before .before .before 
       (c .try-starts .ensures .1 l (can-try-next can more (c .before .before .if4 .taken))),
 )
 
--- src/tries.rt:80:9
 judge-returns-4 : (t : ℕ) → judge-lts.Need-returns-4 (
   place-reads.Asked,
   place-reads.Learnt,
@@ -207,7 +195,6 @@ judge-returns-4 t c = let s = c .before .before .before .before .before .before 
       above (c .before .if4 .left),
 )
 
--- src/tries.rt:14:1
 judge-returns-5 : (t : ℕ) → judge-lts.Need-returns-5 (
   place-reads.Asked,
   place-reads.Learnt,
@@ -224,7 +211,6 @@ judge-returns-5 t c = let s = c .before .before .before .before .before .before 
       (sym (c .before .is-above .ensures) ∙ c .if3 .left),
 )
 
--- src/tries.rt:114:9
 try-starts-returns : (t : ℕ) → try-starts-lts.Need-returns (
   judge-below t,
   judge.Post,
@@ -233,25 +219,59 @@ try-starts-returns : (t : ℕ) → try-starts-lts.Need-returns (
 ) (try-starts-at t) try-starts.Post
 try-starts-returns t c = let s = c .before in (s .pre .1 .1 .1, λ l can. sym (none-left _ (s .args .from) (s .args .count) _ (c .if1 .taken)))
 
--- src/tries.rt:117:9
 try-starts-judge-requires : (t : ℕ) → try-starts-lts.Need-judge-requires (
   judge-below t,
   judge.Post,
   try-starts-below t,
   try-starts.Post,
 ) (try-starts-at t) try-starts.Post
-try-starts-judge-requires t c κs = let s = c .before .before in (omega (arith, s .pre .0), (s .pre .1 .0, (omega (arith, s .pre .1 .1 .0, c .if2 .taken), s .pre .1 .1 .1)))
+try-starts-judge-requires t c κs = let s = c .before .before in (omega (arith, s .pre .0), (s .pre .1 .0, (omega (arith, s .pre .1 .1 .0, c .before .if1 .left), s .pre .1 .1 .1)))
 
--- src/tries.rt:117:9
 try-starts-returns-2 : (t : ℕ) → try-starts-lts.Need-returns-2 (
   judge-below t,
   judge.Post,
   try-starts-below t,
   try-starts.Post,
 ) (try-starts-at t) try-starts.Post
-try-starts-returns-2 t c = let s = c .before .before .before in (c .judge .ensures .0, λ l can. c .judge .ensures .1 l can ∙ sym (one-left _ (s .args .from) (s .args .count) _ (c .before .if2 .taken)))
+try-starts-returns-2 t c = let s = c .before .before .before .before in (
+  c .before .judge .ensures .0,
+  λ l can. c .before .judge .ensures .1 l can ∙ sym (one-left _ (s .args .from) (s .args .count) _ (c .if3 .taken)),
+)
 
--- src/tries.rt:134:9
+try-starts-add-judge : (t : ℕ) → try-starts-lts.Need-add-judge (
+  judge-below t,
+  judge.Post,
+  try-starts-below t,
+  try-starts.Post,
+) (try-starts-at t) try-starts.Post
+try-starts-add-judge t c = let s = c .before .before .before .before in omega (arith, s .pre .1 .1 .0)
+
+try-starts-judge-requires-2 : (t : ℕ) → try-starts-lts.Need-judge-requires-2 (
+  judge-below t,
+  judge.Post,
+  try-starts-below t,
+  try-starts.Post,
+) (try-starts-at t) try-starts.Post
+try-starts-judge-requires-2 t c κs = let s = c .before .before .before .before in (
+  omega (arith, s .pre .0),
+  (s .pre .1 .0, (omega (arith, s .pre .1 .1 .0, c .before .before .before .if1 .left, c .if3 .left), c .before .judge .ensures .0)),
+)
+
+try-starts-returns-3 : (t : ℕ) → try-starts-lts.Need-returns-3 (
+  judge-below t,
+  judge.Post,
+  try-starts-below t,
+  try-starts.Post,
+) (try-starts-at t) try-starts.Post
+try-starts-returns-3 t c = let s = c .before .before .before .before .before in
+    let two : s .args .count ≡ 2 = omega (arith, c .before .before .before .before .if1 .left, c .before .before .before .if2 .taken, c .before .if3 .left) in (
+      c .judge2 .ensures .0,
+      λ l can.
+          halves _ (s .args .from) 1 (s .args .count) _ _ _ (omega (arith, two))
+          (c .before .before .judge .ensures .1 l can ∙ sym (one-left _ (s .args .from) 1 _ refl))
+          (c .judge2 .ensures .1 l can ∙ sym (one-left _ (s .args .from + 1) (s .args .count - 1) _ (omega (arith, two)))),
+    )
+
 try-starts-try-starts-requires : (t : ℕ) → try-starts-lts.Need-try-starts-requires (
   judge-below t,
   judge.Post,
@@ -260,7 +280,6 @@ try-starts-try-starts-requires : (t : ℕ) → try-starts-lts.Need-try-starts-re
 ) (try-starts-at t) try-starts.Post
 try-starts-try-starts-requires t c κs = let s = c .before .before in (omega (arith, s .pre .0, c .before .if1 .left), (s .pre .1 .0, (omega (arith, s .pre .1 .1 .0), s .pre .1 .1 .1)))
 
--- src/tries.rt:161:9
 try-starts-add-try-starts : (t : ℕ) → try-starts-lts.Need-add-try-starts (
   judge-below t,
   judge.Post,
@@ -269,7 +288,6 @@ try-starts-add-try-starts : (t : ℕ) → try-starts-lts.Need-add-try-starts (
 ) (try-starts-at t) try-starts.Post
 try-starts-add-try-starts t c = let s = c .before .before .before in omega (arith, s .pre .1 .1 .0)
 
--- src/tries.rt:162:9
 try-starts-sub-try-starts : (t : ℕ) → try-starts-lts.Need-sub-try-starts (
   judge-below t,
   judge.Post,
@@ -278,7 +296,6 @@ try-starts-sub-try-starts : (t : ℕ) → try-starts-lts.Need-sub-try-starts (
 ) (try-starts-at t) try-starts.Post
 try-starts-sub-try-starts t c = omega (arith)
 
--- src/tries.rt:150:5
 try-starts-try-starts-requires-2 : (t : ℕ) → try-starts-lts.Need-try-starts-requires-2 (
   judge-below t,
   judge.Post,
@@ -287,14 +304,13 @@ try-starts-try-starts-requires-2 : (t : ℕ) → try-starts-lts.Need-try-starts-
 ) (try-starts-at t) try-starts.Post
 try-starts-try-starts-requires-2 t c κs = let s = c .before .before .before in (omega (arith, s .pre .0, c .before .before .if1 .left, c .before .if2 .left), (s .pre .1 .0, (omega (arith, s .pre .1 .1 .0), c .try-starts .ensures .0)))
 
--- src/tries.rt:92:1
-try-starts-returns-3 : (t : ℕ) → try-starts-lts.Need-returns-3 (
+try-starts-returns-4 : (t : ℕ) → try-starts-lts.Need-returns-4 (
   judge-below t,
   judge.Post,
   try-starts-below t,
   try-starts.Post,
 ) (try-starts-at t) try-starts.Post
-try-starts-returns-3 t c = let s = c .before .before .before .before in (
+try-starts-returns-4 t c = let s = c .before .before .before .before in (
   c .try-starts2 .ensures .0,
   λ l can.
       halves _ (s .args .from) (s .args .count / 2) (s .args .count) _ _ _ (omega (arith)) (c .before .try-starts .ensures .1 l can) (c .try-starts2 .ensures .1 l can),
@@ -331,8 +347,11 @@ pub +judge+try-starts-spec : {M : Type 1} → statement M
     (try-starts-returns t)
     (try-starts-judge-requires t)
     (try-starts-returns-2 t)
+    (try-starts-add-judge t)
+    (try-starts-judge-requires-2 t)
+    (try-starts-returns-3 t)
     (try-starts-try-starts-requires t)
     (try-starts-add-try-starts t)
     (try-starts-sub-try-starts t)
     (try-starts-try-starts-requires-2 t)
-    (try-starts-returns-3 t)
+    (try-starts-returns-4 t)
