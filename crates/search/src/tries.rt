@@ -89,7 +89,7 @@ pub fn judge(
 }
 
 // A line's starts from `from` on, `count` of them, ascending. They are split into halves, so that the calls nest only as deep as the
-// number of starts has digits in base two. One or two are judged at once, which saves half the calls.
+// number of starts has digits in base two. Up to 16 are judged one after another: each call copies the partial timetable.
 pub fn try_starts(
     stops: &[u8; 256],
     lines: &[u8; 256],
@@ -111,43 +111,26 @@ pub fn try_starts(
     ensures within { λ r. ⌜ r .tries ≤ budget ⌝ }
     ensures tried { λ r. ⌜ ((l : held.Laid (now (stops .entry)) (now (lines .entry)) (now (offsets .entry)) (now (previous .entry)) (now (divisors .entry)) (now (first .entry))) → held.CanTry (l .linked .net) (now (counts .entry)) last line placed → held.stateOf (l .linked .net) r ≡ eachStart (held.tryAt (l .linked .net) budget line (held.startsOf line (placed .starts))) from count (held.stateOf (l .linked .net) walk)) ⌝ }
 {
-    if count == 0 {
-        return walk;
-    }
-    if count < 3 {
-        let lower = judge(
-            stops,
-            lines,
-            offsets,
-            previous,
-            divisors,
-            first,
-            counts,
-            last,
-            budget,
-            line,
-            from,
-            placed,
-            walk,
-        );
-        if count == 1 {
-            return lower;
+    if count < 17 {
+        let mut next = walk;
+        for start in from..from + count {
+            next = judge(
+                stops,
+                lines,
+                offsets,
+                previous,
+                divisors,
+                first,
+                counts,
+                last,
+                budget,
+                line,
+                start,
+                placed,
+                next,
+            );
         }
-        return judge(
-            stops,
-            lines,
-            offsets,
-            previous,
-            divisors,
-            first,
-            counts,
-            last,
-            budget,
-            line,
-            from + 1,
-            placed,
-            lower,
-        );
+        return next;
     }
     let half = count / 2;
     let lower = try_starts(

@@ -204,7 +204,7 @@ pub none-left : (step : ℕ → State → State) (from count : ℕ) (s : State) 
 unfolding eachStart
 none-left step from count s e = rw e refl
 
-pub one-left : (step : ℕ → State → State) (from count : ℕ) (s : State) → count ≡ 1 → eachStart step from count s ≡ step from s
+one-left : (step : ℕ → State → State) (from count : ℕ) (s : State) → count ≡ 1 → eachStart step from count s ≡ step from s
 one-left step from count s e = ap (λ (k : ℕ). eachStart step from k s) e ∙ eachStart-one step from s
 
 pub halves : (step : ℕ → State → State) (from a count : ℕ) (s t u : State) → a ≤ count → t ≡ eachStart step from a s
@@ -214,3 +214,10 @@ halves step from a count s t u l e f =
     ∙ ap (eachStart step (from + a) (count - a)) e
     ∙ sym (eachStart-split step from a (count - a) s)
     ∙ ap (λ (k : ℕ). eachStart step from k s) (omega (arith, l))
+
+-- one start more
+pub one-more : (step : ℕ → State → State) (from start : ℕ) (s t u : State) → from ≤ start → t ≡ eachStart step from (start - from) s → u ≡ step start t
+    → u ≡ eachStart step from (start + 1 - from) s
+one-more step from start s t u l e f =
+    halves step from (start - from) (start + 1 - from) s t u (omega (arith, l)) e
+    (f ∙ ap (λ (k : ℕ). step k t) (omega (arith, l)) ∙ sym (one-left step (from + (start - from)) (start + 1 - from - (start - from)) t (omega (arith, l))))
