@@ -21,6 +21,11 @@ unfoldable pub rowAfter : Outcome → List ℕ → List ℕ
 rowAfter (values vs) row = vs
 rowAfter (refusal number place) row = row
 
+-- The place that an answer names, 0 where it is no refusal
+unfoldable pub placeOf : Outcome → ℕ
+placeOf (values vs) = 0
+placeOf (refusal number place) = place
+
 -- The search: 0 finished, 1 stopped with a best, 2 stopped with none; the best rating, 0 and 0 where there is none, and the tries
 unfoldable pub searchStatus : SearchOutcome → ℕ
 searchStatus (search.finished least sum tries) = 0

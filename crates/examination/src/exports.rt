@@ -19,7 +19,7 @@ ghost use Prim.Native.Nat.{_<_};
 ghost use lib.IntN.{ℤ};
 ghost use lib.ListN.{length};
 ghost use Rattle.network.specs.ClassCall as call;
-ghost use Rattle.network.specs.Rate.{rateOutcome};
+ghost use Rattle.network.specs.Rate.{rateAnswer, rateOutcome};
 ghost use Rattle.network.specs.Reading.{Reading, readFile, readOutcome, refusal};
 ghost use Rattle.search.specs.Search.{searchOutcome, startRowAfter};
 ghost use Rattle.examination.specs.Bytes as bytes;
@@ -39,6 +39,21 @@ pub fn one_if(test: bool) -> u32
     ensures { λ r. ⌜ r ≡ export.oneIf test ⌝ }
 {
     if test { 1 } else { 0 }
+}
+
+// A rating's two numbers into the answer row, or a refusal; and what the export returns.
+pub fn put_rating(told: RateAnswer, answer: &mut [u32; 2]) -> u32
+    requires { ⌜ export.placeOf (rateAnswer told) < 65536 ⌝ }
+    ensures returned { λ r. ⌜ r ≡ export.status (rateAnswer told) ⌝ }
+    ensures row { λ _. ⌜ now (answer .exit) ≡ export.rowAfter (rateAnswer told) (now (answer .entry)) ⌝ }
+{
+    match told {
+        RateAnswer::Refused { number, place } => refusal_code(number, place),
+        RateAnswer::Rated { least, sum } => {
+            *answer = [least, sum];
+            0
+        }
+    }
 }
 
 // Read.
@@ -72,13 +87,7 @@ pub extern "C" fn examination_rate(file: &[u8], sheet: &[u8], answer: &mut [u32;
     let starts = taken.starts;
     let count = taken.count;
     let told = rate(file, &starts[..count]);
-    match told {
-        RateAnswer::Refused { number, place } => refusal_code(number, place),
-        RateAnswer::Rated { least, sum } => {
-            *answer = [least, sum];
-            0
-        }
-    }
+    put_rating(told, answer)
 }
 
 // The weighted rating, the sheet as bytes.
@@ -91,13 +100,7 @@ pub extern "C" fn examination_weighted(file: &[u8], sheet: &[u8], answer: &mut [
     let starts = taken.starts;
     let count = taken.count;
     let told = weighted(file, &starts[..count]);
-    match told {
-        RateAnswer::Refused { number, place } => refusal_code(number, place),
-        RateAnswer::Rated { least, sum } => {
-            *answer = [least, sum];
-            0
-        }
-    }
+    put_rating(told, answer)
 }
 
 // The class call.

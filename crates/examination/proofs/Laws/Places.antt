@@ -20,14 +20,11 @@ use Rattle.network.proofs.Laws.Lists.{zero-ne-one}
 use Rattle.network.proofs.Laws.Reading.{refused-place}
 use Rattle.search.specs.Search.{SearchOutcome, finished, stopped, stoppedWithNone, searchOutcome, outcomeOf, walkOutcome, searched}
 use Rattle.search.specs.Search as search
+use Rattle.examination.specs.Exports.{placeOf}
 use Rattle.examination.specs.Sheets.{marked, markOutcome, fits}
 use Rattle.examination.specs.Sheets as sheets
 
--- The place that an outcome names; 0 where it isn't a refusal
-unfoldable pub placeOf : Outcome → ℕ
-placeOf (values vs) = 0
-placeOf (refusal number place) = place
-
+-- The place that a search or a mark names; 0 where it isn't a refusal
 unfoldable pub placeOfSearch : SearchOutcome → ℕ
 placeOfSearch (finished least sum tries) = 0
 placeOfSearch (stopped least sum tries) = 0

@@ -5,8 +5,8 @@ use borrow.Author.Needs.{needs}
 use lib.ListN.{length}
 use Rattle.network.specs.ClassCall.{classAnswer, classOutcome}
 use Rattle.network.specs.Reading.{Outcome, refusal, readFile}
-use Rattle.examination.specs.Exports.{status, rowAfter}
-use Rattle.examination.proofs.Laws.Places.{placeOf, class-place}
+use Rattle.examination.specs.Exports.{placeOf, status, rowAfter}
+use Rattle.examination.proofs.Laws.Places.{class-place}
 use Rattle.examination.proofs.exports.examination_classes.Statement.{statement}
 use Rattle.examination.proofs.exports.examination_classes.Tie as tie
 

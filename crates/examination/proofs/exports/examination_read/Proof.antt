@@ -4,8 +4,8 @@ use mathlib.Core.Path.{_≡_, refl, sym, ap, _∙_}
 use mathlib.Core.List.{List}
 use borrow.Author.Needs.{needs}
 use Rattle.network.specs.Reading.{Outcome, values, refusal, readFile, readAnswer, readOutcome}
-use Rattle.examination.specs.Exports.{status, rowAfter}
-use Rattle.examination.proofs.Laws.Places.{placeOf, read-place}
+use Rattle.examination.specs.Exports.{placeOf, status, rowAfter}
+use Rattle.examination.proofs.Laws.Places.{read-place}
 use Rattle.examination.proofs.exports.examination_read.Statement.{statement}
 use Rattle.examination.proofs.exports.examination_read.Tie as tie
 
