@@ -25,7 +25,8 @@ use Rattle.network.proofs.Laws.Membership.{keep-of-member, member-of-ke
 use Rattle.network.proofs.Laws.Membership.{leastOf-same-members}
 use Rattle.network.proofs.Laws.Divisor.{gcd-pos-left}
 use Rattle.network.proofs.Laws.Integers.{difference, difference-add, difference-sub, eq-of-difference}
-use Rattle.network.proofs.Laws.Gap.{residue-of-add, gapOf-residue, gapOf-symmetric}
+use Rattle.network.proofs.Laws.Gap.{residue-of-add, gapOf-residue}
+use Rattle.network.proofs.Laws.Pairs.{gapOfCalls-symmetric}
 
 -- ---- two lists of calls
 
@@ -61,10 +62,6 @@ module _ (n : Net) (starts : List ℤ) where
   abbrev gaps : List Call → List ℕ
   gaps = pairGaps n starts
 
-  pub gapOfCalls-symmetric : (c d : Call) → 0 < periodOf n c → 0 < periodOf n d → gapOfCalls n starts c d ≡ gapOfCalls n starts d c
-  unfolding gapOfCalls
-  gapOfCalls-symmetric c d h k = gapOf-symmetric _ _ _ _ h k
-
   -- the gaps of all pairs of different calls are those of any two of different lines, in either order
   gaps-of-members : (cs : List Call) → ((c : Call) → List·Memᴰ c cs → 0 < periodOf n c)
       → {c d : Call} → List·Memᴰ c cs → List·Memᴰ d cs → (c .line ≡ d .line → ⊥) → List·Memᴰ (gap c d) (gaps cs)
@@ -80,7 +77,7 @@ module _ (n : Net) (starts : List ℤ) where
           → List·Memᴰ (gap c d) (map (gap x) cs ++ gaps cs)
       go ih (inl e) (inl f) = absurd (h (ap (λ (y : Call). y .line) (e ∙ sym f)))
       go ih (inl e) (inr l) = with-first l (ap (λ (y : Call). gap y d) e)
-      go ih (inr l) (inl f) = with-first l (gapOfCalls-symmetric c d (q c m) (q d k) ∙ ap (λ (y : Call). gap y c) f)
+      go ih (inr l) (inl f) = with-first l (gapOfCalls-symmetric n starts c d (q c m) (q d k) ∙ ap (λ (y : Call). gap y c) f)
       go ih (inr l) (inr o) = Memᴰ·append-right (map (gap x) cs) (ih l o)
 
   -- two calls of different lines with that gap

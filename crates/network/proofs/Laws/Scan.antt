@@ -20,6 +20,7 @@ use Rattle.network.specs.Network.{Net}
 use Rattle.network.specs.Valid.{noCall}
 use Rattle.network.specs.Rating.{periodOf, gapOfCalls, pairGaps, gapOfStop, Counted}
 use Rattle.network.specs.Scan.{lastAt, callsBefore, LeadsBack, leastFrom, ratingOfGaps, withStop}
+use Rattle.network.proofs.Laws.Members as members
 use Rattle.network.proofs.Laws.Tables.{sumOf-append}
 use Rattle.network.proofs.Laws.Divisor.{gcd-le-left}
 use Rattle.network.proofs.Laws.Gap.{gapOf-half}
@@ -194,15 +195,7 @@ pub keep-all :
     → (i : ℕ)
     → i < length (keep p xs)
     → P (getD (keep p xs) i d)
-unfolding keep
-keep-all P p d [] f i h = absurd (omega arith)
-keep-all P p d (x ∷ xs) f i h = go (p x) (keep-all P p d xs (λ m q. f (suc m) (suc-le-suc q))) i h
-  where
-    go : (t : Bool) → ((j : ℕ) → j < length (keep p xs) → P (getD (keep p xs) j d))
-        → (j : ℕ) → j < length (pick t (x ∷ keep p xs) (keep p xs)) → P (getD (pick t (x ∷ keep p xs) (keep p xs)) j d)
-    go true ih zero k = f 0 (zero-lt-suc _)
-    go true ih (suc j) k = ih j (le-of-suc-le-suc k)
-    go false ih j k = ih j k
+keep-all P p d xs f = members.keep-all d p P xs (λ i h e. f i h)
 
 -- where a call at the stop is the last, there is one
 pub callsBefore-some : (stop : ℕ) (l : List Call) (k : ℕ) → 0 < k → k ≤ length l → getD l (k - 1) noCall .stop ≡ stop → 0 < length (callsBefore stop l k)
