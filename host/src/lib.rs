@@ -1,10 +1,15 @@
-//! The papers, written out in plain Rust from document 01 and source 000
-//! alone, to be compared with the proved engine.
+//! The host of the proved engine, and the papers written out in plain Rust
+//! from document 01 and source 000 alone, to be compared with it.
 //!
-//! * [`papers`] is the implementation, one file for each section of document 01.
+//! * [`engine`] is the proved engine behind a safe wrapper.
+//! * [`papers`] is the independent implementation, one file for each section of
+//!   document 01.
 //! * [`files`] makes network files and sheets, good and bad, from a seed.
 //! * [`program`] runs the proved engine's program `best`.
 
+#![deny(unsafe_code)]
+
+pub mod engine;
 pub mod files;
 pub mod papers;
 pub mod program;

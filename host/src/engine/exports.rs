@@ -1,0 +1,154 @@
+//! The engine's exports as docs/ABI.md declares them, and beside each a
+//! function over slices. This is the only module of the crate with raw
+//! pointers: `deny(unsafe_code)` holds for all others.
+//!
+//! Why the calls are sound: a slice's pointer is valid for its length and never
+//! null, also for an empty slice; a `&mut` row overlaps nothing else that is
+//! handed over; the engine keeps no state and no pointer.
+
+#![allow(unsafe_code)]
+
+#[link(name = "examination", kind = "static")]
+extern "C" {
+    fn examination_read(file: *const u8, file_len: usize, answer: *mut [u32; 4]) -> u32;
+    fn examination_rate(
+        file: *const u8,
+        file_len: usize,
+        sheet: *const u8,
+        sheet_len: usize,
+        answer: *mut [u32; 2],
+    ) -> u32;
+    fn examination_weighted(
+        file: *const u8,
+        file_len: usize,
+        sheet: *const u8,
+        sheet_len: usize,
+        answer: *mut [u32; 2],
+    ) -> u32;
+    fn examination_classes(
+        file: *const u8,
+        file_len: usize,
+        class_row: *mut u8,
+        class_len: usize,
+        weight_row: *mut u16,
+        weight_len: usize,
+        answer: *mut [u32; 1],
+    ) -> u32;
+    fn examination_search(
+        file: *const u8,
+        file_len: usize,
+        start_row: *mut i32,
+        start_len: usize,
+        budget: u32,
+        answer: *mut [u32; 3],
+    ) -> u32;
+    fn examination_better(
+        file: *const u8,
+        file_len: usize,
+        first: *const u8,
+        first_len: usize,
+        second: *const u8,
+        second_len: usize,
+    ) -> u32;
+    fn examination_mark(
+        file: *const u8,
+        file_len: usize,
+        sheet: *const u8,
+        sheet_len: usize,
+        budget: u32,
+        answer: *mut [u32; 6],
+    ) -> u32;
+}
+
+pub fn read(file: &[u8], answer: &mut [u32; 4]) -> u32 {
+    // SAFETY: see above.
+    unsafe { examination_read(file.as_ptr(), file.len(), answer) }
+}
+
+pub fn rate(file: &[u8], sheet: &[u8], answer: &mut [u32; 2]) -> u32 {
+    // SAFETY: see above.
+    unsafe {
+        examination_rate(
+            file.as_ptr(),
+            file.len(),
+            sheet.as_ptr(),
+            sheet.len(),
+            answer,
+        )
+    }
+}
+
+pub fn weighted(file: &[u8], sheet: &[u8], answer: &mut [u32; 2]) -> u32 {
+    // SAFETY: see above.
+    unsafe {
+        examination_weighted(
+            file.as_ptr(),
+            file.len(),
+            sheet.as_ptr(),
+            sheet.len(),
+            answer,
+        )
+    }
+}
+
+pub fn classes(
+    file: &[u8],
+    class_row: &mut [u8],
+    weight_row: &mut [u16],
+    answer: &mut [u32; 1],
+) -> u32 {
+    // SAFETY: see above.
+    unsafe {
+        examination_classes(
+            file.as_ptr(),
+            file.len(),
+            class_row.as_mut_ptr(),
+            class_row.len(),
+            weight_row.as_mut_ptr(),
+            weight_row.len(),
+            answer,
+        )
+    }
+}
+
+pub fn search(file: &[u8], start_row: &mut [i32], budget: u32, answer: &mut [u32; 3]) -> u32 {
+    // SAFETY: see above.
+    unsafe {
+        examination_search(
+            file.as_ptr(),
+            file.len(),
+            start_row.as_mut_ptr(),
+            start_row.len(),
+            budget,
+            answer,
+        )
+    }
+}
+
+pub fn better(file: &[u8], first: &[u8], second: &[u8]) -> u32 {
+    // SAFETY: see above.
+    unsafe {
+        examination_better(
+            file.as_ptr(),
+            file.len(),
+            first.as_ptr(),
+            first.len(),
+            second.as_ptr(),
+            second.len(),
+        )
+    }
+}
+
+pub fn mark(file: &[u8], sheet: &[u8], budget: u32, answer: &mut [u32; 6]) -> u32 {
+    // SAFETY: see above.
+    unsafe {
+        examination_mark(
+            file.as_ptr(),
+            file.len(),
+            sheet.as_ptr(),
+            sheet.len(),
+            budget,
+            answer,
+        )
+    }
+}
