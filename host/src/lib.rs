@@ -2,6 +2,7 @@
 //! from document 01 and source 000 alone, to be compared with it.
 //!
 //! * [`engine`] is the proved engine behind a safe wrapper.
+//! * [`command`] is the command `exam`.
 //! * [`papers`] is the independent implementation, one file for each section of
 //!   document 01.
 //! * [`files`] makes network files and sheets, good and bad, from a seed.
@@ -9,6 +10,7 @@
 
 #![deny(unsafe_code)]
 
+pub mod command;
 pub mod engine;
 pub mod files;
 pub mod papers;

@@ -1,0 +1,25 @@
+//! Standard output, where the answers go, and standard error, where everything
+//! else goes.
+
+use super::Trouble;
+use std::io::{self, ErrorKind, Write};
+
+/// Writes an answer, line ends and all.
+pub fn put(text: impl AsRef<str>) -> Result<(), Trouble> {
+    let mut out = io::stdout().lock();
+    let written = out
+        .write_all(text.as_ref().as_bytes())
+        .and_then(|()| out.flush());
+    written.map_err(|error| match error.kind() {
+        ErrorKind::BrokenPipe => {
+            Trouble("standard output was closed before the answer was written".to_string())
+        }
+        _ => Trouble(format!("standard output can't be written: {error}")),
+    })
+}
+
+/// Writes a message. Where nobody listens to messages there is nothing left to
+/// say it to, so an error is passed over.
+pub fn say(message: &str) {
+    let _ = writeln!(io::stderr().lock(), "{message}");
+}

@@ -1,0 +1,181 @@
+//! What each verb asks of the engine and prints.
+
+use super::fault;
+use super::folder;
+use super::network::{self, Network};
+use super::output::{put, say};
+use super::sheet;
+use super::watch::Watch;
+use super::words::{Request, Verb};
+use super::{Status, Trouble};
+use crate::engine::{self, Better, Mark, Rating, Refusal, Searched, Sheet};
+
+type Ended = Result<Status, Trouble>;
+
+/// Loads what the request names, asks the engine and prints its answer.
+pub fn run(request: &Request) -> Ended {
+    let network = network::load(&request.network, request.network_form)?;
+    if let (Verb::Mark, Some(path)) = (
+        request.verb,
+        request.sheets.first().and_then(|s| s.folder()),
+    ) {
+        return folder::mark(path, &network, request);
+    }
+    let load = |source| sheet::load(source, request.sheet_form);
+    let sheets: Vec<Sheet> = request.sheets.iter().map(load).collect::<Result<_, _>>()?;
+    match (request.verb, sheets.as_slice()) {
+        (Verb::Read, []) => read(&network),
+        (Verb::Classes, []) => classes(&network),
+        (Verb::Best, []) => best(&network, request),
+        (Verb::Rate, [sheet]) => rate(&network, sheet),
+        (Verb::Mark, [sheet]) => mark(&network, sheet, request),
+        (Verb::Better, [first, second]) => better(&network, first, second),
+        _ => unreachable!("each verb has its number of sheets"),
+    }
+}
+
+/// A refusal: `refused 5 at 0` and nothing else on standard output, the words
+/// on standard error.
+pub fn refused(refusal: Refusal, network: &Network) -> Ended {
+    say(&fault::explained(refusal, network));
+    put(format!("{refusal}\n"))?;
+    Ok(Status::Refused)
+}
+
+fn read(network: &Network) -> Ended {
+    let counts = match engine::read(&network.bytes) {
+        Ok(counts) => counts,
+        Err(refusal) => return refused(refusal, network),
+    };
+    put(format!(
+        "lines {} stops {} calls {} cycle {}\n",
+        counts.lines, counts.served_stops, counts.calls, counts.cycle
+    ))?;
+    Ok(Status::Done)
+}
+
+fn rate(network: &Network, sheet: &Sheet) -> Ended {
+    match engine::rate(&network.bytes, sheet) {
+        Ok(rating) => put(format!("{}\n", shown(rating))).map(|()| Status::Done),
+        Err(refusal) => refused(refusal, network),
+    }
+}
+
+fn classes(network: &Network) -> Ended {
+    let classes = match engine::classes(&network.bytes) {
+        Ok(classes) => classes,
+        Err(refusal) => return refused(refusal, network),
+    };
+    put(format!(
+        "classes {}\nclass {}\nweight {}\n",
+        classes.count,
+        joined(&classes.class_row),
+        joined(&classes.weight_row)
+    ))?;
+    Ok(Status::Done)
+}
+
+fn best(network: &Network, request: &Request) -> Ended {
+    let budget = request.budget;
+    let watch = Watch::begin(request.quiet, move || format!("searching, budget {budget}"));
+    let searched = engine::search(&network.bytes, budget);
+    drop(watch);
+    let (searched, starts) = match searched {
+        Ok(found) => found,
+        Err(refusal) => return refused(refusal, network),
+    };
+    let line = |best: Rating, tries: u32| {
+        format!("{} tries {tries} starts {}\n", shown(best), joined(&starts))
+    };
+    match searched {
+        Searched::Finished { best, tries } => put(line(best, tries)).map(|()| Status::Done),
+        Searched::Stopped { best, tries } => {
+            put(format!("stopped {}", line(best, tries)))?;
+            say("exam: the budget is used up; there may be a better timetable (--budget N)");
+            Ok(Status::Undecided)
+        }
+        Searched::StoppedWithNone { tries } => {
+            put(format!("stopped tries {tries}\n"))?;
+            say("exam: the budget was used up before the first timetable (--budget N)");
+            Ok(Status::Undecided)
+        }
+    }
+}
+
+fn better(network: &Network, first: &Sheet, second: &Sheet) -> Ended {
+    match engine::better(&network.bytes, first, second) {
+        Better::First => put("first\n").map(|()| Status::Done),
+        Better::Second => put("second\n").map(|()| Status::Done),
+        Better::Neither => {
+            say(&why_neither(network, first, second));
+            put("neither\n")?;
+            Ok(Status::Refused)
+        }
+    }
+}
+
+/// The engine gives better-of-two no number, so the read call is asked whether
+/// it was the file.
+fn why_neither(network: &Network, first: &Sheet, second: &Sheet) -> String {
+    match engine::read(&network.bytes) {
+        Err(refusal) => fault::explained(refusal, network),
+        Ok(counts) => format!(
+            "exam: no sheet has one start for each line: {} lines, 4 bytes each; the sheets have {} \
+             and {} bytes",
+            counts.lines,
+            first.bytes().len(),
+            second.bytes().len()
+        ),
+    }
+}
+
+fn mark(network: &Network, sheet: &Sheet, request: &Request) -> Ended {
+    let budget = request.budget;
+    let watch = Watch::begin(request.quiet, move || format!("marking, budget {budget}"));
+    let marked = engine::mark(&network.bytes, sheet, budget);
+    drop(watch);
+    match marked {
+        Ok(mark) => {
+            let (line, status) = mark_line(mark);
+            put(format!("{line}\n"))?;
+            if status == Status::Undecided {
+                say(
+                    "exam: the budget was used up before the best timetable was known (--budget N)",
+                );
+            }
+            Ok(status)
+        }
+        Err(refusal) => refused(refusal, network),
+    }
+}
+
+/// A mark as it is printed, without a line end.
+pub fn mark_line(mark: Mark) -> (String, Status) {
+    match mark {
+        Mark::Decided {
+            sheet,
+            best,
+            equal,
+            tries,
+        } => {
+            let (sheet, best) = (shown(sheet), shown(best));
+            let word = if equal { "equal" } else { "below" };
+            let line = format!("{sheet} best {best} {word} tries {tries}");
+            (line, Status::Done)
+        }
+        Mark::Undecided { sheet, tries } => {
+            let line = format!("undecided {} tries {tries}", shown(sheet));
+            (line, Status::Undecided)
+        }
+    }
+}
+
+fn shown(rating: Rating) -> String {
+    format!("gap {} sum {}", rating.least, rating.sum)
+}
+
+/// Numbers with blanks between them.
+fn joined<T: ToString>(numbers: &[T]) -> String {
+    let numbers: Vec<String> = numbers.iter().map(T::to_string).collect();
+    numbers.join(" ")
+}
