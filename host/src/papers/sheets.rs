@@ -97,6 +97,30 @@ pub fn mark_bytes(file: &[u8], sheet: &[u8], budget: u32) -> Result<Marked, Refu
     mark(file, &starts, budget)
 }
 
+/// The weighted rating, the sheet as bytes.
+pub fn weighted_bytes(file: &[u8], sheet: &[u8]) -> Result<Rating, Refusal> {
+    let starts = read_both_bytes(file, sheet)?;
+    weighted_rate(file, &starts)
+}
+
+/// Which of two sheets is the better.
+#[derive(Clone, Copy, Debug, PartialEq, Eq)]
+pub enum Better {
+    First,
+    Second,
+    Neither,
+}
+
+/// Better-of-two, the sheets as bytes.
+pub fn better_bytes(file: &[u8], first: &[u8], second: &[u8]) -> Better {
+    match (rate_bytes(file, first), rate_bytes(file, second)) {
+        (Ok(one), Ok(other)) if other > one => Better::Second,
+        (Ok(_), _) => Better::First,
+        (Err(_), Ok(_)) => Better::Second,
+        (Err(_), Err(_)) => Better::Neither,
+    }
+}
+
 /// Reads the file, then takes the byte sheet apart: "a byte count other than
 /// 4×lines is ground 15".
 fn read_both_bytes(file: &[u8], sheet: &[u8]) -> Result<Vec<i32>, Refusal> {

@@ -1,0 +1,383 @@
+//! The engine behind its safe wrapper beside the independent implementation, on
+//! seeded files and sheets of every kind, and its optimum beside every
+//! timetable of small networks.
+//!
+//! `EXAM_CASES=1000000 cargo test --release --offline --test engine` is the
+//! longer run. A case is made from its number alone; a failure names it.
+
+use host::engine::{self, Counts, Mark, Rating, Refusal, Searched, Sheet};
+use host::files::{
+    any_budget, any_file, any_sheet_bytes, bytes_of, sheet_bytes, valid_commands_of, Dice, Size,
+};
+use host::papers;
+use host::papers::network::{read, Network};
+use host::papers::rating::{rating, whole};
+use host::papers::sheets::{better_bytes, mark_bytes, rate_bytes, weighted_bytes, Better, Marked};
+use host::papers::walk::{walk, Answer, Walked};
+use std::panic::{catch_unwind, AssertUnwindSafe};
+use std::sync::atomic::{AtomicUsize, Ordering};
+
+const USUAL_CASES: usize = 20_000;
+
+fn cases() -> usize {
+    match std::env::var("EXAM_CASES") {
+        Ok(number) => number.parse().expect("EXAM_CASES is a number"),
+        Err(_) => USUAL_CASES,
+    }
+}
+
+// ---------------------------------------------------------------------------
+// The papers' answers in the wrapper's types
+// ---------------------------------------------------------------------------
+
+fn refusal(paper: papers::network::Refusal) -> Refusal {
+    Refusal {
+        number: paper.number.into(),
+        place: paper.place as u32,
+    }
+}
+
+fn rated(paper: papers::rating::Rating) -> Rating {
+    Rating {
+        least: paper.least,
+        sum: paper.sum,
+    }
+}
+
+fn rating_or_refusal(
+    paper: Result<papers::rating::Rating, papers::network::Refusal>,
+) -> Result<Rating, Refusal> {
+    paper.map(rated).map_err(refusal)
+}
+
+fn counts(net: &Network) -> Counts {
+    let counts = net.counts();
+    Counts {
+        lines: counts.lines as u32,
+        served_stops: counts.served_stops as u32,
+        calls: counts.calls as u32,
+        cycle: counts.cycle,
+    }
+}
+
+fn searched(walked: Walked) -> (Searched, Vec<i32>) {
+    let searched = match walked.answer {
+        Answer::Finished { best, tries } => Searched::Finished {
+            best: rated(best),
+            tries,
+        },
+        Answer::Stopped { best, tries } => Searched::Stopped {
+            best: rated(best),
+            tries,
+        },
+        Answer::StoppedWithNone { tries } => Searched::StoppedWithNone { tries },
+    };
+    (searched, walked.starts.unwrap_or_default())
+}
+
+fn marked(paper: Marked) -> Mark {
+    match paper {
+        Marked::Decided {
+            sheet,
+            best,
+            equal,
+            tries,
+        } => Mark::Decided {
+            sheet: rated(sheet),
+            best: rated(best),
+            equal,
+            tries,
+        },
+        Marked::Undecided { sheet, tries } => Mark::Undecided {
+            sheet: rated(sheet),
+            tries,
+        },
+    }
+}
+
+// ---------------------------------------------------------------------------
+// Seeded cases
+// ---------------------------------------------------------------------------
+
+/// What a case was, to see that every kind came.
+#[derive(Clone, Copy, Debug, Default, PartialEq, Eq)]
+struct Kind {
+    /// The ground that rate gave, 0 if it rated.
+    ground: u32,
+    /// Finished, stopped, stopped with none.
+    search: Option<usize>,
+    /// First, second, neither.
+    better: usize,
+    /// Decided equal, decided below, undecided.
+    mark: Option<usize>,
+    empty: bool,
+    very_long: bool,
+    /// Fewer classes than served stops.
+    alike: bool,
+}
+
+/// Compares every call on the case of a number.
+fn case(number: usize) -> Kind {
+    let mut dice = Dice::new(0x0EE0_0000_0000 + number as u64);
+    let file = any_file(&mut dice);
+    let net = read(&file).map_err(refusal);
+    let lines = net
+        .as_ref()
+        .map_or_else(|_| dice.below(6), |net| net.lines());
+    let sheets = [0, 1].map(|_| any_sheet_bytes(&mut dice, lines));
+    let mut kind = Kind {
+        empty: file.is_empty(),
+        very_long: file.len() >= 10_000,
+        ..Kind::default()
+    };
+    assert_eq!(
+        engine::read(&file),
+        net.as_ref().map(counts).map_err(|&why| why)
+    );
+    compare_classes(&file, &net, &mut kind);
+    compare_search(&mut dice, &file, &net, &mut kind);
+    compare_sheets(&mut dice, &file, &net, &sheets, &mut kind);
+    kind
+}
+
+fn compare_classes(file: &[u8], net: &Result<Network, Refusal>, kind: &mut Kind) {
+    let found = engine::classes(file);
+    match net {
+        Err(why) => assert_eq!(found, Err(*why)),
+        Ok(net) => {
+            let found = found.expect("an accepted file");
+            let paper = papers::classes::classes(net);
+            assert_eq!(found.class_row, paper.class_row);
+            assert_eq!(found.weight_row, paper.weight_row);
+            assert_eq!(found.count as usize, paper.count);
+            kind.alike = paper.count < net.served_stops().len();
+        }
+    }
+}
+
+fn compare_search(dice: &mut Dice, file: &[u8], net: &Result<Network, Refusal>, kind: &mut Kind) {
+    let budget = any_budget(dice);
+    let found = engine::search(file, budget);
+    match net {
+        Err(why) => assert_eq!(found, Err(*why)),
+        Ok(net) => {
+            let walked = walk(net, budget);
+            let ended = match walked.answer {
+                Answer::Finished { .. } => 0,
+                Answer::Stopped { .. } => 1,
+                Answer::StoppedWithNone { .. } => 2,
+            };
+            assert_eq!(found, Ok(searched(walked)));
+            kind.search = Some(ended);
+        }
+    }
+}
+
+fn compare_sheets(
+    dice: &mut Dice,
+    file: &[u8],
+    net: &Result<Network, Refusal>,
+    [first, second]: &[Vec<u8>; 2],
+    kind: &mut Kind,
+) {
+    let [one, other] = [first, second].map(|bytes| Sheet::of_bytes(bytes.clone()));
+    let paper = rating_or_refusal(rate_bytes(file, first));
+    kind.ground = paper.map_or_else(|why| why.number, |_| 0);
+    assert_eq!(engine::rate(file, &one), paper);
+    let paper = rating_or_refusal(weighted_bytes(file, first));
+    assert_eq!(engine::weighted(file, &one), paper);
+    let (expected, at) = match better_bytes(file, first, second) {
+        Better::First => (engine::Better::First, 0),
+        Better::Second => (engine::Better::Second, 1),
+        Better::Neither => (engine::Better::Neither, 2),
+    };
+    assert_eq!(engine::better(file, &one, &other), expected);
+    kind.better = at;
+    let budget = any_budget(dice);
+    compare_mark(file, first, budget, kind);
+    // Candidates hand in the best timetable more often than chance does.
+    if let (Ok(net), true) = (net, dice.once_in(4)) {
+        if let Some(starts) = walk(net, budget).starts {
+            compare_mark(file, &sheet_bytes(&starts), budget, kind);
+        }
+    }
+}
+
+fn compare_mark(file: &[u8], sheet: &[u8], budget: u32, kind: &mut Kind) {
+    let paper = mark_bytes(file, sheet, budget).map(marked).map_err(refusal);
+    let found = engine::mark(file, &Sheet::of_bytes(sheet.to_vec()), budget);
+    assert_eq!(found, paper);
+    kind.mark = paper.ok().map(|mark| match mark {
+        Mark::Decided { equal: true, .. } => 0,
+        Mark::Decided { equal: false, .. } => 1,
+        Mark::Undecided { .. } => 2,
+    });
+}
+
+/// The cases on two threads, which call the engine at once.
+fn all_kinds(cases: usize) -> Vec<Kind> {
+    let next = AtomicUsize::new(0);
+    let work = || {
+        let mut kinds = Vec::new();
+        loop {
+            let number = next.fetch_add(1, Ordering::Relaxed);
+            if number >= cases {
+                return kinds;
+            }
+            let kind = catch_unwind(AssertUnwindSafe(|| case(number)));
+            kinds.push(kind.unwrap_or_else(|_| panic!("case {number} differs, see above")));
+        }
+    };
+    std::thread::scope(|scope| {
+        let threads = [scope.spawn(work), scope.spawn(work)];
+        threads
+            .map(|thread| thread.join().expect("no case differs"))
+            .concat()
+    })
+}
+
+#[test]
+fn seeded_files_and_sheets() {
+    let cases = cases();
+    let kinds = all_kinds(cases);
+    assert_eq!(kinds.len(), cases);
+    let count = |test: &dyn Fn(&Kind) -> bool| kinds.iter().filter(|kind| test(kind)).count();
+    let grounds: Vec<usize> = (0..=15)
+        .map(|ground| count(&|kind| kind.ground == ground))
+        .collect();
+    let searches = [0, 1, 2].map(|end| count(&|kind| kind.search == Some(end)));
+    let betters = [0, 1, 2].map(|at| count(&|kind| kind.better == at));
+    let marks = [0, 1, 2].map(|at| count(&|kind| kind.mark == Some(at)));
+    let long = count(&|kind| kind.very_long);
+    let empty = count(&|kind| kind.empty);
+    let alike = count(&|kind| kind.alike);
+    println!(
+        "{cases} cases; rated {}, refused by ground {:?}",
+        grounds[0],
+        &grounds[1..]
+    );
+    println!("searches finished, stopped, stopped with none: {searches:?}");
+    println!("better first, second, neither: {betters:?}");
+    println!("marks equal, below, undecided: {marks:?}");
+    println!("very long {long}, empty {empty}, with alike stops {alike}");
+    // The kinds that come least often are some twenty in 20,000.
+    let least = cases / 1_000;
+    let of_kinds = [
+        &grounds[..],
+        &searches,
+        &betters,
+        &marks,
+        &[long, empty, alike],
+    ]
+    .concat();
+    assert!(of_kinds.iter().all(|&count| count >= least));
+}
+
+// ---------------------------------------------------------------------------
+// Every timetable
+// ---------------------------------------------------------------------------
+
+/// A network with at most so many timetables of starts within the periods.
+fn small_file(dice: &mut Dice, most: u32) -> (Vec<u8>, Network) {
+    loop {
+        let size = Size {
+            lines: (1, 4),
+            stops: (1, 6),
+            cycle: dice.pick(&[6, 8, 12, 20, 24, 30, 36, 60, 60, 72, 210]),
+            longest: dice.pick(&[6, 12, 20, 36]),
+        };
+        let file = bytes_of(&valid_commands_of(dice, &size));
+        let net = read(&file).expect("a valid file");
+        if net.periods.iter().product::<u32>() <= most {
+            return (file, net);
+        }
+    }
+}
+
+/// The best rating of all timetables, each start within its period.
+fn best_of_every(net: &Network) -> Rating {
+    let count: u32 = net.periods.iter().product();
+    let timetable = |mut number: u32| -> Vec<i32> {
+        let digit = |&period: &u32| {
+            let start = number % period;
+            number /= period;
+            start as i32
+        };
+        net.periods.iter().map(digit).collect()
+    };
+    let best = (0..count).map(|number| rating(net, &whole(&timetable(number))));
+    rated(best.max().expect("a timetable"))
+}
+
+/// The engine's optimum is the best of every timetable of small networks, its
+/// starts have that rating, and a sheet with them is marked equal.
+#[test]
+fn the_optimum_beside_every_timetable() {
+    let mut dice = Dice::new(71);
+    let mut several_lines = 0;
+    for number in 0..1_000 {
+        let (file, net) = small_file(&mut dice, 10_000);
+        several_lines += usize::from(net.lines() > 2);
+        let best = best_of_every(&net);
+        let (searched, starts) = engine::search(&file, u32::MAX).expect("an accepted file");
+        let Searched::Finished { best: found, .. } = searched else {
+            panic!("network {number}: {searched:?} under the largest budget");
+        };
+        assert_eq!(found, best, "network {number}");
+        let sheet = Sheet::of_starts(&starts);
+        assert_eq!(engine::rate(&file, &sheet), Ok(best), "network {number}");
+        let mark = engine::mark(&file, &sheet, u32::MAX);
+        assert!(
+            matches!(mark, Ok(Mark::Decided { equal: true, .. })),
+            "network {number}"
+        );
+    }
+    assert!(several_lines > 250, "{several_lines}");
+}
+
+// ---------------------------------------------------------------------------
+// Refusals in words
+// ---------------------------------------------------------------------------
+
+/// Each ground has words of its own, and the README has the same ones.
+#[test]
+fn words_for_each_ground() {
+    let path = concat!(env!("CARGO_MANIFEST_DIR"), "/../README.md");
+    let readme = std::fs::read_to_string(path).expect("the README");
+    for number in 1..=17 {
+        let refusal = Refusal { number, place: 12 };
+        assert_eq!(refusal.to_string(), format!("refused {number} at 12"));
+        let words = refusal.words();
+        let same = engine::WORDS.iter().filter(|other| **other == words);
+        assert_eq!(same.count(), 1);
+        let row = format!("| {number} | {words}");
+        assert!(readme.contains(&row), "the README has no '{row}'");
+    }
+}
+
+/// Rows of the caller: grounds 16 and 17 come through the wrapper, and the rows
+/// stay as they were.
+#[test]
+fn rows_of_the_caller() {
+    let file = [0x4C, 0, 15, 0x43, 0, 0, 0, 8, 0x45];
+    let mut starts = [7, 8];
+    let refused = engine::search_into(&file, &mut starts, 100);
+    assert_eq!(
+        refused,
+        Err(Refusal {
+            number: 16,
+            place: 0
+        })
+    );
+    assert_eq!(starts, [7, 8]);
+    let (mut class_row, mut weight_row) = ([9; 64], [9; 63]);
+    let refused = engine::classes_into(&file, &mut class_row, &mut weight_row);
+    assert_eq!(
+        refused,
+        Err(Refusal {
+            number: 17,
+            place: 0
+        })
+    );
+    assert_eq!((class_row, weight_row), ([9; 64], [9; 63]));
+}
