@@ -2,7 +2,7 @@
 //! its line in a typed text.
 
 use super::network::Network;
-use crate::engine::Refusal;
+use crate::engine::{self, Refusal, Sheet};
 
 /// The refusal in words, for standard error.
 pub fn explained(refusal: Refusal, network: &Network) -> String {
@@ -26,6 +26,17 @@ pub fn explained(refusal: Refusal, network: &Network) -> String {
         text += &format!("\n  line {number}: {line}");
     }
     text
+}
+
+/// How long sheets are beside the number of lines that the engine read.
+pub fn lengths(network: &Network, sheets: &[&Sheet]) -> String {
+    let lines = engine::read(&network.bytes).map_or(0, |counts| counts.lines);
+    let length = |sheet: &&Sheet| match sheet.bytes().len() {
+        bytes if bytes % 4 == 0 => format!("{} starts", bytes / 4),
+        bytes => format!("{bytes} bytes, 4 being a start"),
+    };
+    let lengths: Vec<String> = sheets.iter().map(length).collect();
+    format!("lines: {lines}; sheet: {}", lengths.join("; other sheet: "))
 }
 
 /// The number of bytes of a command; an unknown one is shown by its one byte.

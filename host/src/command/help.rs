@@ -9,7 +9,8 @@ pub fn text(verb: Option<Verb>) -> String {
         Some(verb) => {
             let usage = format!("exam {} {} [OPTIONS]", verb.name(), verb.operands());
             let options = match verb {
-                Verb::Read | Verb::Classes => NETWORK_OPTIONS.to_string(),
+                Verb::Read => NETWORK_OPTIONS.to_string(),
+                Verb::Classes => format!("{NETWORK_OPTIONS}{ROWS_OPTION}"),
                 Verb::Best => format!("{NETWORK_OPTIONS}{SEARCH_OPTIONS}"),
                 Verb::Rate | Verb::Better => format!("{NETWORK_OPTIONS}{SHEET_OPTIONS}"),
                 Verb::Mark => format!("{NETWORK_OPTIONS}{SHEET_OPTIONS}{SEARCH_OPTIONS}"),
@@ -56,6 +57,10 @@ const NETWORK_OPTIONS: &str = "  \
   --bytes           the network is bytes, whatever its name
 ";
 
+const ROWS_OPTION: &str = "  \
+  --rows            print the class row and the weight row, 64 numbers each
+";
+
 const SHEET_OPTIONS: &str = "  \
   --sheet-numbers   a sheet is whole numbers, whatever its name
   --sheet-bytes     a sheet is bytes, whatever its name
@@ -92,10 +97,13 @@ A sheet that hasn't one start for each line: refused 15 at 0
 ";
 
 const CLASSES: &str = "\
-Prints the number of classes of stops that rate alike under every timetable,
-then for each stop 0 to 63 the lowest stop alike to it (255 if unserved), then
-at each lowest stop the size of its class (0 elsewhere).
+Prints the number of classes of stops that rate alike under every timetable, and
+a line for each class: its lowest stop, how many stops it has, and which.
   classes 2
+  stop 0 weight 2 alike 0 1
+  stop 2 weight 1 alike 2
+With --rows, for each stop 0 to 63 the lowest stop alike to it (255 if unserved),
+then at each lowest stop the size of its class (0 elsewhere):
   class 0 0 2 255 ..
   weight 2 0 1 0 ..
 ";

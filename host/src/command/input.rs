@@ -39,6 +39,14 @@ impl Source {
         }
     }
 
+    /// A folder where a file is wanted.
+    pub fn demand_file(&self) -> Result<(), Trouble> {
+        match self.folder() {
+            Some(_) => Err(Trouble(format!("{} is a folder, not a file", self.name()))),
+            None => Ok(()),
+        }
+    }
+
     /// The form that the name's ending says, by a list of endings. Capitals
     /// are as good as small letters.
     pub fn form(&self, endings: &[(&str, Form)]) -> Option<Form> {
@@ -54,9 +62,6 @@ impl Source {
     pub fn first_bytes(&self, most: u64) -> Result<Vec<u8>, Trouble> {
         let read = match self {
             Source::Input => beginning(io::stdin().lock(), most),
-            Source::File(path) if path.is_dir() => {
-                return Err(Trouble(format!("{} is a folder, not a file", self.name())));
-            }
             Source::File(path) => File::open(path).and_then(|file| beginning(file, most)),
         };
         read.map_err(|error| {

@@ -48,6 +48,7 @@ impl Typed {
 
 /// Loads a network in the form that a flag or else the name's ending says.
 pub fn load(source: &Source, flag: Option<Form>) -> Result<Network, Trouble> {
+    source.demand_file()?;
     let name = source.name();
     let Some(form) = flag.or_else(|| source.form(&ENDINGS)) else {
         return Err(Trouble(format!(

@@ -17,6 +17,7 @@ const LIMIT: u64 = 1 << 20;
 
 /// Loads a sheet in the form that a flag or else the name's ending says.
 pub fn load(source: &Source, flag: Option<Form>) -> Result<Sheet, Trouble> {
+    source.demand_file()?;
     let Some(form) = flag.or_else(|| source.form(&ENDINGS)) else {
         return Err(Trouble(format!(
             "{}: say --sheet-numbers or --sheet-bytes, or let the name end in .sheet or .txt \

@@ -8,7 +8,7 @@ use super::sheet;
 use super::watch::Watch;
 use super::words::{Request, Verb};
 use super::{Status, Trouble};
-use crate::engine::{self, Better, Mark, Rating, Refusal, Searched, Sheet};
+use crate::engine::{self, Better, Classes, Mark, Rating, Refusal, Searched, Sheet};
 
 type Ended = Result<Status, Trouble>;
 
@@ -25,7 +25,7 @@ pub fn run(request: &Request) -> Ended {
     let sheets: Vec<Sheet> = request.sheets.iter().map(load).collect::<Result<_, _>>()?;
     match (request.verb, sheets.as_slice()) {
         (Verb::Read, []) => read(&network),
-        (Verb::Classes, []) => classes(&network),
+        (Verb::Classes, []) => classes(&network, request),
         (Verb::Best, []) => best(&network, request),
         (Verb::Rate, [sheet]) => rate(&network, sheet),
         (Verb::Mark, [sheet]) => mark(&network, sheet, request),
@@ -40,6 +40,15 @@ pub fn refused(refusal: Refusal, network: &Network) -> Ended {
     say(&fault::explained(refusal, network));
     put(format!("{refusal}\n"))?;
     Ok(Status::Refused)
+}
+
+/// A refusal where a sheet was handed over: ground 15 is the sheet's.
+fn refused_sheet(refusal: Refusal, network: &Network, sheet: &Sheet) -> Ended {
+    let ended = refused(refusal, network)?;
+    if refusal.number == 15 {
+        say(&format!("  {}", fault::lengths(network, &[sheet])));
+    }
+    Ok(ended)
 }
 
 fn read(network: &Network) -> Ended {
@@ -57,22 +66,41 @@ fn read(network: &Network) -> Ended {
 fn rate(network: &Network, sheet: &Sheet) -> Ended {
     match engine::rate(&network.bytes, sheet) {
         Ok(rating) => put(format!("{}\n", shown(rating))).map(|()| Status::Done),
-        Err(refusal) => refused(refusal, network),
+        Err(refusal) => refused_sheet(refusal, network, sheet),
     }
 }
 
-fn classes(network: &Network) -> Ended {
+fn classes(network: &Network, request: &Request) -> Ended {
     let classes = match engine::classes(&network.bytes) {
         Ok(classes) => classes,
         Err(refusal) => return refused(refusal, network),
     };
-    put(format!(
-        "classes {}\nclass {}\nweight {}\n",
-        classes.count,
-        joined(&classes.class_row),
-        joined(&classes.weight_row)
-    ))?;
+    let text = match request.rows {
+        true => rows(&classes),
+        false => class_lines(&classes),
+    };
+    put(format!("classes {}\n{text}", classes.count))?;
     Ok(Status::Done)
+}
+
+/// The two rows, 64 numbers each.
+fn rows(classes: &Classes) -> String {
+    let (class_row, weight_row) = (joined(&classes.class_row), joined(&classes.weight_row));
+    format!("class {class_row}\nweight {weight_row}\n")
+}
+
+/// A line for each class: its lowest stop, its weight and all its stops. The
+/// rows say no less, but nobody reads 128 numbers with pleasure.
+fn class_lines(classes: &Classes) -> String {
+    let mut lines = String::new();
+    for (lowest, weight) in classes.weight_row.iter().enumerate() {
+        let of_class = |stop: &usize| usize::from(classes.class_row[*stop]) == lowest;
+        let stops: Vec<usize> = (0..engine::STOPS).filter(of_class).collect();
+        if *weight > 0 {
+            lines += &format!("stop {lowest} weight {weight} alike {}\n", joined(&stops));
+        }
+    }
+    lines
 }
 
 fn best(network: &Network, request: &Request) -> Ended {
@@ -119,13 +147,10 @@ fn better(network: &Network, first: &Sheet, second: &Sheet) -> Ended {
 fn why_neither(network: &Network, first: &Sheet, second: &Sheet) -> String {
     match engine::read(&network.bytes) {
         Err(refusal) => fault::explained(refusal, network),
-        Ok(counts) => format!(
-            "exam: no sheet has one start for each line: {} lines, 4 bytes each; the sheets have {} \
-             and {} bytes",
-            counts.lines,
-            first.bytes().len(),
-            second.bytes().len()
-        ),
+        Ok(_) => {
+            let lengths = fault::lengths(network, &[first, second]);
+            format!("exam: no sheet has one start for each line\n  {lengths}")
+        }
     }
 }
 
@@ -145,7 +170,7 @@ fn mark(network: &Network, sheet: &Sheet, request: &Request) -> Ended {
             }
             Ok(status)
         }
-        Err(refusal) => refused(refusal, network),
+        Err(refusal) => refused_sheet(refusal, network, sheet),
     }
 }
 

@@ -81,6 +81,8 @@ pub struct Request {
     pub sheet_form: Option<Form>,
     pub budget: u32,
     pub quiet: bool,
+    /// `classes` prints the two rows as they are.
+    pub rows: bool,
 }
 
 pub enum Asked {
@@ -96,6 +98,7 @@ struct Options {
     sheet_form: Option<Form>,
     budget: Option<u32>,
     quiet: bool,
+    rows: bool,
 }
 
 /// Understands the words behind `exam`.
@@ -161,6 +164,7 @@ impl Options {
             "--sheet-numbers" if has_sheets => choose(&mut self.sheet_form, Form::Text, verb)?,
             "--sheet-bytes" if has_sheets => choose(&mut self.sheet_form, Form::Bytes, verb)?,
             "--quiet" if verb.searches() => self.quiet = true,
+            "--rows" if verb == Verb::Classes => self.rows = true,
             _ => {
                 let message = format!("'{}' has no option '{flag}'", verb.name());
                 return Err(usage(&message, Some(verb)));
@@ -226,6 +230,7 @@ fn request(verb: Verb, options: Options, operands: Vec<OsString>) -> Result<Requ
         sheet_form: options.sheet_form,
         budget: options.budget.unwrap_or(USUAL_BUDGET),
         quiet: options.quiet,
+        rows: options.rows,
     })
 }
 
