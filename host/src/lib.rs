@@ -6,6 +6,7 @@
 //! * [`papers`] is the independent implementation, one file for each section of
 //!   document 01.
 //! * [`files`] makes network files and sheets, good and bad, from a seed.
+//! * [`measure`] measures the engine's rate call beside the independent one.
 //! * [`program`] runs the proved engine's program `best`.
 
 #![deny(unsafe_code)]
@@ -13,5 +14,6 @@
 pub mod command;
 pub mod engine;
 pub mod files;
+pub mod measure;
 pub mod papers;
 pub mod program;

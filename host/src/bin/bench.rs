@@ -3,6 +3,8 @@
 //! at the budget of 1,000,000 tries. Both must print the same line. Prints one
 //! row for each network with the processor time per try of both, in
 //! nanoseconds, the least of some runs, and at last the ratio of the sums.
+//! Behind that, a row for each network with the rate calls per second of the
+//! engine's library and of the papers.
 //!
 //! Run with `cargo run --release --offline --bin bench`, after `.ci/run`.
 
@@ -44,6 +46,9 @@ fn main() {
         "overall               {:14.1} {:12.1} {ratio:6.2}",
         sum.engine, sum.rust
     );
+    println!();
+    let clock = Instant::now();
+    host::measure::print_rates(|| time_of_thread(&clock));
 }
 
 /// The file of the first seed whose search takes more than 1,000,000 tries.
