@@ -1,0 +1,135 @@
+//! Everything that the README shows of `exam` is what `exam` prints, and the
+//! samples are what the README says.
+
+mod common;
+
+use common::{exam, Folder, ROOT};
+use std::process::{Command, Stdio};
+
+fn readme() -> String {
+    std::fs::read_to_string(format!("{ROOT}/README.md")).expect("the README")
+}
+
+/// A command as it is typed after `$`, and what is printed.
+struct Shown {
+    command: String,
+    printed: String,
+}
+
+/// The sessions of the README: indented lines, commands after `$ ` and, where
+/// they go on, after `> `.
+fn sessions(text: &str) -> Vec<Shown> {
+    let mut all: Vec<Shown> = Vec::new();
+    let mut within = false;
+    for line in text.lines() {
+        let Some(line) = line.strip_prefix("    ") else {
+            within = false;
+            continue;
+        };
+        if let Some(command) = line.strip_prefix("$ ") {
+            within = true;
+            all.push(Shown {
+                command: command.to_string(),
+                printed: String::new(),
+            });
+        } else if let (true, Some(shown)) = (within, all.last_mut()) {
+            match line.strip_prefix("> ") {
+                Some(more) => shown.command += &format!("\n{more}"),
+                None => shown.printed += &format!("{line}\n"),
+            }
+        }
+    }
+    all
+}
+
+/// Runs a command as a person in the repository's folder does, both outputs on
+/// one screen.
+fn on_screen(folder: &Folder, command: &str) -> String {
+    let exam = std::path::Path::new(env!("CARGO_BIN_EXE_exam"));
+    let beside = exam.parent().expect("a folder").display();
+    let path = format!("{beside}:{}", std::env::var("PATH").unwrap_or_default());
+    let output = Command::new("sh")
+        .args(["-c", &format!("exec 2>&1\n{command}")])
+        .current_dir(folder.path())
+        .env("PATH", path)
+        .stdin(Stdio::null())
+        .output()
+        .expect("a shell");
+    let text = String::from_utf8_lossy(&output.stdout).into_owned();
+    // On a slow machine a search shows signs of life.
+    let lines = text.lines().filter(|line| !is_sign_of_life(line));
+    lines.map(|line| format!("{line}\n")).collect()
+}
+
+fn is_sign_of_life(line: &str) -> bool {
+    let words: Vec<&str> = line.split(' ').collect();
+    words.len() > 3 && words[0] == "exam:" && words[2] == "s," && words[1].parse::<u64>().is_ok()
+}
+
+#[test]
+fn the_sessions_are_real() {
+    let folder = Folder::new();
+    let samples = format!("{ROOT}/samples");
+    std::os::unix::fs::symlink(samples, folder.path().join("samples")).expect("a link");
+    let sessions = sessions(&readme());
+    assert!(sessions.len() >= 14, "{} commands", sessions.len());
+    for verb in ["read", "rate", "classes", "best", "better", "mark"] {
+        let word = format!("exam {verb} ");
+        assert!(sessions.iter().any(|shown| shown.command.contains(&word)));
+    }
+    for shown in sessions {
+        let printed = on_screen(&folder, &shown.command);
+        assert_eq!(printed, shown.printed, "{}", shown.command);
+    }
+}
+
+/// The table of samples: network, lines, stops, best, tries.
+#[test]
+fn the_samples_are_as_described() {
+    let readme = readme();
+    let rows: Vec<Vec<&str>> = readme
+        .lines()
+        .filter(|line| line.starts_with("| `samples/"))
+        .map(|line| line.split('|').map(|cell| cell.trim()).collect())
+        .collect();
+    assert_eq!(rows.len(), 4);
+    for row in rows {
+        let [_, network, lines, stops, rating, tries, _] = row[..] else {
+            panic!("{row:?} has other columns");
+        };
+        let network = network.trim_matches('`');
+        let counts = exam(&["read", network]).out;
+        let described = format!("lines {lines} stops {stops} calls ");
+        assert!(counts.starts_with(&described), "{network}: {counts}");
+        let found = exam(&["best", network, "--quiet", "--budget", "5000000"]);
+        let described = format!("{rating} tries {tries} starts ");
+        assert!(found.out.starts_with(&described), "{network}: {found:?}");
+        sheets_are_as_named(network);
+    }
+}
+
+/// A perfect sheet is equal to the best, a beaten one below it.
+fn sheets_are_as_named(network: &str) {
+    let folder = network.trim_end_matches(".hex");
+    let marked = |name: &str| {
+        let sheet = format!("{folder}/{name}.sheet");
+        exam(&["mark", network, &sheet, "--quiet", "--budget", "5000000"]).out
+    };
+    let perfect = marked("perfect");
+    assert!(perfect.contains(" equal tries "), "{folder}: {perfect}");
+    if folder != "samples/one_line" {
+        let beaten = marked("beaten");
+        assert!(beaten.contains(" below tries "), "{folder}: {beaten}");
+    }
+}
+
+/// The sample that comes as bytes too is the same network.
+#[test]
+fn two_lines_as_bytes() {
+    let typed = exam(&["best", "samples/two_lines.hex"]);
+    let bytes = exam(&["best", "samples/two_lines.net"]);
+    assert_eq!(typed.out, "gap 2 sum 2 tries 21 starts 0 3\n");
+    assert_eq!(bytes.out, typed.out);
+    // The README's first command says the same.
+    assert!(readme().contains("It prints `gap 2 sum 2 tries 21 starts 0 3`"));
+}
