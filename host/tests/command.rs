@@ -433,8 +433,8 @@ fn mark_of_a_folder_without_marks() {
     exam(&["mark", &network, &folder.name()]).told("refused 1 at 8\n", 1, &words);
 }
 
-/// More sheets than cores: each line is that
-/// of the sheet marked alone, and the order is that of the names.
+/// More sheets than cores, the first so long that others are done before it:
+/// each line is that of the sheet marked alone, and the order that of the names.
 #[test]
 fn mark_of_a_full_hall() {
     let folder = Folder::new();
@@ -442,7 +442,13 @@ fn mark_of_a_full_hall() {
     let mut expected = String::new();
     for number in 100..160 {
         let starts = [0, 1, 2, 3].map(|_| (dice.below(200) as i32 - 100).to_string());
-        let path = folder.file(&format!("{number}.sheet"), starts.join(" "));
+        let comments = if number == 100 {
+            "#\n".repeat(500_000)
+        } else {
+            String::new()
+        };
+        let text = comments + &starts.join(" ");
+        let path = folder.file(&format!("{number}.sheet"), text);
         let alone = exam(&["mark", "samples/village.hex", &path]);
         assert_eq!(alone.status, 0, "{alone:?}");
         expected += &format!("{number}.sheet: {}", alone.out);
