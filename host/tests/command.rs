@@ -334,6 +334,7 @@ fn input_that_cannot_be_read() {
     let good = sheet("0 3");
     exam(&["rate", "no.net", &good]).told("", 2, &["no.net: there is no such file"]);
     exam(&["rate", HEX, "no.sheet"]).told("", 2, &["no.sheet: there is no such file"]);
+    exam(&["mark", HEX, "no_folder"]).told("", 2, &["no_folder: there is no such file"]);
     exam(&["best", "samples"]).told("", 2, &["samples is a folder, not a file"]);
     exam(&["rate", HEX, "samples"]).told("", 2, &["samples is a folder, not a file"]);
     exam(&["best", "samples/one_line.hex/x.net"]).told("", 2, &["x.net: "]);

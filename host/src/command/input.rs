@@ -39,11 +39,17 @@ impl Source {
         }
     }
 
-    /// A folder where a file is wanted.
+    /// What isn't there, or is a folder, has no form that could be asked for.
     pub fn demand_file(&self) -> Result<(), Trouble> {
-        match self.folder() {
-            Some(_) => Err(Trouble(format!("{} is a folder, not a file", self.name()))),
-            None => Ok(()),
+        let Source::File(path) = self else {
+            return Ok(());
+        };
+        match path.metadata() {
+            Ok(about) if about.is_dir() => {
+                Err(Trouble(format!("{} is a folder, not a file", self.name())))
+            }
+            Ok(_) => Ok(()),
+            Err(error) => Err(self.trouble(error)),
         }
     }
 
@@ -64,14 +70,16 @@ impl Source {
             Source::Input => beginning(io::stdin().lock(), most),
             Source::File(path) => File::open(path).and_then(|file| beginning(file, most)),
         };
-        read.map_err(|error| {
-            let reason = match error.kind() {
-                ErrorKind::NotFound => "there is no such file".to_string(),
-                ErrorKind::PermissionDenied => "it may not be read".to_string(),
-                _ => error.to_string(),
-            };
-            Trouble(format!("{}: {reason}", self.name()))
-        })
+        read.map_err(|error| self.trouble(error))
+    }
+
+    fn trouble(&self, error: io::Error) -> Trouble {
+        let reason = match error.kind() {
+            ErrorKind::NotFound => "there is no such file".to_string(),
+            ErrorKind::PermissionDenied => "it may not be read".to_string(),
+            _ => error.to_string(),
+        };
+        Trouble(format!("{}: {reason}", self.name()))
     }
 
     /// All bytes; more than the limit is an error.
