@@ -12,6 +12,7 @@ use host::papers::walk::{walk, Answer};
 use std::fs::File;
 use std::io::{BufRead, BufReader, Read, Write};
 use std::process::{Child, Stdio};
+use std::sync::mpsc;
 use std::time::{Duration, Instant};
 
 const NET: &str = "samples/two_lines.net";
@@ -480,6 +481,20 @@ impl Running {
         Running(command(words).spawn().expect("exam starts"))
     }
 
+    /// The first line on standard error, for which nobody waits longer than
+    /// some seconds.
+    fn first_line_said(&mut self) -> String {
+        let stderr = self.0.stderr.take().expect("a pipe");
+        let (sender, receiver) = mpsc::channel();
+        std::thread::spawn(move || {
+            let mut line = String::new();
+            let read = BufReader::new(stderr).read_line(&mut line);
+            sender.send(read.map(|_| line))
+        });
+        let line = receiver.recv_timeout(Duration::from_secs(20));
+        line.expect("a sign in time").expect("a line")
+    }
+
     /// Ends the run and returns what it said on standard error.
     fn stopped(mut self) -> String {
         self.0.kill().expect("a running exam");
@@ -513,9 +528,7 @@ fn a_sign_of_life() {
     ];
     for (words, sign) in cases {
         let mut running = Running::new(&[words, &["--budget", "4294967295"]].concat());
-        let mut line = String::new();
-        let stderr = running.0.stderr.take().expect("a pipe");
-        BufReader::new(stderr).read_line(&mut line).expect("a sign");
+        let line = running.first_line_said();
         assert!(line.starts_with("exam: ") && line.ends_with(sign), "{line}");
         let elapsed = line.trim_start_matches("exam: ").split(" s, ").next();
         let seconds: u64 = elapsed.and_then(|word| word.parse().ok()).expect("seconds");
