@@ -2,6 +2,7 @@
 
 use super::fault;
 use super::folder;
+use super::input::Source;
 use super::network::{self, Network};
 use super::output::{put, say};
 use super::sheet;
@@ -15,10 +16,8 @@ type Ended = Result<Status, Trouble>;
 /// Loads what the request names, asks the engine and prints its answer.
 pub fn run(request: &Request) -> Ended {
     let network = network::load(&request.network, request.network_form)?;
-    if let (Verb::Mark, Some(path)) = (
-        request.verb,
-        request.sheets.first().and_then(|s| s.folder()),
-    ) {
+    let folder = request.sheets.iter().find_map(Source::folder);
+    if let (Verb::Mark, Some(path)) = (request.verb, folder) {
         return folder::mark(path, &network, request);
     }
     let load = |source| sheet::load(source, request.sheet_form);
