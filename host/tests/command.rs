@@ -9,8 +9,11 @@ use host::files::{any_file, dense_file, faulty_file, Dice};
 use host::papers::best::best;
 use host::papers::network::read;
 use host::papers::walk::{walk, Answer};
+use std::ffi::OsStr;
 use std::fs::File;
 use std::io::{BufRead, BufReader, Read, Write};
+use std::os::unix::ffi::OsStrExt;
+use std::os::unix::fs::symlink;
 use std::process::{Child, Stdio};
 use std::sync::mpsc;
 use std::time::{Duration, Instant};
@@ -345,6 +348,16 @@ fn input_that_cannot_be_read() {
     exam(&["rate", HEX, &long]).told("", 2, &["longer than"]);
 }
 
+/// Names come from a file system, which knows nothing of text.
+#[test]
+fn names_that_are_no_text() {
+    let name = OsStr::from_bytes(b"no\xFF.net");
+    let ran = ended(command(&["best"]).arg(name).spawn().expect("exam starts"));
+    ran.told("", 2, &["no\u{FFFD}.net: there is no such file"]);
+    let ran = ended(command(&[]).arg(name).spawn().expect("exam starts"));
+    ran.told("", 2, &["there is no verb"]);
+}
+
 /// Nobody reads what it prints, or nobody can store it.
 #[test]
 fn output_that_cannot_be_written() {
@@ -415,8 +428,12 @@ fn mark_of_a_folder() {
     exam(&["mark", HEX, &folder.name(), "--budget", "3"]).told(&refused, 1, &[&words]);
     folder.file("f.sheet", "0 x");
     folder.file("notes", "0 3");
-    let unreadable = format!("{refused}f.sheet: unreadable\nnotes: unreadable\n");
+    // Reading this one would never end.
+    symlink("/dev/zero", folder.path().join("zeros.bin")).expect("a link");
+    let unreadable =
+        format!("{refused}f.sheet: unreadable\nnotes: unreadable\nzeros.bin: unreadable\n");
     let words = [
+        "zeros.bin is no plain file",
         "f.sheet, line 1: 'x' is no whole number",
         "notes: say --sheet-numbers",
     ];
