@@ -1,4 +1,5 @@
--- Document 01, "Sheets": better-of-two and mark, on a file and sheets of starts.
+-- Document 01, "Sheets": better-of-two and mark, on a file and sheets of starts. (A sheet is a candidate's timetable. Better-of-two is the
+-- greater of two by the lexicographic order of ratings; a mark sets a timetable's objective value beside the optimum.)
 use Prim.Native.Nat.{ℕ}
 use mathlib.Core.Bool.{Bool, true, false, _&&_}
 use mathlib.Core.List.{List}
