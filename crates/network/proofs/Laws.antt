@@ -11,6 +11,7 @@ pub mod Grounds
 pub mod Reading
 pub mod Valid
 pub mod Stored
+pub mod Latest
 pub mod Gap
 pub mod Pairs
 pub mod StopGap
@@ -26,5 +27,6 @@ pub mod Classes
 pub mod Scan
 pub mod Rate
 pub mod Offsets
+pub mod Kept
 pub mod ClassRows
 pub mod Weighted

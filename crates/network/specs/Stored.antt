@@ -1,13 +1,20 @@
 -- How the engine holds a network: rows of fixed length of which the first places count, and the common cycle beside them.
-use Prim.Native.Nat.{ℕ, _≤_, _<_}
+use Prim.Native.Nat.{ℕ, suc, _≤_, _<_}
 use mathlib.Core.Path.{_≡_}
 use mathlib.Core.List.{List}
-use lib.ListN.{length, take}
+use mathlib.Core.Logic.{_⊎_}
+use lib.ListN.{length, getD, take}
+use Rattle.network.specs.declared.Call.{Call}
 use Rattle.network.specs.declared.Check.{Check}
 use Rattle.network.specs.declared.Check.the-variants.{Passes, Refused}
 use Rattle.network.specs.declared.Network.{Network}
-use Rattle.network.specs.declared.Step.{Step}
-use Rattle.network.specs.Network.{Net, Command, maxLines, maxCalls, maxCycle, cycle, extend}
+use Rattle.network.specs.declared.Size.{Size}
+use Rattle.network.specs.declared.Told.{Told}
+use Rattle.network.specs.declared.Told.the-variants as told
+use Rattle.network.specs.Divisor.{lcm}
+use Rattle.network.specs.Lists.{pick}
+use Rattle.network.specs.Network.{Net, Command, statesLine, callsByOffset, callsByRide, ends, maxLines, maxCalls, maxCycle, cycle}
+use Rattle.network.specs.Network.{callsAnywhere, latestOffset, word, callOf, statedOffset, rideOffset}
 use Rattle.network.specs.Grounds.{first, grounds}
 use Rattle.network.specs.Reading.{Reading, accepted, refused}
 
@@ -25,11 +32,25 @@ pub record Sound (n : Network) : Type 0 where
   pub cycle-pos : 0 < n .cycle
   pub cycle-le : n .cycle ≤ maxCycle
 
--- What one command's function gives: the ground that applies first, and where none does the network with the command's line or call
-pub record Stepped (c : Command) (n : Network) (p : ℕ) (behind : List ℕ) (s : Step) : Type 0 where
-  pub check : s .check ≡ first (grounds c (netOf n) p behind)
-  pub sound : Sound (s .network)
-  pub extended : s .check ≡ Passes → netOf (s .network) ≡ extend c (netOf n) behind
+-- The numbers that the grounds ask of a network
+pub record HasSize (n : Net) (s : Size) : Type 0 where
+  pub lines : s .lines ≡ length (n .periods)
+  pub calls : s .calls ≡ length (n .calls)
+  pub cycle-is : s .cycle ≡ cycle n
+
+-- A row that has for each line one more than the offset of its latest call, 0 where it has none
+unfoldable pub Latest : List ℕ → List Call → Type 0
+Latest latest cs = (line : ℕ) → line < maxLines → getD latest line 0 ≡ pick (callsAnywhere line cs) (suc (latestOffset line 0 cs)) 0
+
+-- What one command's function tells is right: the ground that applies first, or, where none does, the command's line or call, or the end
+unfoldable pub Tells : Command → Net → ℕ → List ℕ → Told → Type 0
+Tells c n p behind (told.Refused number place) = first (grounds c n p behind) ≡ Refused number place
+Tells c n p behind (told.Line period common) =
+    (first (grounds c n p behind) ≡ Passes) × (c ≡ statesLine) × (period ≡ word behind 0) × (common ≡ lcm (cycle n) (word behind 0))
+Tells c n p behind (told.Calls call) =
+    (first (grounds c n p behind) ≡ Passes)
+    × (((c ≡ callsByOffset) × (call ≡ callOf behind (statedOffset behind))) ⊎ ((c ≡ callsByRide) × (call ≡ callOf behind (rideOffset n behind))))
+Tells c n p behind told.End = (first (grounds c n p behind) ≡ Passes) × (c ≡ ends)
 
 -- What reading a whole file gives
 unfoldable pub readingOf : Check → Network → Reading

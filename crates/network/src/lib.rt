@@ -100,6 +100,21 @@ pub struct Step {
     pub network: Network,
 }
 
+// The numbers of a network that the grounds ask for, so that they are tried without a copy of its rows.
+pub struct Size {
+    pub lines: usize,
+    pub calls: usize,
+    pub cycle: u32,
+}
+
+// What a command tells: the ground that refuses it, or the line or call that it states, or that the file ends.
+pub enum Told {
+    Refused { number: u8, place: usize },
+    Line { period: u16, cycle: u32 },
+    Calls { call: Call },
+    End,
+}
+
 // A rating: the least gap over all stops, then the sum of the gaps; or none.
 pub struct Rating {
     pub some: bool,

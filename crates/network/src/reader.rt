@@ -3,21 +3,23 @@ use crate::Call;
 use crate::Check;
 use crate::Network;
 use crate::ReadAnswer;
+use crate::Size;
 use crate::Step;
-use crate::calls::calls_anywhere;
-use crate::calls::calls_at;
+use crate::Told;
+use crate::alike::mark;
 use crate::calls::is_served;
-use crate::calls::latest_offset;
 use crate::divisor::lcm;
 ghost use mathlib.Core.Path.{_≡_};
 ghost use Prim.Native.Nat.{_+_, _^_, _<_, _≤_};
-ghost use lib.ListN.{length, drop};
+ghost use lib.Dec.{ltb};
+ghost use lib.ListN.{length, getD, drop};
 ghost use Rattle.network.specs.Lists as lists;
 ghost use Rattle.network.specs.Network as net;
 ghost use Rattle.network.specs.Grounds as ground;
 ghost use Rattle.network.specs.Reading as reading;
 ghost use Rattle.network.specs.declared.Check.{Check};
-ghost use Rattle.network.specs.Stored.{netOf, Sound, Stepped, readingOf};
+ghost use Rattle.network.specs.Offsets.{Marks};
+ghost use Rattle.network.specs.Stored.{netOf, Sound, HasSize, Latest, Tells, readingOf};
 
 // A number of two bytes from a place on, most significant byte first.
 pub fn word(bytes: &[u8], at: usize) -> u16
@@ -68,35 +70,51 @@ pub fn part_behind(code: u8, behind: &[u8]) -> &[u8]
     &behind[operands..]
 }
 
-// 4C: grounds 3 to 6, or one line more.
-pub fn read_line(network: Network, behind: &[u8], at: usize) -> Step
-    requires { ⌜ Sound network ⌝ }
-    ensures { λ r. ⌜ Stepped net.statesLine network at (now (behind .entry)) r ⌝ }
+// 4C: grounds 3 to 6, or a line. As for every command, what is told is right of each network with these numbers and rows.
+pub fn read_line(size: Size, behind: &[u8], at: usize) -> Told
+    requires { ⌜ (0 < size .cycle) × (size .cycle ≤ net.maxCycle) ⌝ }
+    ensures { λ r. ⌜ ((n : net.Net) → HasSize n size → Tells net.statesLine n at (now (behind .entry)) r) ⌝ }
 {
     if behind.len() < 2 {
-        return refused(network, 3, at);
+        return Told::Refused {
+            number: 3,
+            place: at,
+        };
     }
-    if Network::MAX_LINES <= network.lines {
-        return refused(network, 4, at);
+    if Network::MAX_LINES <= size.lines {
+        return Told::Refused {
+            number: 4,
+            place: at,
+        };
     }
     let period = word(behind, 0);
     if period < 1 {
-        return refused(network, 5, at);
+        return Told::Refused {
+            number: 5,
+            place: at,
+        };
     }
     if Network::MAX_PERIOD < period {
-        return refused(network, 5, at);
+        return Told::Refused {
+            number: 5,
+            place: at,
+        };
     }
-    let cycle = lcm(network.cycle, period as u32);
+    let cycle = lcm(size.cycle, period as u32);
     if Network::MAX_CYCLE < cycle {
-        return refused(network, 6, at);
+        return Told::Refused {
+            number: 6,
+            place: at,
+        };
     }
-    passed(network.with_line(period, cycle))
+    Told::Line { period, cycle }
 }
 
 // 43 and 46: the grounds that they share, 3 and 7 to 10.
-pub fn check_call(network: Network, behind: &[u8], at: usize) -> Check
-    requires { ⌜ Sound network ⌝ }
-    ensures { λ r. ⌜ r ≡ ground.first (ground.callGrounds net.callsByOffset (netOf network) at (now (behind .entry))) ⌝ }
+pub fn check_call(size: Size, marks: &[u32; 1024], behind: &[u8], at: usize) -> Check
+    requires { ⌜ size .lines ≤ net.maxLines ⌝ }
+    ensures { λ r. ⌜ ((n : net.Net) → HasSize n size → Marks (now (marks .entry)) (n .calls) → r ≡ ground.first (ground.callGrounds net.callsByOffset n at (now (behind .entry)))) ⌝ }
+    ensures { λ r. ⌜ (r ≡ Check.Passes → (4 ≤ length (now (behind .entry))) × (getD (now (behind .entry)) 0 0 < size .lines)) ⌝ }
 {
     if behind.len() < 4 {
         return Check::Refused {
@@ -106,7 +124,7 @@ pub fn check_call(network: Network, behind: &[u8], at: usize) -> Check
     }
     let line = behind[0];
     let stop = behind[1];
-    if network.lines <= line as usize {
+    if size.lines <= line as usize {
         return Check::Refused {
             number: 7,
             place: at,
@@ -118,13 +136,13 @@ pub fn check_call(network: Network, behind: &[u8], at: usize) -> Check
             place: at,
         };
     }
-    if calls_at(network, line, stop) {
+    if 0 < mark(marks, line as usize, stop as usize) {
         return Check::Refused {
             number: 9,
             place: at,
         };
     }
-    if Network::MAX_CALLS <= network.calls {
+    if Network::MAX_CALLS <= size.calls {
         return Check::Refused {
             number: 10,
             place: at,
@@ -133,124 +151,180 @@ pub fn check_call(network: Network, behind: &[u8], at: usize) -> Check
     Check::Passes
 }
 
-// 43: the grounds of a call, or one call more.
-pub fn read_call(network: Network, behind: &[u8], at: usize) -> Step
-    requires { ⌜ Sound network ⌝ }
-    ensures { λ r. ⌜ Stepped net.callsByOffset network at (now (behind .entry)) r ⌝ }
+// 43: the grounds of a call, or a call.
+pub fn read_call(size: Size, marks: &[u32; 1024], behind: &[u8], at: usize) -> Told
+    requires { ⌜ size .lines ≤ net.maxLines ⌝ }
+    ensures { λ r. ⌜ ((n : net.Net) → HasSize n size → Marks (now (marks .entry)) (n .calls) → Tells net.callsByOffset n at (now (behind .entry)) r) ⌝ }
 {
-    let check = check_call(network, behind, at);
+    let check = check_call(size, marks, behind, at);
     match check {
-        Check::Refused { number, place } => refused(network, number, place),
+        Check::Refused { number, place } => Told::Refused { number, place },
         Check::Passes => {
             let call = Call {
                 line: behind[0],
                 stop: behind[1],
                 offset: word(behind, 2),
             };
-            passed(network.with_call(call))
+            Told::Calls { call }
         }
     }
 }
 
 // 46: the grounds of a call, then those of the ride.
-pub fn read_ride(network: Network, behind: &[u8], at: usize) -> Step
-    requires { ⌜ Sound network ⌝ }
-    ensures { λ r. ⌜ Stepped net.callsByRide network at (now (behind .entry)) r ⌝ }
+pub fn read_ride(
+    size: Size,
+    marks: &[u32; 1024],
+    latest: &[u32; Network::MAX_LINES],
+    behind: &[u8],
+    at: usize,
+) -> Told
+    requires { ⌜ size .lines ≤ net.maxLines ⌝ }
+    ensures { λ r. ⌜ ((n : net.Net) → HasSize n size → Marks (now (marks .entry)) (n .calls) → Latest (now (latest .entry)) (n .calls) → Tells net.callsByRide n at (now (behind .entry)) r) ⌝ }
 {
-    let check = check_call(network, behind, at);
+    let check = check_call(size, marks, behind, at);
     match check {
-        Check::Refused { number, place } => refused(network, number, place),
-        Check::Passes => read_following_call(network, behind, at),
+        Check::Refused { number, place } => Told::Refused { number, place },
+        Check::Passes => read_following_call(latest, behind, at),
     }
 }
 
-// 46 where the grounds of a call are passed: grounds 11 and 12, or one call more.
-pub fn read_following_call(network: Network, behind: &[u8], at: usize) -> Step
-    requires { ⌜ Sound network ⌝ }
-    requires { ⌜ ground.first (ground.callGrounds net.callsByOffset (netOf network) at (now behind)) ≡ Check.Passes ⌝ }
-    ensures { λ r. ⌜ Stepped net.callsByRide network at (now (behind .entry)) r ⌝ }
+// One more than the offset of the line's latest call, 0 where it has none.
+pub fn latest_of(latest: &[u32; Network::MAX_LINES], line: u8) -> u32
+    requires { ⌜ line < net.maxLines ⌝ }
+    ensures { λ r. ⌜ r ≡ getD (now (latest .entry)) line 0 ⌝ }
+{
+    latest[line as usize]
+}
+
+// 46 where the grounds of a call are passed: grounds 11 and 12, or a call. The sum is of 64 bits, so that it fits whatever the row holds.
+pub fn read_following_call(latest: &[u32; Network::MAX_LINES], behind: &[u8], at: usize) -> Told
+    requires { ⌜ (4 ≤ length (now behind)) × (getD (now behind) 0 0 < net.maxLines) ⌝ }
+    ensures { λ r. ⌜ ((n : net.Net) → Latest (now (latest .entry)) (n .calls) → ground.first (ground.callGrounds net.callsByOffset n at (now (behind .entry))) ≡ Check.Passes → Tells net.callsByRide n at (now (behind .entry)) r) ⌝ }
 {
     let line = behind[0];
-    if calls_anywhere(network, line) {
-        let offset = latest_offset(network, line) as u32 + word(behind, 2) as u32;
-        if Network::MAX_OFFSET < offset {
-            return refused(network, 12, at);
-        }
-        let call = Call {
-            line,
-            stop: behind[1],
-            offset: offset as u16,
+    let before = latest_of(latest, line);
+    if before == 0 {
+        return Told::Refused {
+            number: 11,
+            place: at,
         };
-        return passed(network.with_call(call));
     }
-    refused(network, 11, at)
+    let offset = (before - 1) as u64 + word(behind, 2) as u64;
+    if (Network::MAX_OFFSET as u64) < offset {
+        return Told::Refused {
+            number: 12,
+            place: at,
+        };
+    }
+    let call = Call {
+        line,
+        stop: behind[1],
+        offset: offset as u16,
+    };
+    Told::Calls { call }
 }
 
 // Whether every line has a call.
-pub fn every_line_calls(network: Network) -> bool
-    requires { ⌜ Sound network ⌝ }
-    ensures { λ r. ⌜ r ≡ lists.allBelow (λ line. net.callsAnywhere line (netOf network .calls)) (length (netOf network .periods)) ⌝ }
+pub fn every_line_calls(lines: usize, latest: &[u32; Network::MAX_LINES]) -> bool
+    requires { ⌜ lines ≤ net.maxLines ⌝ }
+    ensures { λ r. ⌜ r ≡ lists.allBelow (λ line. ltb 0 (getD (now (latest .entry)) line 0)) lines ⌝ }
 {
-    let lines = network.lines;
     for line in 0..lines {
-        if calls_anywhere(network, line as u8) {
-            continue;
+        if latest[line] == 0 {
+            return false;
         }
-        return false;
     }
     true
 }
 
 // 45: grounds 13 and 14, or the end of the file.
-pub fn read_end(network: Network, behind: &[u8], at: usize) -> Step
-    requires { ⌜ Sound network × (at < 2 ^ 63) ⌝ }
-    ensures { λ r. ⌜ Stepped net.ends network at (now (behind .entry)) r ⌝ }
+pub fn read_end(lines: usize, latest: &[u32; Network::MAX_LINES], behind: &[u8], at: usize) -> Told
+    requires { ⌜ (lines ≤ net.maxLines) × (at < 2 ^ 63) ⌝ }
+    ensures { λ r. ⌜ ((n : net.Net) → lines ≡ length (n .periods) → Latest (now (latest .entry)) (n .calls) → Tells net.ends n at (now (behind .entry)) r) ⌝ }
 {
-    if network.lines == 0 {
-        return refused(network, 13, at);
+    if lines == 0 {
+        return Told::Refused {
+            number: 13,
+            place: at,
+        };
     }
-    if every_line_calls(network) {
+    if every_line_calls(lines, latest) {
         if 1 <= behind.len() {
-            return refused(network, 14, at + 1);
+            return Told::Refused {
+                number: 14,
+                place: at + 1,
+            };
         }
-        return passed(network);
+        return Told::End;
     }
-    refused(network, 13, at)
+    Told::Refused {
+        number: 13,
+        place: at,
+    }
 }
 
-// One command: its grounds, or the network with what it states. `behind` is the part of the file behind its byte.
-pub fn read_command(code: u8, network: Network, behind: &[u8], at: usize) -> Step
-    requires { ⌜ Sound network × (at < 2 ^ 63) ⌝ }
-    ensures { λ r. ⌜ Stepped (net.command code) network at (now (behind .entry)) r ⌝ }
+// One command: its grounds, or what it states. `behind` is the part of the file behind its byte.
+pub fn read_command(
+    code: u8,
+    size: Size,
+    marks: &[u32; 1024],
+    latest: &[u32; Network::MAX_LINES],
+    behind: &[u8],
+    at: usize,
+) -> Told
+    requires { ⌜ (size .lines ≤ net.maxLines) × (0 < size .cycle) × (size .cycle ≤ net.maxCycle) × (at < 2 ^ 63) ⌝ }
+    ensures { λ r. ⌜ ((n : net.Net) → HasSize n size → Marks (now (marks .entry)) (n .calls) → Latest (now (latest .entry)) (n .calls) → Tells (net.command code) n at (now (behind .entry)) r) ⌝ }
 {
     match code {
-        0x4C => read_line(network, behind, at),
-        0x43 => read_call(network, behind, at),
-        0x46 => read_ride(network, behind, at),
-        0x45 => read_end(network, behind, at),
-        _ => refused(network, 2, at),
+        0x4C => read_line(size, behind, at),
+        0x43 => read_call(size, marks, behind, at),
+        0x46 => read_ride(size, marks, latest, behind, at),
+        0x45 => read_end(size.lines, latest, behind, at),
+        _ => Told::Refused {
+            number: 2,
+            place: at,
+        },
     }
 }
 
-// The whole file: the network, or the first ground that applies. The loop carries the part behind the command just read.
+// The whole file: the network, or the first ground that applies. The loop carries the part behind the command just read, and writes what a
+// command states into the rows where they stand. Beside the network it keeps the marks of its calls and each line's latest offset, so that
+// no ground goes over the calls before.
 pub fn read_network(file: &[u8]) -> Step
     ensures { λ r. ⌜ Sound (r .network) × (readingOf (r .check) (r .network) ≡ reading.readFile (now (file .entry))) ⌝ }
 {
     let mut network = Network::new();
+    let mut marks = [0u32; 1024];
+    let mut latest = [0u32; Network::MAX_LINES];
     let mut rest = file;
     while 0 < rest.len() {
         let at = file.len() - rest.len();
         let code = rest[0];
         let behind = &rest[1..];
-        let step = read_command(code, network, behind, at);
-        let check = step.check;
-        if let Check::Refused { number, place } = check {
-            return refused(step.network, number, place);
+        let size = Size {
+            lines: network.lines,
+            calls: network.calls,
+            cycle: network.cycle,
+        };
+        let told = read_command(code, size, &marks, &latest, behind, at);
+        match told {
+            Told::Refused { number, place } => return refused(network, number, place),
+            Told::End => return passed(network),
+            Told::Line { period, cycle } => {
+                let line = network.lines;
+                network.periods[line] = period;
+                network.lines = line + 1;
+                network.cycle = cycle;
+            }
+            Told::Calls { call } => {
+                let place = network.calls;
+                network.list[place] = call;
+                network.calls = place + 1;
+                let mark = call.offset as u32 + 1;
+                marks[call.stop as usize * 16 + call.line as usize] = mark;
+                latest[call.line as usize] = mark;
+            }
         }
-        if code == 0x45 {
-            return passed(step.network);
-        }
-        network = step.network;
         rest = part_behind(code, behind);
     }
     refused(network, 1, file.len())

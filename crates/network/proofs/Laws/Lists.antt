@@ -1,7 +1,7 @@
 -- Laws of the tests over lists and ranges, by which a loop's invariant goes on from a part of a row to the next: each is one induction.
 -- Assumes nothing.
 use Prim.Native.Nat.{ℕ, zero, suc, _+_, _-_, _<_, _≤_, suc-le-suc}
-use mathlib.Core.Path.{_≡_, refl, sym, ap, _∙_}
+use mathlib.Core.Path.{_≡_, refl, sym, ap, ap₂, _∙_}
 use mathlib.Core.Bool.{Bool, true, false, _&&_, _||_, and-false, or-assoc, or-false, or-true}
 use mathlib.Core.List.{List, [], _∷_, _++_}
 use mathlib.Core.Logic.{_⊎_, inl, inr}
@@ -97,6 +97,12 @@ allBelow-fails p (suc n) i h e = go (allBelow-fails p n i) (eq-or-lt-of-le (le-o
     go : (i < n → p i ≡ false → allBelow p n ≡ false) → (i ≡ n) ⊎ (i < n) → (allBelow p n && p n) ≡ false
     go f (inl j) = and-not-right (allBelow p n) (p n) (sym (ap p j) ∙ e)
     go f (inr l) = and-not-left (allBelow p n) (p n) (f l e)
+
+-- Two tests that agree below `n`
+pub allBelow-same : (p q : ℕ → Bool) (n : ℕ) → ((i : ℕ) → i < n → p i ≡ q i) → allBelow p n ≡ allBelow q n
+unfolding allBelow
+allBelow-same p q zero h = refl
+allBelow-same p q (suc n) h = ap₂ _&&_ (allBelow-same p q n (λ i l. h i (omega arith))) (h n (le-refl _))
 
 -- One number more is counted
 pub countBelow-next : (p : ℕ → Bool) (n : ℕ) → countBelow p (n + 1) ≡ countBelow p n + pick (p n) 1 0

@@ -1,13 +1,10 @@
 -- Laws of what a network's calls tell, where one call more is read. Assumes nothing.
-use Prim.Native.Nat.{ℕ, _+_, _<_}
+use Prim.Native.Nat.{ℕ}
 use mathlib.Core.Path.{_≡_, refl, ap, _∙_}
 use mathlib.Core.List.{List, [], _∷_, _++_}
-use native.Mathlib.Numerals.{add-one}
 use mathlib.Core.Bool.{Bool, true, false}
 use borrow.Author.Tests.{eq-eqb, ne-eqb, eqb-true}
 use lib.Dec.{eqb}
-use lib.ListN.{length, getD, take}
-use lib.Seq.{take-suc}
 use Rattle.network.specs.declared.Call.{Call}
 use Rattle.network.specs.Lists.{pick}
 use Rattle.network.specs.Divisor.{lcm}
@@ -55,8 +52,3 @@ pub latest-append : (line before : ℕ) (xs ys : List Call) → latestOffset lin
 unfolding latestOffset
 latest-append line before [] ys = refl
 latest-append line before (x ∷ xs) ys = latest-append line (pick (eqb (x .line) line) (x .offset) before) xs ys
-
-pub latest-take-next : (line before : ℕ) (l : List Call) (i : ℕ) (d : Call) → i < length l
-    → latestOffset line before (take (i + 1) l) ≡ pick (eqb (getD l i d .line) line) (getD l i d .offset) (latestOffset line before (take i l))
-unfolding latestOffset
-latest-take-next line before l i d h = rw (add-one, take-suc l i d) (latest-append line before (take i l) (getD l i d ∷ []))

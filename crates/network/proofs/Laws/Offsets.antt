@@ -1,7 +1,7 @@
 -- The table of offsets: one call more sets its line's mark at its stop, and the tests on the table are those of the definitions, since
 -- marks differ as offsets do where both lines call. Assumes nothing.
 use Prim.Native.Nat.{ℕ, zero, suc, _*_, _+_, _<_, _≤_}
-use mathlib.Core.Path.{_≡_, refl, sym, ap, ap₂, _∙_}
+use mathlib.Core.Path.{_≡_, refl, sym, ap, ap₂, subst, _∙_}
 use mathlib.Core.Bool.{Bool, true, false, not, _&&_, _||_, Bool·beq, and-false, and-eq-true-iff}
 use mathlib.Core.List.{List, [], _∷_, _++_}
 use native.Mathlib.Decide.{ℕ-discrete}
@@ -23,7 +23,7 @@ use Rattle.network.specs.Gap.{residue}
 use Rattle.network.specs.Stored.{netOf, Sound}
 use Rattle.network.specs.Classes.{offsetAt, offsetDifference, sameLines, sameDifference, isAlike}
 use Rattle.network.specs.Offsets.{markAt, markIn, Marks, sameLineIn, sameDifferenceIn, alikeIn}
-use Rattle.network.proofs.Laws.Lists.{and-both, any-append, allBelow-at}
+use Rattle.network.proofs.Laws.Lists.{and-both, any-append, allBelow-at, allBelow-same}
 use Rattle.network.proofs.Laws.Members.{has-any}
 use Rattle.network.proofs.Laws.Membership.{any-of-member, member-of-any}
 use Rattle.network.proofs.Laws.Integers.{difference-pos, difference-sub, eq-of-difference}
@@ -106,32 +106,38 @@ unfolding Marks markAt callsAt any
 marks-none marks z line stop h k = z (stop * 16 + line)
 
 -- one call more, of a line that didn't yet call at its stop
-pub marks-next : (l : List Call) (marks : List ℕ) (i : ℕ) → length marks ≡ 1024 → i < length l
-    → getD l i noCall .line < maxLines → getD l i noCall .stop ≤ maxStop
-    → callsAt (getD l i noCall .line) (getD l i noCall .stop) (take i l) ≡ false
-    → Marks marks (take i l)
-    → Marks (set marks (getD l i noCall .stop * 16 + getD l i noCall .line) (getD l i noCall .offset + 1)) (take (i + 1) l)
+pub marks-call : (marks : List ℕ) (cs : List Call) (c : Call) → length marks ≡ 1024 → c .line < maxLines → c .stop ≤ maxStop
+    → callsAt (c .line) (c .stop) cs ≡ false → Marks marks cs → Marks (set marks (c .stop * 16 + c .line) (c .offset + 1)) (cs ++ (c ∷ []))
 unfolding Marks
-marks-next l marks i r h low high fresh m line stop k j =
-    go (ℕ-discrete (stop * 16 + line) (c .stop * 16 + c .line))
-    ∙ ap (markAt line stop) (sym (ap (λ (q : ℕ). take q l) (add-one i) ∙ take-suc l i noCall h))
+marks-call marks cs c r low high fresh m line stop k j = go (ℕ-discrete (stop * 16 + line) (c .stop * 16 + c .line))
   where
-    c : Call
-    c = getD l i noCall
-
     go : Dec (stop * 16 + line ≡ c .stop * 16 + c .line)
-        → getD (set marks (c .stop * 16 + c .line) (c .offset + 1)) (stop * 16 + line) 0 ≡ markAt line stop (take i l ++ (c ∷ []))
+        → getD (set marks (c .stop * 16 + c .line) (c .offset + 1)) (stop * 16 + line) 0 ≡ markAt line stop (cs ++ (c ∷ []))
     go (yes e) =
         let f : c .line ≡ line = omega arith in
         let g : c .stop ≡ stop = omega arith in
         ap (λ (q : ℕ). getD (set marks (c .stop * 16 + c .line) (c .offset + 1)) q 0) e
         ∙ getD-set-same marks (c .stop * 16 + c .line) (c .offset + 1) 0 (omega arith)
         ∙ add-one (c .offset)
-        ∙ sym (markAt-hit line stop (take i l) c (rw (f, g) at fresh) f g)
+        ∙ sym (markAt-hit line stop cs c (rw (f, g) at fresh) f g)
     go (no d) =
         getD-set-other marks (c .stop * 16 + c .line) (stop * 16 + line) (c .offset + 1) 0 d
         ∙ m line stop k j
-        ∙ sym (markAt-miss line stop (take i l) c (λ e f. d (omega arith)))
+        ∙ sym (markAt-miss line stop cs c (λ e f. d (omega arith)))
+
+-- the call at a row's next place
+pub marks-next : (l : List Call) (marks : List ℕ) (i : ℕ) → length marks ≡ 1024 → i < length l
+    → getD l i noCall .line < maxLines → getD l i noCall .stop ≤ maxStop
+    → callsAt (getD l i noCall .line) (getD l i noCall .stop) (take i l) ≡ false
+    → Marks marks (take i l)
+    → Marks (set marks (getD l i noCall .stop * 16 + getD l i noCall .line) (getD l i noCall .offset + 1)) (take (i + 1) l)
+marks-next l marks i r h low high fresh m =
+    subst (Marks (set marks (c .stop * 16 + c .line) (c .offset + 1)))
+    (sym (ap (λ (q : ℕ). take q l) (add-one i) ∙ take-suc l i noCall h))
+    (marks-call marks (take i l) c r low high fresh m)
+  where
+    c : Call
+    c = getD l i noCall
 
 -- A line calls at a stop once, so that before a call of it there is none
 pub fresh-call : (n : Network) → Sound n → Valid (netOf n) → (i : ℕ) → i < n .calls
@@ -156,11 +162,6 @@ fresh-call n s v i h = go _ refl
         (ap (λ (d : Call). d .stop) p ∙ eqb-true _ _ b ∙ ap (λ (d : Call). d .stop) (sym q)))
 
 -- ---- the tests
-
-allBelow-same : (p q : ℕ → Bool) (n : ℕ) → ((i : ℕ) → i < n → p i ≡ q i) → allBelow p n ≡ allBelow q n
-unfolding allBelow
-allBelow-same p q zero h = refl
-allBelow-same p q (suc n) h = ap₂ _&&_ (allBelow-same p q n (λ i l. h i (omega arith))) (h n (le-refl _))
 
 -- offsets one higher differ as much
 suc-sub-suc : (a b : ℕ) → pos (suc a) -ℤ pos (suc b) ≡ pos a -ℤ pos b

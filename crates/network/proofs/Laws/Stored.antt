@@ -1,21 +1,28 @@
--- Laws of a network as the engine holds it: its counts are the lengths of the lists that it stands for, and a command's step is judged by
--- the first ground that applies. Assumes nothing.
+-- Laws of a network as the engine holds it: its counts are the lengths of the lists that it stands for, a line or call more is written
+-- behind those that count, and what a command tells says how the reading goes on. Assumes nothing.
 use Prim.Native.Nat.{ℕ, _+_, _<_, _≤_}
-use mathlib.Core.Path.{_≡_, refl, sym, ap, ap₂, _∙_}
+use mathlib.Core.Path.{_≡_, refl, sym, ap, subst, _∙_}
+use mathlib.Core.Bool.{false}
 use mathlib.Core.List.{List, _∷_}
+use mathlib.Core.Logic.{inl, inr}
 use native.Mathlib.Omega.{arith}
-use lib.ListN.{length, getD, drop}
+use lib.ListN.{length, getD, take, drop, set, length-set}
 use lib.Seq.{length-take-le, getD-take}
+use Rattle.network.specs.declared.Call.{Call}
 use Rattle.network.specs.declared.Check.{Check}
 use Rattle.network.specs.declared.Check.the-variants.{Passes, Refused}
 use Rattle.network.specs.declared.Network.{Network}
-use Rattle.network.specs.declared.Step.{Step}
+use Rattle.network.specs.declared.Told.the-variants as told
 use Rattle.network.specs.Network.{Net, Command, statesLine, callsByOffset, callsByRide, ends, unknown, command, operandBytes, extend}
-use Rattle.network.specs.Network.{maxStop}
+use Rattle.network.specs.Network.{maxLines, maxCycle, maxStop, maxCalls, cycle, callsAt, word, callOf, withLine, withCall}
 use Rattle.network.specs.Valid.{Valid, noCall}
 use Rattle.network.specs.Grounds.{first, grounds}
 use Rattle.network.specs.Reading.{Reading, accepted, refused, proceed, readFrom}
-use Rattle.network.specs.Stored.{netOf, Sound, Stepped}
+use Rattle.network.specs.Stored.{netOf, Sound, HasSize, Tells}
+use Rattle.network.proofs.Laws.Divisor.{lcm-pos}
+use Rattle.network.proofs.Laws.Grounds.{CallFits, line-passes, call-passes, ride-passes}
+use Rattle.network.proofs.Laws.Lists.{zero-ne-one, take-set-next}
+use Rattle.network.proofs.Laws.Network.{cycle-withLine}
 use Rattle.network.proofs.Laws.Reading.{readFrom-skip, passes-operands}
 
 pub held-lines : (n : Network) → Sound n → length (netOf n .periods) ≡ n .lines
@@ -46,35 +53,122 @@ module _ (n : Network) (s : Sound n) (v : Valid (netOf n)) where
   pub held-period-pos : (line : ℕ) → line < n .lines → 0 < getD (n .periods) line 0
   held-period-pos line h = rw (held-period n line h) at (v .period-pos line (rw (held-lines n s) h))
 
--- A command that a ground refuses
-pub stepped-refused :
-    (c : Command) (n : Network) (p : ℕ) (behind : List ℕ) (s : Step) (number place : ℕ)
-    → Sound n
-    → first (grounds c (netOf n) p behind) ≡ Refused number place
-    → (s .check ≡ Refused number place) × (s .network ≡ n)
-    → Stepped c n p behind s
-stepped-refused c n p behind s number place sound e made =
+-- ---- one line or one call more, written behind those that count
+
+abbrev pub lineAdded : Network → ℕ → ℕ → Network
+lineAdded n period common =
+    record { lines = n .lines + 1; periods = set (n .periods) (n .lines) period; calls = n .calls; list = n .list; cycle = common }
+
+abbrev pub callAdded : Network → Call → Network
+callAdded n call =
+    record { lines = n .lines; periods = n .periods; calls = n .calls + 1; list = set (n .list) (n .calls) call; cycle = n .cycle }
+
+module _ (n : Network) (s : Sound n) where
+  module _ (period common : ℕ) (room : n .lines < maxLines) where
+    pub line-added : netOf (lineAdded n period common) ≡ withLine (netOf n) period
+    unfolding netOf withLine
+    line-added =
+        ap (λ (ps : List ℕ). record { periods = ps; calls = take (n .calls) (n .list) })
+        (take-set-next (n .periods) (n .lines) period (omega (arith, s .periods-row)))
+
+    pub sound-line : 0 < common → common ≤ maxCycle → common ≡ cycle (withLine (netOf n) period) → Sound (lineAdded n period common)
+    sound-line pos low is =
+        record {
+          periods-row = length-set (n .periods) (n .lines) period ∙ s .periods-row;
+          list-row = s .list-row;
+          lines = omega arith;
+          calls = s .calls;
+          cycle-is = is ∙ ap cycle (sym line-added);
+          cycle-pos = pos;
+          cycle-le = low;
+        }
+
+  module _ (call : Call) (room : n .calls < maxCalls) where
+    pub call-added : netOf (callAdded n call) ≡ withCall (netOf n) call
+    unfolding netOf withCall
+    call-added =
+        ap (λ (cs : List Call). record { periods = take (n .lines) (n .periods); calls = cs })
+        (take-set-next (n .list) (n .calls) call (omega (arith, s .list-row)))
+
+    pub sound-call : Sound (callAdded n call)
+    unfolding netOf cycle
+    sound-call =
+        record {
+          periods-row = s .periods-row;
+          list-row = length-set (n .list) (n .calls) call ∙ s .list-row;
+          lines = s .lines;
+          calls = omega arith;
+          cycle-is = s .cycle-is;
+          cycle-pos = s .cycle-pos;
+          cycle-le = s .cycle-le;
+        }
+
+-- The numbers of a network that is held are those that the grounds ask for
+pub has-size : (n : Network) → Sound n → HasSize (netOf n) (record { lines = n .lines; calls = n .calls; cycle = n .cycle })
+has-size n s = record { lines = sym (held-lines n s); calls = sym (held-calls n s); cycle-is = s .cycle-is }
+
+-- ---- what a command tells
+
+pub record LineTold (c : Command) (n : Net) (p : ℕ) (behind : List ℕ) (period common : ℕ) : Type 0 where
+  pub passes : first (grounds c n p behind) ≡ Passes
+  pub onward : c ≡ ends → ⊥
+  pub extended : withLine n period ≡ extend c n behind
+  pub room : length (n .periods) < maxLines
+  pub cycle-is : common ≡ cycle (withLine n period)
+  pub cycle-pos : 0 < common
+  pub cycle-le : common ≤ maxCycle
+
+pub tells-line : (c : Command) (n : Net) (p : ℕ) (behind : List ℕ) (period common : ℕ) → 0 < cycle n → Tells c n p behind (told.Line period common)
+    → LineTold c n p behind period common
+unfolding Tells extend
+tells-line c n p behind period common pos (passes, is, stated, made) =
+    let fits = line-passes n p behind (ap (λ (d : Command). first (grounds d n p behind)) (sym is) ∙ passes) in
     record {
-      check = made .0 ∙ sym e;
-      sound = rw (made .1) sound;
-      extended = λ f. absurd (never (sym (made .0) ∙ f));
+      passes = passes;
+      onward = λ e. apart (sym is ∙ e);
+      extended = ap (withLine n) stated ∙ ap (λ (d : Command). extend d n behind) (sym is);
+      room = fits .room;
+      cycle-is = made ∙ sym (cycle-withLine n (word behind 0)) ∙ ap (λ (m : ℕ). cycle (withLine n m)) (sym stated);
+      cycle-pos = rw made (lcm-pos _ _ pos (fits .period-pos));
+      cycle-le = rw made (fits .cycle-max);
     }
   where
-    never : Refused number place ≡ Passes → ⊥
-    never q = let z : _≡_ {A = ℕ} 0 1 = cc in omega arith
+    apart : statesLine ≡ ends → ⊥
+    apart e = zero-ne-one (cc)
 
--- A command that passes
-pub stepped-passed :
-    (c : Command) (n m : Network) (p : ℕ) (behind : List ℕ) (s : Step)
-    → Sound m
-    → netOf m ≡ extend c (netOf n) behind
-    → first (grounds c (netOf n) p behind) ≡ Passes
-    → (s .check ≡ Passes) × (s .network ≡ m)
-    → Stepped c n p behind s
-stepped-passed c n m p behind s sound grown e made =
-    record { check = made .0 ∙ sym e; sound = rw (made .1) sound; extended = λ f. rw (made .1) grown }
+pub record CallTold (c : Command) (n : Net) (p : ℕ) (behind : List ℕ) (call : Call) : Type 0 where
+  pub passes : first (grounds c n p behind) ≡ Passes
+  pub onward : c ≡ ends → ⊥
+  pub extended : withCall n call ≡ extend c n behind
+  pub line : call .line < length (n .periods)
+  pub stop : call .stop ≤ maxStop
+  pub fresh : callsAt (call .line) (call .stop) (n .calls) ≡ false
+  pub room : length (n .calls) < maxCalls
 
--- What the step at a command's byte says of the whole reading from there on
+call-told : (c d : Command) (n : Net) (p : ℕ) (behind : List ℕ) (call : Call) (offset : ℕ) → first (grounds c n p behind) ≡ Passes → (d ≡ ends → ⊥) → c ≡ d → call ≡ callOf behind offset
+    → extend d n behind ≡ withCall n (callOf behind offset) → CallFits d n behind → CallTold c n p behind call
+unfolding callOf
+call-told c d n p behind call offset passes apart is made e fits =
+    record {
+      passes = passes;
+      onward = λ f. apart (sym is ∙ f);
+      extended = ap (withCall n) made ∙ sym e ∙ ap (λ (k : Command). extend k n behind) (sym is);
+      line = subst (λ (k : Call). k .line < length (n .periods)) (sym made) (fits .line);
+      stop = subst (λ (k : Call). k .stop ≤ maxStop) (sym made) (fits .stop);
+      fresh = ap (λ (k : Call). callsAt (k .line) (k .stop) (n .calls)) made ∙ fits .fresh;
+      room = fits .room;
+    }
+
+pub tells-call : (c : Command) (n : Net) (p : ℕ) (behind : List ℕ) (call : Call) → Tells c n p behind (told.Calls call) → CallTold c n p behind call
+unfolding Tells extend grounds
+tells-call c n p behind call (passes, inl (is, made)) =
+    call-told c callsByOffset n p behind call _ passes (λ e. zero-ne-one (cc)) is made refl
+    (call-passes callsByOffset n p behind (ap (λ (d : Command). first (grounds d n p behind)) (sym is) ∙ passes))
+tells-call c n p behind call (passes, inr (is, made)) =
+    call-told c callsByRide n p behind call _ passes (λ e. zero-ne-one (cc)) is made refl
+    (ride-passes n p behind (ap (λ (d : Command). first (grounds d n p behind)) (sym is) ∙ passes) .0)
+
+-- ---- what a command's byte says of the whole reading from there on
 
 proceed-onward : (c : Command) (n : Net) (onward : Reading) → (c ≡ ends → ⊥) → proceed Passes c n onward ≡ onward
 unfolding proceed
@@ -84,35 +178,28 @@ proceed-onward callsByRide n onward f = refl
 proceed-onward ends n onward f = absurd (f refl)
 proceed-onward unknown n onward f = refl
 
-module _ (b : ℕ) (n : Network) (p : ℕ) (behind : List ℕ) (s : Step) (stepped : Stepped (command b) n p behind s) where
+module _ (b : ℕ) (n : Net) (p : ℕ) (behind : List ℕ) where
   onward : Reading
-  onward = readFrom (extend (command b) (netOf n) behind) (p + 1) (operandBytes (command b)) behind
+  onward = readFrom (extend (command b) n behind) (p + 1) (operandBytes (command b)) behind
 
-  read-step : readFrom (netOf n) p 0 (b ∷ behind) ≡ proceed (s .check) (command b) (netOf n) onward
+  read-step : (k : Check) → first (grounds (command b) n p behind) ≡ k → readFrom n p 0 (b ∷ behind) ≡ proceed k (command b) n onward
   unfolding readFrom onward
-  read-step = ap (λ (k : Check). proceed k (command b) (netOf n) onward) (sym (stepped .check))
+  read-step k e = ap (λ (k : Check). proceed k (command b) n onward) e
 
-  pub read-refused : (number place : ℕ) → s .check ≡ Refused number place → readFrom (netOf n) p 0 (b ∷ behind) ≡ refused number place
+  pub read-refused : (number place : ℕ) → first (grounds (command b) n p behind) ≡ Refused number place
+      → readFrom n p 0 (b ∷ behind) ≡ refused number place
   unfolding proceed
-  read-refused number place e = read-step ∙ ap (λ (k : Check). proceed k (command b) (netOf n) onward) e
+  read-refused number place e = read-step (Refused number place) e
 
-  pub read-ended : s .check ≡ Passes → command b ≡ ends → readFrom (netOf n) p 0 (b ∷ behind) ≡ accepted (netOf (s .network))
-  unfolding proceed extend
-  read-ended e c =
-      read-step ∙ ap₂ (λ (k : Check) (d : Command). proceed k d (netOf n) onward) e c ∙ same (stepped .extended e ∙ ap (λ (d : Command). extend d (netOf n) behind) c)
-    where
-      same : netOf (s .network) ≡ extend ends (netOf n) behind → proceed Passes ends (netOf n) onward ≡ accepted (netOf (s .network))
-      same q = ap accepted (sym q)
+  pub read-ended : first (grounds (command b) n p behind) ≡ Passes → command b ≡ ends → readFrom n p 0 (b ∷ behind) ≡ accepted n
+  unfolding proceed
+  read-ended e c = read-step Passes e ∙ ap (λ (d : Command). proceed Passes d n onward) c
 
-  pub read-onward :
-      s .check ≡ Passes
-      → (command b ≡ ends → ⊥)
-      → readFrom (netOf n) p 0 (b ∷ behind)
-      ≡ readFrom (netOf (s .network)) (p + 1 + operandBytes (command b)) 0 (drop (operandBytes (command b)) behind)
+  pub read-onward : (m : Net) → first (grounds (command b) n p behind) ≡ Passes → (command b ≡ ends → ⊥) → m ≡ extend (command b) n behind
+      → readFrom n p 0 (b ∷ behind) ≡ readFrom m (p + 1 + operandBytes (command b)) 0 (drop (operandBytes (command b)) behind)
   unfolding onward
-  read-onward e f =
-      read-step
-      ∙ ap (λ (k : Check). proceed k (command b) (netOf n) onward) e
-      ∙ proceed-onward (command b) (netOf n) onward f
-      ∙ ap (λ (m : Net). readFrom m (p + 1) (operandBytes (command b)) behind) (sym (stepped .extended e))
-      ∙ readFrom-skip (netOf (s .network)) (p + 1) (operandBytes (command b)) behind (passes-operands (command b) (netOf n) p behind (sym (stepped .check) ∙ e))
+  read-onward m e f g =
+      read-step Passes e
+      ∙ proceed-onward (command b) n onward f
+      ∙ ap (λ (k : Net). readFrom k (p + 1) (operandBytes (command b)) behind) (sym g)
+      ∙ readFrom-skip m (p + 1) (operandBytes (command b)) behind (passes-operands (command b) n p behind e)

@@ -1,112 +1,131 @@
 -- `network::reader::check_call` meets its contract: at each return the tests that led there say which ground applies first.
 -- Assumes nothing.
-use Prim.Native.Nat.{ℕ}
-use mathlib.Core.Path.{_≡_, refl, sym, _∙_}
+use Prim.Native.Nat.{ℕ, _<_, _≤_}
+use mathlib.Core.Path.{_≡_, refl, sym, ap, _∙_}
+use mathlib.Core.Bool.{Bool}
+use mathlib.Core.List.{List}
 use native.Mathlib.Omega.{arith}
-use borrow.Author.Tests.{lt-ltb, le-ltb, le-leb, lt-leb}
-use lib.ListN.{length, getD}
-use Rattle.network.specs.Network.{maxStop, maxCalls, operandBytes, lineOperand, stopOperand}
-use Rattle.network.specs.Grounds.{callGrounds, cutOff}
-use Rattle.network.specs.Stored.{netOf}
-use Rattle.network.proofs.Laws.Grounds.{first-none, first-hit, first-miss}
-use Rattle.network.proofs.Laws.Stored.{held-lines, held-calls}
 use borrow.Author.Needs.{needs}
+use borrow.Author.Tests.{lt-ltb, le-ltb, le-leb, lt-leb}
+use lib.Dec.{ltb}
+use lib.ListN.{length, getD}
+use Rattle.network.specs.declared.Call.{Call}
+use Rattle.network.specs.declared.Check.the-variants.{Passes, Refused}
+use Rattle.network.specs.Network.{Net, maxLines, maxStop, maxCalls, callsAt, operandBytes, lineOperand, stopOperand}
+use Rattle.network.specs.Grounds.{callGrounds, cutOff}
+use Rattle.network.specs.Offsets.{Marks, markIn}
+use Rattle.network.specs.Stored.{HasSize}
+use Rattle.network.proofs.Laws.Lists.{zero-ne-one}
+use Rattle.network.proofs.Laws.Grounds.{first-none, first-hit, first-miss}
+use Rattle.network.proofs.Laws.Offsets.{called-mark}
 use Rattle.network.proofs.reader.check_call.Statement.{statement}
 use Rattle.network.proofs.reader.check_call.Tie as tie
 use Rattle.network.proofs.reader.check_call.Reads as reads
 use Rattle.network.proofs.reader.check_call.Lts as lts
-use Rattle.network.proofs.calls.calls_at.Reads as calls-at-reads
+use Rattle.network.proofs.alike.mark.Reads as mark-reads
 
--- src/reader.rt:102:9
+-- The mark of the line at the stop says whether ground 9 applies
+marked : (marks : List ℕ) (cs : List Call) → Marks marks cs → (line stop mark : ℕ) → line < maxLines → stop ≤ maxStop
+    → mark ≡ markIn marks line stop → callsAt line stop cs ≡ ltb 0 mark
+unfolding Marks
+marked marks cs m line stop mark h k e = sym (ap (ltb 0) (e ∙ m line stop h k) ∙ called-mark line stop cs)
+
+-- A refusal is no pass
+never : {A : Type 0} (number place : ℕ) → Refused number place ≡ Passes → A
+never number place e = absurd (zero-ne-one (cc))
+
 returns : tie.Need-returns
 unfolding callGrounds cutOff operandBytes lineOperand stopOperand
 returns c =
     let s = c .before .before in
-    let n = s .args .network in
-    let b = s .args .behind .now in
-    sym
-    (first-hit _ _ _ _ (lt-ltb (length b) 4 (omega arith)))
+    let b = s .args .behind .now in (
+      λ n h m. sym
+          (first-hit _ _ _ _ (lt-ltb (length b) 4 (omega arith))),
+      never _ _,
+    )
 
--- src/reader.rt:107:16
 shared-slice-read-line : tie.Need-shared-slice-read-line
 shared-slice-read-line c = search needs
 
--- src/reader.rt:108:16
 shared-slice-read-stop : tie.Need-shared-slice-read-stop
 shared-slice-read-stop c = search needs
 
--- src/reader.rt:109:25
 cast-if2 : tie.Need-cast-if2
 cast-if2 c = omega (arith, c .shared-slice-known3 .given 0)
 
--- src/reader.rt:110:9
 returns-2 : tie.Need-returns-2
 unfolding callGrounds cutOff operandBytes lineOperand stopOperand
 returns-2 c =
     let s = c .before .before .before .before .before .before in
-    let n = s .args .network in
-    let b = s .args .behind .now in
-    sym
-    (first-miss _ _ _ _ (le-ltb (length b) 4 (omega arith))
-    ∙ first-hit _ _ _ _ (le-leb (length (netOf n .periods)) (getD b 0 0) (omega (arith, held-lines n (s .pre)))))
+    let b = s .args .behind .now in (
+      λ n h m. sym
+          (first-miss _ _ _ _ (le-ltb (length b) 4 (omega arith))
+          ∙ first-hit _ _ _ _ (le-leb (length (n .periods)) (getD b 0 0) (omega (arith, h .lines)))),
+      never _ _,
+    )
 
--- src/reader.rt:116:9
 returns-3 : tie.Need-returns-3
 unfolding callGrounds cutOff operandBytes lineOperand stopOperand
 returns-3 c =
     let s = c .before .before .before .before .before .before .before in
-    let n = s .args .network in
-    let b = s .args .behind .now in
-    sym
-    (first-miss _ _ _ _ (le-ltb (length b) 4 (omega arith))
-    ∙ first-miss _ _ _ _ (lt-leb (length (netOf n .periods)) (getD b 0 0) (omega (arith, held-lines n (s .pre))))
-    ∙ first-hit _ _ _ _ (lt-ltb maxStop (getD b 1 0) (omega arith)))
+    let b = s .args .behind .now in (
+      λ n h m. sym
+          (first-miss _ _ _ _ (le-ltb (length b) 4 (omega arith))
+          ∙ first-miss _ _ _ _ (lt-leb (length (n .periods)) (getD b 0 0) (omega (arith, h .lines)))
+          ∙ first-hit _ _ _ _ (lt-ltb maxStop (getD b 1 0) (omega arith))),
+      never _ _,
+    )
 
--- src/reader.rt:121:8
-calls-at-requires : tie.Need-calls-at-requires
-calls-at-requires c κs = search needs
+cast-mark : tie.Need-cast-mark
+cast-mark c = search needs
 
--- src/reader.rt:122:9
+cast-mark-2 : tie.Need-cast-mark-2
+cast-mark-2 c = search needs
+
+mark-requires : tie.Need-mark-requires
+mark-requires c κs = search needs
+
 returns-4 : tie.Need-returns-4
 unfolding callGrounds cutOff operandBytes lineOperand stopOperand
 returns-4 c =
     let s = c .before .before .before .before .before .before .before .before .before in
-    let n = s .args .network in
-    let b = s .args .behind .now in
-    sym
-    (first-miss _ _ _ _ (le-ltb (length b) 4 (omega arith))
-    ∙ first-miss _ _ _ _ (lt-leb (length (netOf n .periods)) (getD b 0 0) (omega (arith, held-lines n (s .pre))))
-    ∙ first-miss _ _ _ _ (le-ltb maxStop (getD b 1 0) (omega arith))
-    ∙ first-hit _ _ _ _ (sym (c .before .calls-at .ensures) ∙ c .if4 .taken))
+    let b = s .args .behind .now in (
+      λ n h m. sym
+          (first-miss _ _ _ _ (le-ltb (length b) 4 (omega arith))
+          ∙ first-miss _ _ _ _ (lt-leb (length (n .periods)) (getD b 0 0) (omega (arith, h .lines)))
+          ∙ first-miss _ _ _ _ (le-ltb maxStop (getD b 1 0) (omega arith))
+          ∙ first-hit _ _ _ _ (marked (s .args .marks .now) (n .calls) m (getD b 0 0) (getD b 1 0) (c .before .mark .result) (omega (arith, s .pre)) (omega arith) (c .before .mark .ensures) ∙ lt-ltb 0 (c .before .mark .result) (omega arith))),
+      never _ _,
+    )
 
--- src/reader.rt:128:9
 returns-5 : tie.Need-returns-5
 unfolding callGrounds cutOff operandBytes lineOperand stopOperand
 returns-5 c =
     let s = c .before .before .before .before .before .before .before .before .before .before .before in
-    let n = s .args .network in
-    let b = s .args .behind .now in
-    sym
-    (first-miss _ _ _ _ (le-ltb (length b) 4 (omega arith))
-    ∙ first-miss _ _ _ _ (lt-leb (length (netOf n .periods)) (getD b 0 0) (omega (arith, held-lines n (s .pre))))
-    ∙ first-miss _ _ _ _ (le-ltb maxStop (getD b 1 0) (omega arith))
-    ∙ first-miss _ _ _ _ (sym (c .before .before .before .calls-at .ensures) ∙ c .before .before .if4 .left)
-    ∙ first-hit _ _ _ _ (le-leb maxCalls (length (netOf n .calls)) (omega (arith, held-calls n (s .pre)))))
+    let b = s .args .behind .now in (
+      λ n h m. sym
+          (first-miss _ _ _ _ (le-ltb (length b) 4 (omega arith))
+          ∙ first-miss _ _ _ _ (lt-leb (length (n .periods)) (getD b 0 0) (omega (arith, h .lines)))
+          ∙ first-miss _ _ _ _ (le-ltb maxStop (getD b 1 0) (omega arith))
+          ∙ first-miss _ _ _ _ (marked (s .args .marks .now) (n .calls) m (getD b 0 0) (getD b 1 0) (c .before .before .before .mark .result) (omega (arith, s .pre)) (omega arith) (c .before .before .before .mark .ensures) ∙ le-ltb 0 (c .before .before .before .mark .result) (omega (arith, c .before .before .if4 .left)))
+          ∙ first-hit _ _ _ _ (le-leb maxCalls (length (n .calls)) (omega (arith, h .calls)))),
+      never _ _,
+    )
 
--- src/reader.rt:97:1
 returns-6 : tie.Need-returns-6
 unfolding callGrounds cutOff operandBytes lineOperand stopOperand
 returns-6 c =
     let s = c .before .before .before .before .before .before .before .before .before .before .before in
-    let n = s .args .network in
-    let b = s .args .behind .now in
-    sym
-    (first-miss _ _ _ _ (le-ltb (length b) 4 (omega arith))
-    ∙ first-miss _ _ _ _ (lt-leb (length (netOf n .periods)) (getD b 0 0) (omega (arith, held-lines n (s .pre))))
-    ∙ first-miss _ _ _ _ (le-ltb maxStop (getD b 1 0) (omega arith))
-    ∙ first-miss _ _ _ _ (sym (c .before .before .before .calls-at .ensures) ∙ c .before .before .if4 .left)
-    ∙ first-miss _ _ _ _ (lt-leb maxCalls (length (netOf n .calls)) (omega (arith, held-calls n (s .pre))))
-    ∙ first-none)
+    let b = s .args .behind .now in (
+      λ n h m. sym
+          (first-miss _ _ _ _ (le-ltb (length b) 4 (omega arith))
+          ∙ first-miss _ _ _ _ (lt-leb (length (n .periods)) (getD b 0 0) (omega (arith, h .lines)))
+          ∙ first-miss _ _ _ _ (le-ltb maxStop (getD b 1 0) (omega arith))
+          ∙ first-miss _ _ _ _ (marked (s .args .marks .now) (n .calls) m (getD b 0 0) (getD b 1 0) (c .before .before .before .mark .result) (omega (arith, s .pre)) (omega arith) (c .before .before .before .mark .ensures) ∙ le-ltb 0 (c .before .before .before .mark .result) (omega (arith, c .before .before .if4 .left)))
+          ∙ first-miss _ _ _ _ (lt-leb maxCalls (length (n .calls)) (omega (arith, h .calls)))
+          ∙ first-none),
+      λ e. (omega arith, omega arith),
+    )
 
 pub check-call-spec : {M : Type 1} → statement M
 check-call-spec =
@@ -118,7 +137,9 @@ check-call-spec =
     cast-if2
     returns-2
     returns-3
-    calls-at-requires
+    cast-mark
+    cast-mark-2
+    mark-requires
     returns-4
     returns-5
     returns-6)

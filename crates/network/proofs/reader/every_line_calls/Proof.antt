@@ -3,71 +3,57 @@ use Prim.Native.Nat.{ℕ, _≤_, _-_}
 use mathlib.Core.Path.{_≡_, refl, sym, ap, _∙_}
 use mathlib.Core.Bool.{true}
 use native.Mathlib.Omega.{arith}
-use lib.ListN.{length}
+use borrow.Author.Tests.{lt-ltb, le-ltb}
+use lib.Dec.{ltb}
+use lib.ListN.{getD}
 use Rattle.network.specs.Lists.{allBelow}
-use Rattle.network.specs.Network.{callsAnywhere}
-use Rattle.network.specs.Stored.{netOf}
 use Rattle.network.proofs.Laws.Lists.{allBelow-next, allBelow-fails}
-use Rattle.network.proofs.Laws.Stored.{held-lines}
 use Rattle.network.proofs.reader.every_line_calls.Statement.{statement}
 use Rattle.network.proofs.reader.every_line_calls.Tie as tie
 use Rattle.network.proofs.reader.every_line_calls.Reads as reads
 use Rattle.network.proofs.reader.every_line_calls.Lts as lts
-use Rattle.network.proofs.calls.calls_anywhere.Reads as calls-anywhere-reads
 
 abbrev Inv-loop : tie.InvT-loop
-Inv-loop network lines line₀ line = (line ≤ lines) × (allBelow (λ l. callsAnywhere l (netOf network .calls)) line ≡ true)
+Inv-loop lines latest line₀ line = (line ≤ lines) × (allBelow (λ l. ltb 0 (getD latest l 0)) line ≡ true)
 
 abbrev μ-loop : tie.MeasureT-loop
-μ-loop network lines line₀ line = lines - line
+μ-loop lines latest line₀ line = lines - line
 
--- src/reader.rt:195:5
 loop-holds : tie.Need-loop-holds Inv-loop μ-loop
 unfolding allBelow
 loop-holds c = (omega arith, refl)
 
--- src/reader.rt:196:36
-cast-calls-anywhere : tie.Need-cast-calls-anywhere Inv-loop μ-loop
-cast-calls-anywhere c = omega (arith, c .before .before .pre .lines)
+mul-if1 : tie.Need-mul-if1 Inv-loop μ-loop
+mul-if1 c = omega (arith, c .before .before .pre)
 
--- src/reader.rt:196:12
-calls-anywhere-requires : tie.Need-calls-anywhere-requires Inv-loop μ-loop
-calls-anywhere-requires c κs = c .before .before .pre
+element-copy-out-if1 : tie.Need-element-copy-out-if1 Inv-loop μ-loop
+element-copy-out-if1 c = omega (arith, c .before .before .pre)
 
--- src/reader.rt:197:13
-add-line : tie.Need-add-line Inv-loop μ-loop
-add-line c = omega (arith, c .before .before .before .before .pre .lines)
-
--- src/reader.rt:195:5
-loop-less : tie.Need-loop-less Inv-loop μ-loop
-loop-less c = omega arith
-
--- src/reader.rt:195:5
-loop-again : tie.Need-loop-again Inv-loop μ-loop
-loop-again c =
-    let s = c .before .before .before .before in (
-      omega arith,
-      allBelow-next (λ l. callsAnywhere l (netOf (s .args .network) .calls)) (c .before .before .before .loop .line)
-          (c .before .before .before .loop .inv .1)
-          (sym (c .before .calls-anywhere .ensures) ∙ c .if1 .taken),
-    )
-
--- src/reader.rt:199:9
 returns : tie.Need-returns Inv-loop μ-loop
 returns c =
     let s = c .before .before .before .before in
-    sym
-    (allBelow-fails (λ l. callsAnywhere l (netOf (s .args .network) .calls)) (length (netOf (s .args .network) .periods))
-    (c .before .before .before .loop .line)
-    (omega (arith, held-lines (s .args .network) (s .pre)))
-    (sym (c .before .calls-anywhere .ensures) ∙ c .if1 .left))
+    let line = c .before .before .before .loop .line in
+    sym (allBelow-fails (λ l. ltb 0 (getD (s .args .latest .now) l 0)) (s .args .lines) line (omega arith) (le-ltb 0 (getD (s .args .latest .now) line 0) (omega (arith, c .if1 .taken))))
 
--- src/reader.rt:190:1
+add-line : tie.Need-add-line Inv-loop μ-loop
+add-line c = omega (arith, c .before .before .before .before .pre)
+
+loop-less : tie.Need-loop-less Inv-loop μ-loop
+loop-less c = omega arith
+
+loop-again : tie.Need-loop-again Inv-loop μ-loop
+loop-again c =
+    let s = c .before .before .before .before in
+    let line = c .before .before .before .loop .line in (
+      omega arith,
+      allBelow-next (λ l. ltb 0 (getD (s .args .latest .now) l 0)) line (c .before .before .before .loop .inv .1) (lt-ltb 0 (getD (s .args .latest .now) line 0) (omega (arith, c .if1 .left))),
+    )
+
 returns-2 : tie.Need-returns-2 Inv-loop μ-loop
 returns-2 c =
     let s = c .before .before in
-    let all : length (netOf (s .args .network) .periods) ≡ c .before .loop .line = omega (arith, held-lines (s .args .network) (s .pre)) in
-    sym (ap (allBelow (λ l. callsAnywhere l (netOf (s .args .network) .calls))) all ∙ c .before .loop .inv .1)
+    let all : s .args .lines ≡ c .before .loop .line = omega arith in
+    sym (ap (allBelow (λ l. ltb 0 (getD (s .args .latest .now) l 0))) all ∙ c .before .loop .inv .1)
 
 pub every-line-calls-spec : {M : Type 1} → statement M
 every-line-calls-spec =
@@ -76,10 +62,10 @@ every-line-calls-spec =
     Inv-loop
     μ-loop
     loop-holds
-    cast-calls-anywhere
-    calls-anywhere-requires
+    mul-if1
+    element-copy-out-if1
+    returns
     add-line
     loop-less
     loop-again
-    returns
     returns-2)

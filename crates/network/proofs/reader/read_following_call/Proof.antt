@@ -1,160 +1,122 @@
 -- `network::reader::read_following_call` meets its contract: the grounds of a call are passed, so 11 and 12 are left, and the offset is
 -- that of the line's latest call plus the ride. Assumes nothing.
-use Prim.Native.Nat.{ℕ, _+_, _≤_}
-use mathlib.Core.Path.{_≡_, refl, sym, ap, ap₂, _∙_}
-use mathlib.Core.Bool.{not}
+use Prim.Native.Nat.{ℕ, _+_, _-_, _<_, _≤_}
+use mathlib.Core.Path.{_≡_, refl, sym, ap, _∙_}
+use mathlib.Core.Bool.{Bool, true, false, not}
+use mathlib.Core.List.{List}
+use mathlib.Core.Logic.{inr}
 use native.Mathlib.Omega.{arith}
-use borrow.Author.Tests.{lt-ltb, le-ltb}
-use lib.ListN.{length}
-use Rattle.network.specs.declared.Check.the-variants.{Passes}
-use Rattle.network.specs.Network.{
-  callsByOffset,
-  callsByRide,
-  operandBytes,
-  extend,
-  withCall,
-  callOf,
-  lineOperand,
-  stopOperand,
-  rideOffset,
-  maxOffset,
-}
-use Rattle.network.specs.Grounds.{first, grounds, callGrounds}
-use Rattle.network.specs.Stored.{netOf}
-use Rattle.network.proofs.Laws.Grounds.{CallFits, call-passes, call-grounds-alike, first-append-miss, first-none, first-hit, first-miss}
-use Rattle.network.proofs.Laws.Stored.{held-calls, stepped-refused, stepped-passed}
 use borrow.Author.Needs.{needs}
+use borrow.Author.Tests.{lt-ltb, le-ltb}
+use lib.ListN.{length, getD}
+use Rattle.network.specs.declared.Check.the-variants.{Passes}
+use Rattle.network.specs.Network.{Net, maxLines, maxOffset, callsByOffset, callsByRide, callsAnywhere, word, callOf, lineOperand, stopOperand, rideOffset}
+use Rattle.network.specs.Grounds.{first, grounds, callGrounds}
+use Rattle.network.specs.Stored.{Latest, Tells}
+use Rattle.network.proofs.Laws.Grounds.{call-grounds-alike, first-append-miss, first-none, first-hit, first-miss}
+use Rattle.network.proofs.Laws.Latest.{latest-calls, latest-offset}
 use Rattle.network.proofs.reader.read_following_call.Statement.{statement}
 use Rattle.network.proofs.reader.read_following_call.Tie as tie
 use Rattle.network.proofs.reader.read_following_call.Reads as reads
 use Rattle.network.proofs.reader.read_following_call.Lts as lts
-use Rattle.network.proofs.Network.with_call.Reads as with-call-reads
-use Rattle.network.proofs.calls.calls_anywhere.Reads as calls-anywhere-reads
-use Rattle.network.proofs.calls.latest_offset.Reads as latest-offset-reads
-use Rattle.network.proofs.reader.passed.Reads as passed-reads
-use Rattle.network.proofs.reader.refused.Reads as refused-reads
+use Rattle.network.proofs.reader.latest_of.Reads as latest-of-reads
 use Rattle.network.proofs.reader.word.Reads as word-reads
 
-fits : (s : tie.Start) → CallFits callsByOffset (netOf (s .args .network)) (s .args .behind .now)
-fits s = call-passes callsByOffset _ _ _ (s .pre .1)
+-- What the row's place says of the line that the operands name
+module _ (n : Net) (p : ℕ) (behind latest : List ℕ) (l : Latest latest (n .calls)) (low : getD behind 0 0 < maxLines)
+    (passes : first (callGrounds callsByOffset n p behind) ≡ Passes) (before : ℕ) (is : before ≡ getD latest (getD behind 0 0) 0) where
+  shared-pass : first (callGrounds callsByRide n p behind) ≡ Passes
+  shared-pass = ap first (call-grounds-alike n p behind) ∙ passes
 
-four : (s : tie.Start) → 4 ≤ length (s .args .behind .now)
-unfolding operandBytes
-four s = fits s .operands
+  none : before ≡ 0 → callsAnywhere (lineOperand behind) (n .calls) ≡ false
+  unfolding lineOperand
+  none e = sym (latest-calls latest (n .calls) l (getD behind 0 0) low) ∙ le-ltb 0 (getD latest (getD behind 0 0) 0) (omega arith)
 
-shared-pass : (s : tie.Start) → first (callGrounds callsByRide (netOf (s .args .network)) (s .args .at) (s .args .behind .now)) ≡ Passes
-shared-pass s = ap first (call-grounds-alike _ _ _) ∙ s .pre .1
+  some : 0 < before → callsAnywhere (lineOperand behind) (n .calls) ≡ true
+  unfolding lineOperand
+  some h = sym (latest-calls latest (n .calls) l (getD behind 0 0) low) ∙ lt-ltb 0 (getD latest (getD behind 0 0) 0) (omega arith)
 
--- src/reader.rt:173:16
+  ride : 0 < before → rideOffset n behind ≡ before - 1 + word behind 2
+  unfolding rideOffset lineOperand
+  ride h = omega (arith, latest-offset latest (n .calls) l (getD behind 0 0) low (some h))
+
 shared-slice-read-line : tie.Need-shared-slice-read-line
-shared-slice-read-line c = omega (arith, four (c .before .before))
+shared-slice-read-line c = search needs
 
--- src/reader.rt:174:8
-calls-anywhere-requires : tie.Need-calls-anywhere-requires
-calls-anywhere-requires c κs = search needs
+latest-of-requires : tie.Need-latest-of-requires
+latest-of-requires c κs = search needs
 
--- src/reader.rt:175:22
-latest-offset-requires : tie.Need-latest-offset-requires
-latest-offset-requires c κs = search needs
+returns : tie.Need-returns
+unfolding Tells grounds
+returns c =
+    let s = c .before .before .before .before in
+    let b = s .args .behind .now in
+    λ n l q. first-append-miss (callGrounds callsByRide _ _ _) _ (shared-pass n (s .args .at) b (s .args .latest .now) l (s .pre .1) q (c .before .latest-of .result) (c .before .latest-of .ensures))
+    ∙ first-hit _ _ _ _ (ap not (none n (s .args .at) b (s .args .latest .now) l (s .pre .1) q (c .before .latest-of .result) (c .before .latest-of .ensures) (c .if1 .taken)))
 
--- src/reader.rt:175:22
+sub-offset : tie.Need-sub-offset
+sub-offset c = search needs
+
 cast-offset : tie.Need-cast-offset
 cast-offset c = search needs
 
--- src/reader.rt:175:60
 word-requires : tie.Need-word-requires
-word-requires c κs = omega (arith, four (c .before .before .before .before .before))
+word-requires c κs = search needs
 
--- src/reader.rt:175:60
 cast-offset-2 : tie.Need-cast-offset-2
 cast-offset-2 c = search needs
 
--- src/reader.rt:175:22
 add-offset : tie.Need-add-offset
 add-offset c = search needs
 
--- src/reader.rt:177:13
-refused-requires : tie.Need-refused-requires
-refused-requires c κs = search needs
+cast-if2 : tie.Need-cast-if2
+cast-if2 c = search needs
 
--- src/reader.rt:177:13
-returns : tie.Need-returns
-unfolding grounds lineOperand rideOffset
-returns c =
-    let s = c .before .before .before .before .before .before .before .before in
-    let made : rideOffset (netOf (s .args .network)) (s .args .behind .now) ≡ c .before .before .before .latest-offset .result + c .before .before .word .result =
-    sym (ap₂ _+_ (c .before .before .before .latest-offset .ensures) (c .before .before .word .ensures)) in
-    stepped-refused callsByRide (s .args .network) (s .args .at) (s .args .behind .now) (c .refused .result) _ _ (s .pre .0)
-    (first-append-miss (callGrounds callsByRide _ _ _) _ (shared-pass s)
-    ∙ first-miss _ _ _ _ (ap not (sym (c .before .before .before .before .before .calls-anywhere .ensures) ∙ c .before .before .before .before .if1 .taken))
-    ∙ first-hit _ _ _ _ (lt-ltb maxOffset (rideOffset (netOf (s .args .network)) (s .args .behind .now)) (rw made (omega arith))))
-    (c .refused .ensures)
-
--- src/reader.rt:181:19
-shared-slice-read-t16 : tie.Need-shared-slice-read-t16
-shared-slice-read-t16 c = omega (arith, four (c .before .before .before .before .before .before .before .before))
-
--- src/reader.rt:182:21
-cast-t10 : tie.Need-cast-t10
-cast-t10 c = search needs
-
--- src/reader.rt:184:23
-with-call-requires : tie.Need-with-call-requires
-with-call-requires c κs =
-    let s = c .before .before .before .before .before .before .before .before in
-    (s .pre .0, omega (arith, held-calls (s .args .network) (s .pre .0), fits s .room))
-
--- src/reader.rt:184:9
-passed-requires : tie.Need-passed-requires
-passed-requires c κs = search needs
-
--- src/reader.rt:184:9
 returns-2 : tie.Need-returns-2
-unfolding grounds lineOperand rideOffset extend callOf stopOperand
+unfolding Tells grounds
 returns-2 c =
-    let s = c .before .before .before .before .before .before .before .before .before .before in
-    let w = c .before .with-call in
-    let made : rideOffset (netOf (s .args .network)) (s .args .behind .now) ≡ c .before .before .before .before .before .latest-offset .result + c .before .before .before .before .word .result =
-    sym (ap₂ _+_ (c .before .before .before .before .before .latest-offset .ensures) (c .before .before .before .before .word .ensures)) in
-    stepped-passed callsByRide (s .args .network) (w .result) (s .args .at) (s .args .behind .now) (c .passed .result) (w .ensures .0)
-    (w .ensures .1 ∙ ap (λ (o : ℕ). withCall (netOf (s .args .network)) (callOf (s .args .behind .now) o)) (sym made))
-    (first-append-miss (callGrounds callsByRide _ _ _) _ (shared-pass s)
-    ∙ first-miss _ _ _ _ (ap not (sym (c .before .before .before .before .before .before .before .calls-anywhere .ensures) ∙ c .before .before .before .before .before .before .if1 .taken))
-    ∙ first-miss _ _ _ _ (le-ltb maxOffset (rideOffset (netOf (s .args .network)) (s .args .behind .now)) (rw made (omega arith)))
-    ∙ first-none)
-    (c .passed .ensures)
+    let s = c .before .before .before .before .before .before in
+    let b = s .args .behind .now in
+    λ n l q. let above : 0 < c .before .before .before .latest-of .result = omega (arith, c .before .before .if1 .left) in
+    let made : rideOffset n b ≡ c .before .before .before .latest-of .result - 1 + c .before .word .result = ride n (s .args .at) b (s .args .latest .now) l (s .pre .1) q (c .before .before .before .latest-of .result) (c .before .before .before .latest-of .ensures) above ∙ ap (λ (o : ℕ). c .before .before .before .latest-of .result - 1 + o) (sym (c .before .word .ensures)) in
+    first-append-miss (callGrounds callsByRide _ _ _) _ (shared-pass n (s .args .at) b (s .args .latest .now) l (s .pre .1) q (c .before .before .before .latest-of .result) (c .before .before .before .latest-of .ensures))
+    ∙ first-miss _ _ _ _ (ap not (some n (s .args .at) b (s .args .latest .now) l (s .pre .1) q (c .before .before .before .latest-of .result) (c .before .before .before .latest-of .ensures) above))
+    ∙ first-hit _ _ _ _ (lt-ltb maxOffset (rideOffset n b) (rw made (omega (arith, c .if2 .taken))))
 
--- src/reader.rt:186:5
-refused-requires-2 : tie.Need-refused-requires-2
-refused-requires-2 c κs = search needs
+shared-slice-read-t9 : tie.Need-shared-slice-read-t9
+shared-slice-read-t9 c = search needs
 
--- src/reader.rt:168:1
+cast-t13 : tie.Need-cast-t13
+cast-t13 c = search needs
+
 returns-3 : tie.Need-returns-3
-unfolding grounds lineOperand
+unfolding Tells grounds callOf lineOperand stopOperand
 returns-3 c =
-    let s = c .before .before .before .before .before in
-    stepped-refused callsByRide (s .args .network) (s .args .at) (s .args .behind .now) (c .refused2 .result) _ _ (s .pre .0)
-    (first-append-miss (callGrounds callsByRide _ _ _) _ (shared-pass s)
-    ∙ first-hit _ _ _ _ (ap not (sym (c .before .before .calls-anywhere .ensures) ∙ c .before .if1 .left)))
-    (c .refused2 .ensures)
+    let s = c .before .before .before .before .before .before .before in
+    let b = s .args .behind .now in
+    λ n l q. let above : 0 < c .before .before .before .before .latest-of .result = omega (arith, c .before .before .before .if1 .left) in
+    let made : rideOffset n b ≡ c .before .before .before .before .latest-of .result - 1 + c .before .before .word .result = ride n (s .args .at) b (s .args .latest .now) l (s .pre .1) q (c .before .before .before .before .latest-of .result) (c .before .before .before .before .latest-of .ensures) above ∙ ap (λ (o : ℕ). c .before .before .before .before .latest-of .result - 1 + o) (sym (c .before .before .word .ensures)) in (
+      first-append-miss (callGrounds callsByRide _ _ _) _ (shared-pass n (s .args .at) b (s .args .latest .now) l (s .pre .1) q (c .before .before .before .before .latest-of .result) (c .before .before .before .before .latest-of .ensures))
+          ∙ first-miss _ _ _ _ (ap not (some n (s .args .at) b (s .args .latest .now) l (s .pre .1) q (c .before .before .before .before .latest-of .result) (c .before .before .before .before .latest-of .ensures) above))
+          ∙ first-miss _ _ _ _ (le-ltb maxOffset (rideOffset n b) (rw made (omega (arith, c .before .if2 .left))))
+          ∙ first-none,
+      inr (refl, ap (callOf b) (sym made)),
+    )
 
 pub read-following-call-spec : {M : Type 1} → statement M
 read-following-call-spec =
     tie.close
     (tie.spec
     shared-slice-read-line
-    calls-anywhere-requires
-    latest-offset-requires
+    latest-of-requires
+    returns
+    sub-offset
     cast-offset
     word-requires
     cast-offset-2
     add-offset
-    refused-requires
-    returns
-    shared-slice-read-t16
-    cast-t10
-    with-call-requires
-    passed-requires
+    cast-if2
     returns-2
-    refused-requires-2
+    shared-slice-read-t9
+    cast-t13
     returns-3)

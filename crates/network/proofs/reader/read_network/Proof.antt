@@ -1,20 +1,30 @@
--- `network::reader::read_network` meets its contract. The loop's invariant: reading the part that is left, with the network before it,
--- gives what reading the whole file gives. Assumes nothing.
-use Prim.Native.Nat.{ℕ, _+_, _-_, _<_, _≤_}
-use mathlib.Core.Path.{_≡_, refl, sym, ap, ap₂, _∙_}
+-- `network::reader::read_network` meets its contract. The loop's invariant: the network, the marks and the latest offsets agree, and reading
+-- the part that is left, with the network before it, gives what reading the whole file gives. Assumes nothing.
+use Prim.Native.Nat.{ℕ, _+_, _-_, _*_, _<_, _≤_}
+use mathlib.Core.Path.{_≡_, refl, sym, ap, ap₂, subst, _∙_}
 use mathlib.Core.List.{List, [], _∷_}
+use mathlib.Core.Logic.{⊎-elim}
 use native.Mathlib.Nat.{sub-self, sub-zero}
 use native.Mathlib.Omega.{arith}
 use lib.ListN.{length, getD, take, drop, length-drop}
 use borrow.Author.Needs.{needs}
 use lib.Seq.{drop-cons}
+use Rattle.network.specs.declared.Call.{Call}
+use Rattle.network.specs.declared.Check.the-variants.{Passes}
 use Rattle.network.specs.declared.Network.{Network}
-use Rattle.network.specs.Network.{Net, command, ends, operandBytes}
+use Rattle.network.specs.declared.Told.{Told}
+use Rattle.network.specs.declared.Told.the-variants as told
+use Rattle.network.specs.Network.{Net, Command, command, ends, operandBytes, extend, maxLines, maxStop, maxCalls}
+use Rattle.network.specs.Grounds.{first, grounds}
 use Rattle.network.specs.Reading.{readFrom, readFile, refused, accepted}
-use Rattle.network.specs.Stored.{netOf, Sound, readingOf}
+use Rattle.network.specs.Stored.{netOf, Sound, Tells, readingOf}
 use Rattle.network.proofs.Laws.Lists.{take-rest}
-use Rattle.network.proofs.Laws.Network.{ends-command}
+use Rattle.network.proofs.Laws.Kept.{Kept, kept-line, kept-call}
+use Rattle.network.proofs.Laws.Latest.{latest-none}
+use Rattle.network.proofs.Laws.Offsets.{marks-none}
 use Rattle.network.proofs.Laws.Reading.{passes-operands}
+use Rattle.network.proofs.Laws.Scan.{getD-zeros}
+use Rattle.network.proofs.Laws.Stored.{LineTold, CallTold, held-lines, held-calls, has-size, line-added, call-added, tells-line, tells-call}
 use Rattle.network.proofs.Laws.Stored.{read-refused, read-ended, read-onward}
 use Rattle.network.proofs.reader.read_network.Statement.{statement}
 use Rattle.network.proofs.reader.read_network.Tie as tie
@@ -27,28 +37,42 @@ use Rattle.network.proofs.reader.read_command.Reads as read-command-rea
 use Rattle.network.proofs.reader.refused.Reads as refused-reads
 
 abbrev Inv-loop : tie.InvT-loop
-Inv-loop file network₀ rest₀ network rest =
-    Sound network × (length rest ≤ length file) × (readFrom (netOf network) (length file - length rest) 0 rest ≡ readFile file)
+Inv-loop file network₀ marks₀ latest₀ rest₀ network marks latest rest =
+    Kept network marks latest
+    × (length rest ≤ length file)
+    × (readFrom (netOf network) (length file - length rest) 0 rest ≡ readFile file)
 
 abbrev μ-loop : tie.MeasureT-loop
-μ-loop file network₀ rest₀ network rest = length rest
+μ-loop file network₀ marks₀ latest₀ rest₀ network marks latest rest = length rest
 
 -- Where a command has been read: the part that was left is the command's byte and what stands behind it
 module _ (r : tie.After-read-command Inv-loop μ-loop) where
   abbrev file : List ℕ
-  file = r .before .before .before .before .before .before .before .args .file .now
+  file = r .before .before .before .before .before .before .before .before .before .args .file .now
 
   abbrev network : Network
-  network = r .before .before .before .before .loop .network
+  network = r .before .before .before .before .before .before .loop .network
 
   abbrev rest : List ℕ
-  rest = r .before .before .before .before .loop .rest .now
+  rest = r .before .before .before .before .before .before .loop .rest .now
 
   abbrev behind : List ℕ
   behind = take (length rest - 1) (drop 1 rest)
 
+  abbrev code : Command
+  code = command (getD rest 0 0)
+
+  abbrev place : ℕ
+  place = length file - length rest
+
+  abbrev result : Told
+  result = r .read-command .result
+
+  kept : Kept network (r .before .before .before .before .before .before .loop .marks) (r .before .before .before .before .before .before .loop .latest)
+  kept = r .before .before .before .before .before .before .loop .inv .0
+
   some : 0 < length rest
-  some = r .before .before .before .loop-test .taken
+  some = r .before .before .before .before .before .loop-test .taken
 
   rest-is : rest ≡ getD rest 0 0 ∷ behind
   rest-is = drop-cons rest 0 0 some ∙ ap (λ (l : List ℕ). getD rest 0 0 ∷ l) (sym (take-rest 1 rest))
@@ -56,9 +80,71 @@ module _ (r : tie.After-read-command Inv-loop μ-loop) where
   length-behind : length rest ≡ length behind + 1
   length-behind = omega (arith, ap length rest-is)
 
-  read-here : readFrom (netOf network) (length file - length rest) 0 (getD rest 0 0 ∷ behind) ≡ readFile file
-  read-here =
-      ap (readFrom (netOf network) (length file - length rest) 0) (sym rest-is) ∙ r .before .before .before .before .loop .inv .2
+  read-here : readFrom (netOf network) place 0 (getD rest 0 0 ∷ behind) ≡ readFile file
+  read-here = ap (readFrom (netOf network) place 0) (sym rest-is) ∙ r .before .before .before .before .before .before .loop .inv .2
+
+  -- what the command tells, once it is known which it is
+  tells : (t : Told) → result ≡ t → Tells code (netOf network) place behind t
+  tells t e =
+      subst (Tells code (netOf network) place behind) e
+      (r .read-command .ensures (netOf network) (has-size network (kept .sound)) (kept .marks-are) (kept .latest-is))
+
+  line-told : {period common : ℕ} → result ≡ told.Line period common → LineTold code (netOf network) place behind period common
+  line-told e = tells-line code (netOf network) place behind _ _ (rw (← kept .sound .cycle-is) (kept .sound .cycle-pos)) (tells _ e)
+
+  call-told : {call : Call} → result ≡ told.Calls call → CallTold code (netOf network) place behind call
+  call-told e = tells-call code (netOf network) place behind _ (tells _ e)
+
+  line-room : {period common : ℕ} → result ≡ told.Line period common → network .lines < maxLines
+  line-room e = omega (arith, line-told e .room, held-lines network (kept .sound))
+
+  call-room : {call : Call} → result ≡ told.Calls call → network .calls < maxCalls
+  call-room e = omega (arith, call-told e .room, held-calls network (kept .sound))
+
+  line-low : {call : Call} → result ≡ told.Calls call → call .line < maxLines
+  line-low e = omega (arith, call-told e .line, held-lines network (kept .sound), kept .sound .lines)
+
+  stop-low : {call : Call} → result ≡ told.Calls call → call .stop ≤ maxStop
+  stop-low e = call-told e .stop
+
+  -- a line or a call goes on with the part behind it
+  record Next (n : Network) (marks latest : List ℕ) : Type 0 where
+    kept-on : Kept n marks latest
+    passes : first (grounds code (netOf network) place behind) ≡ Passes
+    onward : code ≡ ends → ⊥
+    extended : netOf n ≡ extend code (netOf network) behind
+
+  next-as : (n m : Network) (a b c d : List ℕ) → n ≡ m → a ≡ b → c ≡ d → Next m b d → Next n a c
+  next-as n m a b c d e f g x =
+      subst (λ (k : Network). Next k a c) (sym e) (subst (λ (k : List ℕ). Next m k c) (sym f) (subst (λ (k : List ℕ). Next m b k) (sym g) x))
+
+-- Where a line or a call has been written
+next : (c : tie.At-match-came Inv-loop μ-loop) → Next (c .before) (c .match .network) (c .match .marks) (c .match .latest)
+next c =
+    let r = c .before in
+    let k = kept r in
+    ⊎-elim
+    (λ w.
+    let t = line-told r (w .1 .given .1) in
+    let room = line-room r (w .1 .given .1) in
+    next-as r _ _ _ _ _ _ (w .3) (w .4) (w .5)
+    (record {
+      kept-on = kept-line (network r) _ _ k _ _ room (t .cycle-pos) (t .cycle-le) (t .cycle-is);
+      passes = t .passes;
+      onward = t .onward;
+      extended = line-added (network r) (k .sound) _ _ room ∙ t .extended;
+    }))
+    (λ w.
+    let t = call-told r (w .1 .given .1) in
+    let room = call-room r (w .1 .given .1) in
+    next-as r _ _ _ _ _ _ (w .7) (w .8) (w .9)
+    (record {
+      kept-on = kept-call (network r) _ _ k _ room (line-low r (w .1 .given .1)) (t .stop) (t .fresh);
+      passes = t .passes;
+      onward = t .onward;
+      extended = call-added (network r) (k .sound) _ room ∙ t .extended;
+    }))
+    (c .match .came)
 
 -- Where nothing is left, a command is due
 read-empty : (n : Net) (size : ℕ) (rest : List ℕ) → length rest ≤ 0 → refused 1 size ≡ readFrom n (size - length rest) 0 rest
@@ -66,128 +152,173 @@ unfolding readFrom
 read-empty n size [] h = ap (refused 1) (sym (sub-zero size))
 read-empty n size (b ∷ rest) h = absurd (omega arith)
 
--- src/reader.rt:239:9
 new-requires : tie.Need-new-requires Inv-loop μ-loop
 new-requires c κs = tt
 
--- src/reader.rt:241:5
 loop-holds : tie.Need-loop-holds Inv-loop μ-loop
 unfolding readFile
 loop-holds c =
-    let file = c .before .before .args .file .now in (
-      c .new .ensures .0,
+    let file = c .before .before .args .file .now in
+    let empty = c .new .ensures .1 in (
+      record {
+        sound = c .new .ensures .0;
+        marks-row = refl;
+        marks-are = rw empty (marks-none _ (λ place. getD-zeros 1024 place));
+        latest-row = refl;
+        latest-is = rw empty (latest-none _ (λ line. getD-zeros 16 line));
+      },
       omega arith,
-      ap₂ (λ (n : Net) (p : ℕ). readFrom n p 0 file) (c .new .ensures .1) (sub-self (length file)),
+      ap₂ (λ (n : Net) (p : ℕ). readFrom n p 0 file) empty (sub-self (length file)),
     )
 
--- src/reader.rt:242:18
 sub-at : tie.Need-sub-at Inv-loop μ-loop
 sub-at c = c .before .loop .inv .1
 
--- src/reader.rt:243:20
 shared-slice-read-code : tie.Need-shared-slice-read-code Inv-loop μ-loop
 shared-slice-read-code c = c .before .loop-test .taken
 
--- src/reader.rt:244:22
 sub-behind : tie.Need-sub-behind Inv-loop μ-loop
 sub-behind c = c .before .loop-test .taken
 
--- src/reader.rt:244:22
 part-behind-start : tie.Need-part-behind-start Inv-loop μ-loop
 part-behind-start c = c .before .loop-test .taken
 
--- src/reader.rt:244:22
 part-behind-end : tie.Need-part-behind-end Inv-loop μ-loop
 part-behind-end c = omega arith
 
--- src/reader.rt:245:13
 read-command-requires : tie.Need-read-command-requires Inv-loop μ-loop
-read-command-requires c κs = (c .before .before .before .loop .inv .0, omega (arith, c .before .before .before .before .before .before .good .0 .1))
+read-command-requires c κs =
+    let k = c .before .before .before .before .before .loop .inv .0 .sound in
+    (k .lines, k .cycle-pos, k .cycle-le, omega (arith, c .before .before .before .before .before .before .before .before .good .0 .1))
 
--- src/reader.rt:247:33
-enum-known-check : tie.Need-enum-known-check Inv-loop μ-loop
-enum-known-check c = search needs
+enum-known-told : tie.Need-enum-known-told Inv-loop μ-loop
+enum-known-told c = search needs
 
--- src/reader.rt:248:13
 refused-requires : tie.Need-refused-requires Inv-loop μ-loop
 refused-requires c κs = tt
 
--- src/reader.rt:248:13
 returns : tie.Need-returns Inv-loop μ-loop
-unfolding readingOf
+unfolding readingOf Tells
 returns c =
-    let r = c .before .before .before .before in
-    let step = r .read-command .ensures in (
-      rw (c .refused .ensures .1) (step .sound),
+    let r = c .before .before .before .before in (
+      rw (c .refused .ensures .1) (kept r .sound),
       ap₂ readingOf (c .refused .ensures .0) refl
-          ∙ sym (read-refused (getD (rest r) 0 0) (network r) _ (behind r) _ step _ _ (c .before .before .check .given .1))
+          ∙ sym (read-refused (getD (rest r) 0 0) (netOf (network r)) (place r) (behind r) _ _ (tells r _ (c .before .before .told .given .1)))
           ∙ read-here r,
     )
 
 enum-told : tie.Need-enum-told Inv-loop μ-loop
 enum-told c = search needs
 
--- src/reader.rt:251:13
 passed-requires : tie.Need-passed-requires Inv-loop μ-loop
 passed-requires c κs = tt
 
--- src/reader.rt:251:13
 returns-2 : tie.Need-returns-2 Inv-loop μ-loop
-unfolding readingOf command
+unfolding readingOf Tells
 returns-2 c =
-    let r = c .before .before .before .before in
-    let step = r .read-command .ensures in
-    let last : command (getD (rest r) 0 0) ≡ ends = ap command (c .before .if1 .taken) in (
-      rw (c .passed .ensures .1) (step .sound),
+    let r = c .before .before .before in
+    let t = tells r _ (c .before .enum-told .given .1) in (
+      rw (c .passed .ensures .1) (kept r .sound),
       ap₂ readingOf (c .passed .ensures .0) (c .passed .ensures .1)
-          ∙ sym (read-ended (getD (rest r) 0 0) (network r) _ (behind r) _ step (c .before .before .enum-told .given .1) last)
+          ∙ sym (read-ended (getD (rest r) 0 0) (netOf (network r)) (place r) (behind r) (t .0) (t .1))
           ∙ read-here r,
     )
 
--- src/reader.rt:254:9
+enum-known-told-2 : tie.Need-enum-known-told-2 Inv-loop μ-loop
+enum-known-told-2 c = search needs
+
+mul-network : tie.Need-mul-network Inv-loop μ-loop
+mul-network c = omega (arith, line-room (c .before .before .before) (c .before .told2 .given .1))
+
+element-write-network : tie.Need-element-write-network Inv-loop μ-loop
+element-write-network c = omega (arith, line-room (c .before .before .before) (c .before .told2 .given .1))
+
+add-network : tie.Need-add-network Inv-loop μ-loop
+add-network c = omega (arith, line-room (c .before .before .before) (c .before .told2 .given .1))
+
+enum-known-told-3 : tie.Need-enum-known-told-3 Inv-loop μ-loop
+enum-known-told-3 c = search needs
+
+mul-call : tie.Need-mul-call Inv-loop μ-loop
+mul-call c = omega (arith, call-room (c .before .before .before) (c .before .told3 .given .1))
+
+element-set-from-call : tie.Need-element-set-from-call Inv-loop μ-loop
+element-set-from-call c = omega (arith, call-room (c .before .before .before) (c .before .told3 .given .1))
+
+add-network-2 : tie.Need-add-network-2 Inv-loop μ-loop
+add-network-2 c = omega (arith, call-room (c .before .before .before) (c .before .told3 .given .1))
+
+cast-mark : tie.Need-cast-mark Inv-loop μ-loop
+cast-mark c = omega (arith, c .struct-known .given)
+
+add-mark : tie.Need-add-mark Inv-loop μ-loop
+add-mark c = omega (arith, c .struct-known .given)
+
+cast-marks : tie.Need-cast-marks Inv-loop μ-loop
+cast-marks c = omega (arith, line-low (c .before .before .before .before .before) (c .before .before .before .told3 .given .1), stop-low (c .before .before .before .before .before) (c .before .before .before .told3 .given .1))
+
+mul-marks : tie.Need-mul-marks Inv-loop μ-loop
+mul-marks c = omega (arith, line-low (c .before .before .before .before .before) (c .before .before .before .told3 .given .1), stop-low (c .before .before .before .before .before) (c .before .before .before .told3 .given .1))
+
+cast-marks-2 : tie.Need-cast-marks-2 Inv-loop μ-loop
+cast-marks-2 c = omega (arith, line-low (c .before .before .before .before .before .before) (c .before .before .before .before .told3 .given .1), stop-low (c .before .before .before .before .before .before) (c .before .before .before .before .told3 .given .1))
+
+add-marks : tie.Need-add-marks Inv-loop μ-loop
+add-marks c = omega (arith, line-low (c .before .before .before .before .before .before) (c .before .before .before .before .told3 .given .1), stop-low (c .before .before .before .before .before .before) (c .before .before .before .before .told3 .given .1))
+
+mul-marks-2 : tie.Need-mul-marks-2 Inv-loop μ-loop
+mul-marks-2 c = omega (arith, line-low (c .before .before .before .before .before .before) (c .before .before .before .before .told3 .given .1), stop-low (c .before .before .before .before .before .before) (c .before .before .before .before .told3 .given .1))
+
+array-write-marks : tie.Need-array-write-marks Inv-loop μ-loop
+array-write-marks c = omega (arith, line-low (c .before .before .before .before .before .before) (c .before .before .before .before .told3 .given .1), stop-low (c .before .before .before .before .before .before) (c .before .before .before .before .told3 .given .1))
+
+cast-latest : tie.Need-cast-latest Inv-loop μ-loop
+cast-latest c = omega (arith, line-low (c .before .before .before .before .before .before .before) (c .before .before .before .before .before .told3 .given .1), stop-low (c .before .before .before .before .before .before .before) (c .before .before .before .before .before .told3 .given .1))
+
+mul-latest : tie.Need-mul-latest Inv-loop μ-loop
+mul-latest c = omega (arith, line-low (c .before .before .before .before .before .before .before) (c .before .before .before .before .before .told3 .given .1), stop-low (c .before .before .before .before .before .before .before) (c .before .before .before .before .before .told3 .given .1))
+
+array-write-latest : tie.Need-array-write-latest Inv-loop μ-loop
+array-write-latest c = omega (arith, line-low (c .before .before .before .before .before .before .before) (c .before .before .before .before .before .told3 .given .1), stop-low (c .before .before .before .before .before .before .before) (c .before .before .before .before .before .told3 .given .1))
+
 part-behind-requires : tie.Need-part-behind-requires Inv-loop μ-loop
 part-behind-requires c κs =
-    let r = c .before .before .before .before in
-    passes-operands (command (getD (rest r) 0 0)) (netOf (network r)) _ (behind r)
-    (sym (r .read-command .ensures .check) ∙ c .before .before .enum-told .given .1)
+    let r = c .before in
+    passes-operands (code r) (netOf (network r)) (place r) (behind r) (next c .passes)
 
--- src/reader.rt:241:5
 loop-less : tie.Need-loop-less Inv-loop μ-loop
 loop-less c =
-    let r = c .before .before .before .before .before in
-    omega (arith, ap length (c .part-behind .ensures), length-drop (operandBytes (command (getD (rest r) 0 0))) (behind r), length-behind r)
+    let r = c .before .before in
+    omega (arith, ap length (c .part-behind .ensures), length-drop (operandBytes (code r)) (behind r), length-behind r)
 
--- src/reader.rt:241:5
 loop-again : tie.Need-loop-again Inv-loop μ-loop
 loop-again c =
-    let r = c .before .before .before .before .before in
-    let k = operandBytes (command (getD (rest r) 0 0)) in
-    let step = r .read-command .ensures in
-    let passes = c .before .before .before .enum-told .given .1 in
+    let r = c .before .before in
+    let k = operandBytes (code r) in
+    let x = next (c .before) in
     let left : length (c .part-behind .result .now) ≡ length (behind r) - k = ap length (c .part-behind .ensures) ∙ length-drop k (behind r) in
-    let fits : k ≤ length (behind r) = passes-operands (command (getD (rest r) 0 0)) (netOf (network r)) _ (behind r) (sym (step .check) ∙ passes) in
-    let place : length (file r) - length (c .part-behind .result .now) ≡ length (file r) - length (rest r) + 1 + k =
-    omega (arith, length-behind r, r .before .before .before .before .loop .inv .1) in (
-      step .sound,
-      omega (arith, length-behind r, r .before .before .before .before .loop .inv .1),
-      ap₂ (λ (p : ℕ) (l : List ℕ). readFrom (netOf (r .read-command .result .network)) p 0 l) place (c .part-behind .ensures)
-          ∙ sym
-          (read-onward (getD (rest r) 0 0) (network r) _ (behind r) _ step passes (λ e. c .before .before .if1 .left (ends-command _ e)))
+    let fits : k ≤ length (behind r) = passes-operands (code r) (netOf (network r)) (place r) (behind r) (x .passes) in
+    let within : length (rest r) ≤ length (file r) = r .before .before .before .before .before .before .loop .inv .1 in
+    let onto : length (file r) - length (c .part-behind .result .now) ≡ place r + 1 + k = omega (arith, length-behind r) in (
+      x .kept-on,
+      omega (arith, length-behind r),
+      ap₂ (λ (p : ℕ) (l : List ℕ). readFrom (netOf (c .before .match .network)) p 0 l) onto (c .part-behind .ensures)
+          ∙ sym (read-onward (getD (rest r) 0 0) (netOf (network r)) (place r) (behind r) (netOf (c .before .match .network)) (x .passes) (x .onward) (x .extended))
           ∙ read-here r,
     )
 
--- src/reader.rt:256:5
 refused-requires-2 : tie.Need-refused-requires-2 Inv-loop μ-loop
 refused-requires-2 c κs = tt
 
--- src/reader.rt:236:1
 returns-3 : tie.Need-returns-3 Inv-loop μ-loop
 unfolding readingOf
 returns-3 c =
     let l = c .before .before .loop in
     let file = c .before .before .before .before .before .args .file .now in (
-      rw (c .refused2 .ensures .1) (l .inv .0),
-      ap₂ readingOf (c .refused2 .ensures .0) refl ∙ read-empty (netOf (l .network)) (length file) (l .rest .now) (omega (arith, c .before .loop-test .left)) ∙ l .inv .2,
+      rw (c .refused2 .ensures .1) (l .inv .0 .sound),
+      ap₂ readingOf (c .refused2 .ensures .0) refl
+          ∙ read-empty (netOf (l .network)) (length file) (l .rest .now) (omega (arith, c .before .loop-test .left))
+          ∙ l .inv .2,
     )
 
 pub read-network-spec : {M : Type 1} → statement M
@@ -204,12 +335,31 @@ read-network-spec =
     part-behind-start
     part-behind-end
     read-command-requires
-    enum-known-check
+    enum-known-told
     refused-requires
     returns
     enum-told
     passed-requires
     returns-2
+    enum-known-told-2
+    mul-network
+    element-write-network
+    add-network
+    enum-known-told-3
+    mul-call
+    element-set-from-call
+    add-network-2
+    cast-mark
+    add-mark
+    cast-marks
+    mul-marks
+    cast-marks-2
+    add-marks
+    mul-marks-2
+    array-write-marks
+    cast-latest
+    mul-latest
+    array-write-latest
     part-behind-requires
     loop-less
     loop-again
