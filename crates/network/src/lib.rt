@@ -1,6 +1,5 @@
 // The network of lines and stops: the reader of network files.
 pub mod alike;
-pub mod calls;
 pub mod classes;
 pub mod divisor;
 pub mod gaps;
@@ -94,7 +93,7 @@ pub enum Check {
     Refused { number: u8, place: usize },
 }
 
-// A network on the way through its file: whether the command just read passes, and the network with it.
+// What a file gives: whether a ground refuses it, and the network up to there.
 pub struct Step {
     pub check: Check,
     pub network: Network,

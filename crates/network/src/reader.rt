@@ -7,8 +7,8 @@ use crate::Size;
 use crate::Step;
 use crate::Told;
 use crate::alike::mark;
-use crate::calls::is_served;
 use crate::divisor::lcm;
+use crate::ratings::served_row;
 ghost use mathlib.Core.Path.{_≡_};
 ghost use Prim.Native.Nat.{_+_, _^_, _<_, _≤_};
 ghost use lib.Dec.{ltb};
@@ -20,6 +20,7 @@ ghost use Rattle.network.specs.Reading as reading;
 ghost use Rattle.network.specs.declared.Check.{Check};
 ghost use Rattle.network.specs.Offsets.{Marks};
 ghost use Rattle.network.specs.Stored.{netOf, Sound, HasSize, Latest, Tells, readingOf};
+ghost use Rattle.network.specs.Valid.{Valid};
 
 // A number of two bytes from a place on, most significant byte first.
 pub fn word(bytes: &[u8], at: usize) -> u16
@@ -29,7 +30,7 @@ pub fn word(bytes: &[u8], at: usize) -> u16
     bytes[at] as u16 * 256 + bytes[at + 1] as u16
 }
 
-// A command that a ground refuses; the network stays as it was.
+// A file that a ground refuses, with the network up to there.
 pub fn refused(network: Network, number: u8, place: usize) -> Step
     ensures { λ r. ⌜ (r .check ≡ Check.Refused number place) × (r .network ≡ network) ⌝ }
 {
@@ -39,7 +40,7 @@ pub fn refused(network: Network, number: u8, place: usize) -> Step
     }
 }
 
-// A command that passes, and the network with what it states.
+// A file that is accepted, and its network.
 pub fn passed(network: Network) -> Step
     ensures { λ r. ⌜ (r .check ≡ Check.Passes) × (r .network ≡ network) ⌝ }
 {
@@ -332,12 +333,13 @@ pub fn read_network(file: &[u8]) -> Step
 
 // How many stops are served.
 pub fn served_stops(network: Network) -> u32
-    requires { ⌜ Sound network ⌝ }
+    requires { ⌜ Sound network × Valid (netOf network) ⌝ }
     ensures { λ r. ⌜ r ≡ net.servedStops (netOf network) ⌝ }
 {
+    let served = served_row(network);
     let mut count: u32 = 0;
-    for stop in 0..64u8 {
-        if is_served(network, stop) {
+    for stop in 0..64usize {
+        if 0 < served[stop] {
             count += 1;
         }
     }

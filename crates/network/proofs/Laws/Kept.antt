@@ -4,16 +4,15 @@ use Prim.Native.Nat.{ℕ, _*_, _+_, _<_, _≤_}
 use mathlib.Core.Path.{_≡_, sym, ap, subst, _∙_}
 use mathlib.Core.Bool.{false}
 use mathlib.Core.List.{List, [], _∷_, _++_}
-use native.Mathlib.Omega.{arith}
 use lib.ListN.{length, set, length-set}
 use Rattle.network.specs.declared.Call.{Call}
 use Rattle.network.specs.declared.Network.{Network}
-use Rattle.network.specs.Network.{Net, emptyNet, maxLines, maxCycle, maxStop, maxCalls, cycle, callsAt, withLine, withCall}
+use Rattle.network.specs.Network.{Net, maxLines, maxCycle, maxStop, maxCalls, cycle, callsAt, withLine, withCall}
 use Rattle.network.specs.Offsets.{Marks}
 use Rattle.network.specs.Stored.{netOf, Sound, Latest}
 use Rattle.network.proofs.Laws.Stored.{lineAdded, callAdded, sound-line, sound-call, call-added}
-use Rattle.network.proofs.Laws.Offsets.{marks-none, marks-call}
-use Rattle.network.proofs.Laws.Latest.{latest-none, latest-call}
+use Rattle.network.proofs.Laws.Offsets.{marks-call}
+use Rattle.network.proofs.Laws.Latest.{latest-call}
 
 pub record Kept (n : Network) (marks latest : List ℕ) : Type 0 where
   pub sound : Sound n

@@ -5,7 +5,7 @@ use mathlib.Core.Path.{_≡_, refl, sym, ap, ap₂, _∙_}
 use mathlib.Core.Bool.{Bool, true, false, _&&_, _||_, and-false, or-assoc, or-false, or-true}
 use mathlib.Core.List.{List, [], _∷_, _++_}
 use mathlib.Core.Logic.{_⊎_, inl, inr}
-use native.Mathlib.Nat.{le-refl, le-antisymm, le-of-suc-le-suc, eq-or-lt-of-le, zero-lt-suc}
+use native.Mathlib.Nat.{le-refl, le-of-suc-le-suc, eq-or-lt-of-le, zero-lt-suc}
 use native.Mathlib.Numerals.{add-one}
 use native.Mathlib.Omega.{arith}
 use lib.ListN.{length, getD, take, drop, set, length-drop}
@@ -52,10 +52,6 @@ module _ {A : Type 0} (p : A → Bool) where
   any-take-next l i d h =
       rw (add-one, take-suc l i d) (any-append (take i l) (getD l i d ∷ []) ∙ ap (λ t. any p (take i l) || t) (or-false _))
 
-  -- none so far, and not the next
-  pub any-take-none : (l : List A) (i : ℕ) (d : A) → i < length l → any p (take i l) ≡ false → p (getD l i d) ≡ false → any p (take (i + 1) l) ≡ false
-  any-take-none l i d h e f = any-take-next l i d h ∙ rw (e, f) refl
-
   -- a place of the row that passes
   pub any-take-found : (l : List A) (i n : ℕ) (d : A) → i < length l → i < n → p (getD l i d) ≡ true → any p (take n l) ≡ true
   unfolding any
@@ -63,10 +59,6 @@ module _ {A : Type 0} (p : A → Bool) where
   any-take-found (x ∷ l) i zero d h k e = absurd (omega arith)
   any-take-found (x ∷ l) zero (suc n) d h k e = rw e refl
   any-take-found (x ∷ l) (suc i) (suc n) d h k e = ap (λ t. p x || t) (any-take-found l i n d (omega arith) (omega arith) e) ∙ or-true (p x)
-
-  -- no place of the row passes, once all are passed by
-  pub any-take-end : (l : List A) (i n : ℕ) → i ≤ n → n ≤ i → any p (take i l) ≡ false → false ≡ any p (take n l)
-  any-take-end l i n h k e = sym (ap (λ (m : ℕ). any p (take m l)) (le-antisymm k h) ∙ e)
 
 -- A row of which one place more counts, which was just written
 pub take-set-next : {A : Type 0} (l : List A) (i : ℕ) (a : A) → i < length l → take (i + 1) (set l i a) ≡ take i l ++ (a ∷ [])
@@ -108,6 +100,13 @@ allBelow-same p q (suc n) h = ap₂ _&&_ (allBelow-same p q n (λ i l. h i (omeg
 pub countBelow-next : (p : ℕ → Bool) (n : ℕ) → countBelow p (n + 1) ≡ countBelow p n + pick (p n) 1 0
 unfolding countBelow
 countBelow-next p n = rw add-one refl
+
+-- Tests that agree below `n` count alike
+pub countBelow-same : (p q : ℕ → Bool) (n : ℕ) → ((i : ℕ) → i < n → p i ≡ q i) → countBelow p n ≡ countBelow q n
+unfolding countBelow
+countBelow-same p q zero h = refl
+countBelow-same p q (suc n) h =
+    ap₂ (λ (k : ℕ) (t : Bool). k + pick t 1 0) (countBelow-same p q n (λ i l. h i (omega arith))) (h n (le-refl _))
 
 -- At most all of them pass
 pub countBelow-le : (p : ℕ → Bool) (n : ℕ) → countBelow p n ≤ n

@@ -1,11 +1,10 @@
 -- The table of offsets: one call more sets its line's mark at its stop, and the tests on the table are those of the definitions, since
 -- marks differ as offsets do where both lines call. Assumes nothing.
-use Prim.Native.Nat.{ℕ, zero, suc, _*_, _+_, _<_, _≤_}
+use Prim.Native.Nat.{ℕ, suc, _*_, _+_, _<_, _≤_}
 use mathlib.Core.Path.{_≡_, refl, sym, ap, ap₂, subst, _∙_}
 use mathlib.Core.Bool.{Bool, true, false, not, _&&_, _||_, Bool·beq, and-false, and-eq-true-iff}
 use mathlib.Core.List.{List, [], _∷_, _++_}
 use native.Mathlib.Decide.{ℕ-discrete}
-use native.Mathlib.Nat.{le-refl}
 use native.Mathlib.Numerals.{add-one}
 use native.Mathlib.Omega.{arith}
 use lib.Dec.{eqb, ltb}

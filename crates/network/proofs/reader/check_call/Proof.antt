@@ -1,8 +1,7 @@
 -- `network::reader::check_call` meets its contract: at each return the tests that led there say which ground applies first.
 -- Assumes nothing.
 use Prim.Native.Nat.{ℕ, _<_, _≤_}
-use mathlib.Core.Path.{_≡_, refl, sym, ap, _∙_}
-use mathlib.Core.Bool.{Bool}
+use mathlib.Core.Path.{_≡_, sym, ap, _∙_}
 use mathlib.Core.List.{List}
 use native.Mathlib.Omega.{arith}
 use borrow.Author.Needs.{needs}
@@ -11,10 +10,9 @@ use lib.Dec.{ltb}
 use lib.ListN.{length, getD}
 use Rattle.network.specs.declared.Call.{Call}
 use Rattle.network.specs.declared.Check.the-variants.{Passes, Refused}
-use Rattle.network.specs.Network.{Net, maxLines, maxStop, maxCalls, callsAt, operandBytes, lineOperand, stopOperand}
+use Rattle.network.specs.Network.{maxLines, maxStop, maxCalls, callsAt, operandBytes, lineOperand, stopOperand}
 use Rattle.network.specs.Grounds.{callGrounds, cutOff}
 use Rattle.network.specs.Offsets.{Marks, markIn}
-use Rattle.network.specs.Stored.{HasSize}
 use Rattle.network.proofs.Laws.Lists.{zero-ne-one}
 use Rattle.network.proofs.Laws.Grounds.{first-none, first-hit, first-miss}
 use Rattle.network.proofs.Laws.Offsets.{called-mark}

@@ -1,15 +1,17 @@
 -- `network::reader::read` meets its contract: it answers what `read_network` read. Assumes nothing.
 use Prim.Native.Nat.{ℕ}
-use mathlib.Core.Path.{_≡_, refl, sym, ap, _∙_}
-use mathlib.Core.List.{List, [], _∷_}
+use mathlib.Core.Path.{_≡_, sym, ap, _∙_}
+use mathlib.Core.List.{[], _∷_}
 use borrow.Author.Needs.{needs}
 use lib.ListN.{length}
 use Rattle.network.specs.declared.Check.{Check}
 use Rattle.network.specs.declared.Network.{Network}
 use Rattle.network.specs.Network.{servedStops, cycle}
-use Rattle.network.specs.Reading.{Outcome, values, readAnswer, readOutcome}
+use Rattle.network.specs.Reading.{values, readAnswer, readOutcome}
 use Rattle.network.specs.Stored.{netOf, Sound, readingOf}
+use Rattle.network.specs.Valid.{Valid, IsBytes}
 use Rattle.network.proofs.Laws.Stored.{held-lines, held-calls}
+use Rattle.network.proofs.Laws.Valid.{accepted-valid}
 use Rattle.network.proofs.reader.read.Statement.{statement}
 use Rattle.network.proofs.reader.read.Tie as tie
 use Rattle.network.proofs.reader.read.Reads as reads
@@ -24,6 +26,14 @@ values-are :
     → values (n .lines ∷ stops ∷ n .calls ∷ n .cycle ∷ [])
     ≡ values (length (netOf n .periods) ∷ servedStops (netOf n) ∷ length (netOf n .calls) ∷ cycle (netOf n) ∷ [])
 values-are n stops s e = cc (held-lines n s, held-calls n s, s .cycle-is)
+
+-- In the arm of `Passes` the file is accepted, as a valid network
+valid-here : (c : tie.After-enum-told) → Valid (netOf (c .before .before .before .read-network .result .network))
+unfolding IsBytes readingOf
+valid-here c =
+    let r = c .before .before .before .read-network in
+    accepted-valid (c .before .before .before .before .before .args .file .now) _ (λ i. c .before .before .before .before .shared-slice-known .given i .fits)
+    (sym (r .ensures .1) ∙ ap (λ (k : Check). readingOf k (r .result .network)) (c .enum-told .given .1))
 
 -- src/reader.rt:277:9
 read-network-requires : tie.Need-read-network-requires
@@ -43,7 +53,7 @@ cast-t8 c = search needs
 
 -- src/reader.rt:284:20
 served-stops-requires : tie.Need-served-stops-requires
-served-stops-requires c κs = search needs
+served-stops-requires c κs = (c .before .before .before .before .read-network .ensures .0, valid-here (c .before))
 
 -- src/reader.rt:285:20
 cast-t10 : tie.Need-cast-t10

@@ -1,10 +1,9 @@
 -- `network::reader::read_command` meets its contract: each arm is the command's own function. Assumes nothing.
-use Prim.Native.Nat.{ℕ}
 use mathlib.Core.Path.{_≡_, refl, ap}
 use borrow.Author.Needs.{needs}
-use Rattle.network.specs.Network.{Command, statesLine, callsByOffset, callsByRide, ends, unknown, command}
+use Rattle.network.specs.Network.{statesLine, callsByOffset, callsByRide, ends, command}
 use Rattle.network.specs.Grounds.{grounds}
-use Rattle.network.specs.Stored.{HasSize, Tells}
+use Rattle.network.specs.Stored.{Tells}
 use Rattle.network.proofs.Laws.Network.{command-unknown}
 use Rattle.network.proofs.Laws.Grounds.{first-hit}
 use Rattle.network.proofs.reader.read_command.Statement.{statement}

@@ -1,14 +1,14 @@
 -- `network::reader::read_following_call` meets its contract: the grounds of a call are passed, so 11 and 12 are left, and the offset is
 -- that of the line's latest call plus the ride. Assumes nothing.
-use Prim.Native.Nat.{ℕ, _+_, _-_, _<_, _≤_}
+use Prim.Native.Nat.{ℕ, _+_, _-_, _<_}
 use mathlib.Core.Path.{_≡_, refl, sym, ap, _∙_}
-use mathlib.Core.Bool.{Bool, true, false, not}
+use mathlib.Core.Bool.{true, false, not}
 use mathlib.Core.List.{List}
 use mathlib.Core.Logic.{inr}
 use native.Mathlib.Omega.{arith}
 use borrow.Author.Needs.{needs}
 use borrow.Author.Tests.{lt-ltb, le-ltb}
-use lib.ListN.{length, getD}
+use lib.ListN.{getD}
 use Rattle.network.specs.declared.Check.the-variants.{Passes}
 use Rattle.network.specs.Network.{Net, maxLines, maxOffset, callsByOffset, callsByRide, callsAnywhere, word, callOf, lineOperand, stopOperand, rideOffset}
 use Rattle.network.specs.Grounds.{first, grounds, callGrounds}

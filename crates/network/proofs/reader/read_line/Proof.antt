@@ -1,7 +1,6 @@
 -- `network::reader::read_line` meets its contract: at each return the tests that led there say which ground applies first, and where
 -- none does the line is told with the cycle that it makes. Assumes nothing.
-use Prim.Native.Nat.{ℕ}
-use mathlib.Core.Path.{_≡_, refl, sym, ap, _∙_}
+use mathlib.Core.Path.{_≡_, refl, _∙_}
 use native.Mathlib.Omega.{arith}
 use borrow.Author.Needs.{needs}
 use borrow.Author.Tests.{lt-ltb, le-ltb, le-leb, lt-leb}

@@ -1,6 +1,6 @@
 -- `network::reader::read_network` meets its contract. The loop's invariant: the network, the marks and the latest offsets agree, and reading
 -- the part that is left, with the network before it, gives what reading the whole file gives. Assumes nothing.
-use Prim.Native.Nat.{ℕ, _+_, _-_, _*_, _<_, _≤_}
+use Prim.Native.Nat.{ℕ, _+_, _-_, _<_, _≤_}
 use mathlib.Core.Path.{_≡_, refl, sym, ap, ap₂, subst, _∙_}
 use mathlib.Core.List.{List, [], _∷_}
 use mathlib.Core.Logic.{⊎-elim}
@@ -16,8 +16,8 @@ use Rattle.network.specs.declared.Told.{Told}
 use Rattle.network.specs.declared.Told.the-variants as told
 use Rattle.network.specs.Network.{Net, Command, command, ends, operandBytes, extend, maxLines, maxStop, maxCalls}
 use Rattle.network.specs.Grounds.{first, grounds}
-use Rattle.network.specs.Reading.{readFrom, readFile, refused, accepted}
-use Rattle.network.specs.Stored.{netOf, Sound, Tells, readingOf}
+use Rattle.network.specs.Reading.{readFrom, readFile, refused}
+use Rattle.network.specs.Stored.{netOf, Tells, readingOf}
 use Rattle.network.proofs.Laws.Lists.{take-rest}
 use Rattle.network.proofs.Laws.Kept.{Kept, kept-line, kept-call}
 use Rattle.network.proofs.Laws.Latest.{latest-none}

@@ -1,6 +1,6 @@
 -- `network::reader::read_ride` meets its contract: a ground of a call refuses 46 as it does 43, and the rest is
 -- `read_following_call`'s. Assumes nothing.
-use mathlib.Core.Path.{_≡_, sym, ap, _∙_}
+use mathlib.Core.Path.{sym, ap, _∙_}
 use native.Mathlib.Omega.{arith}
 use borrow.Author.Needs.{needs}
 use Rattle.network.specs.Network.{callsByRide}
