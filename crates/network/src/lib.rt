@@ -1,4 +1,4 @@
-// The network of lines and stops: the reader of network files.
+// The network of lines and stops: the reader of network files, gaps and ratings, and classes of stops.
 pub mod alike;
 pub mod classes;
 pub mod divisor;
@@ -60,19 +60,6 @@ impl Network {
             list: [nowhere; Network::MAX_CALLS],
             cycle: 1,
         }
-    }
-
-    // One line more, with the common cycle that it makes.
-    pub fn with_line(mut self, period: u16, cycle: u32) -> Network
-        requires { ⌜ Sound self ⌝ }
-        requires { ⌜ (self .lines < net.maxLines) × (0 < cycle) × (cycle ≤ net.maxCycle) × (cycle ≡ net.cycle (net.withLine (netOf self) period)) ⌝ }
-        ensures { λ r. ⌜ Sound r × (netOf r ≡ net.withLine (netOf self) period) ⌝ }
-    {
-        let at = self.lines;
-        self.periods[at] = period;
-        self.lines = at + 1;
-        self.cycle = cycle;
-        self
     }
 
     // One call more.

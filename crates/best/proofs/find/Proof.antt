@@ -4,13 +4,6 @@ use lib.Seq.{length-take-le}
 use borrow.Author.Needs.{needs}
 use Rattle.best.proofs.find.Statement.{statement}
 use Rattle.best.proofs.find.Tie as tie
-use Rattle.best.proofs.find.Reads as reads
-use Rattle.best.proofs.find.Lts as lts
-use Rattle.best.proofs.print_best.Reads as print-best-reads
-use Rattle.best.proofs.print_refusal.Reads as print-refusal-reads
-use Rattle.best.proofs.print_tries.Reads as print-tries-reads
-use Rattle.io.proofs.write_all.Reads as write-all-reads
-use Rattle.search.proofs.call.search.Reads as search-reads
 
 array-borrow-prefix-row : tie.Need-array-borrow-prefix-row
 array-borrow-prefix-row c = search needs

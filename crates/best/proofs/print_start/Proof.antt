@@ -12,10 +12,6 @@ use mir.Val.{Fits, SFits, toZ, ofZ}
 use mir.Facts.{toZ-ofZ}
 use Rattle.best.proofs.print_start.Statement.{statement}
 use Rattle.best.proofs.print_start.Tie as tie
-use Rattle.best.proofs.print_start.Reads as reads
-use Rattle.best.proofs.print_start.Lts as lts
-use Rattle.io.proofs.print_decimal.Reads as print-decimal-reads
-use Rattle.io.proofs.write_all.Reads as write-all-reads
 
 natural : (x : ℤ) → SFits w32 x → leZ (pos 0) (toZ w32 (ofZ w32 x)) ≡ true
     → T (nonNeg (toZ w32 (ofZ w32 x))) × Fits w64 (natAbs (toZ w32 (ofZ w32 x)))

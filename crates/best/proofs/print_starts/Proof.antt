@@ -6,9 +6,6 @@ use borrow.Author.Needs.{needs}
 use lib.ListN.{length}
 use Rattle.best.proofs.print_starts.Statement.{statement}
 use Rattle.best.proofs.print_starts.Tie as tie
-use Rattle.best.proofs.print_starts.Reads as reads
-use Rattle.best.proofs.print_starts.Lts as lts
-use Rattle.best.proofs.print_start.Reads as print-start-reads
 
 abbrev Inv-loop : tie.InvT-loop
 Inv-loop starts i₀ i-end i = (i-end ≡ length starts) × (i ≤ i-end)

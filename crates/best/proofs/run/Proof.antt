@@ -6,11 +6,6 @@ use Rattle.network.proofs.Laws.Valid.{answered-lines}
 use borrow.Author.Needs.{needs}
 use Rattle.best.proofs.run.Statement.{statement}
 use Rattle.best.proofs.run.Tie as tie
-use Rattle.best.proofs.run.Reads as reads
-use Rattle.best.proofs.run.Lts as lts
-use Rattle.best.proofs.find.Reads as find-reads
-use Rattle.best.proofs.print_refusal.Reads as print-refusal-reads
-use Rattle.network.proofs.reader.read.Reads as read-reads
 
 read-requires : tie.Need-read-requires
 read-requires c κs = search needs

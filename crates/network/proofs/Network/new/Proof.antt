@@ -8,10 +8,7 @@ use Rattle.network.specs.Network.{cycle}
 use Rattle.network.specs.Stored.{netOf, Sound}
 use Rattle.network.proofs.Network.new.Statement.{statement}
 use Rattle.network.proofs.Network.new.Tie as tie
-use Rattle.network.proofs.Network.new.Reads as reads
-use Rattle.network.proofs.Network.new.Lts as lts
 
--- src/reader.rt:28:5
 returns : tie.Need-returns
 unfolding netOf cycle commonCycle cycleFrom
 returns c = (record { periods-row = refl; list-row = refl; lines = omega arith; calls = omega arith; cycle-is = refl; cycle-pos = omega arith; cycle-le = omega arith }, refl)

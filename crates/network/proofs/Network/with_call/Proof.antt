@@ -4,22 +4,16 @@ use borrow.Author.Needs.{needs}
 use Rattle.network.proofs.Laws.Stored.{call-added, sound-call}
 use Rattle.network.proofs.Network.with_call.Statement.{statement}
 use Rattle.network.proofs.Network.with_call.Tie as tie
-use Rattle.network.proofs.Network.with_call.Reads as reads
-use Rattle.network.proofs.Network.with_call.Lts as lts
 
--- src/reader.rt:64:9
 mul-call : tie.Need-mul-call
 mul-call c = search needs
 
--- src/reader.rt:64:9
 element-set-from-call : tie.Need-element-set-from-call
 element-set-from-call c = search needs
 
--- src/reader.rt:65:22
 add-self : tie.Need-add-self
 add-self c = search needs
 
--- src/reader.rt:59:5
 returns : tie.Need-returns
 returns c =
     let n = c .args .t1 in

@@ -10,22 +10,16 @@ use Rattle.network.specs.Rating.{isAbove}
 use Rattle.network.proofs.Laws.Order.{above-none, above-same-least, above-other-least, none-above}
 use Rattle.network.proofs.Rating.is_above.Statement.{statement}
 use Rattle.network.proofs.Rating.is_above.Tie as tie
-use Rattle.network.proofs.Rating.is_above.Reads as reads
-use Rattle.network.proofs.Rating.is_above.Lts as lts
 
--- src/lib.rt:122:21
 returns : tie.Need-returns
 returns c = let s = c .before .before .before .before .before .before .before in sym (above-same-least (s .args .self) (s .args .other) (c .before .before .before .before .before .before .if1 .taken) (c .before .before .before .before .before .if2 .taken) (c .before .before .if3 .taken))
 
--- src/lib.rt:124:17
 returns-2 : tie.Need-returns-2
 returns-2 c = let s = c .before .before .before .before .before .before .before in sym (above-other-least (s .args .self) (s .args .other) (c .before .before .before .before .before .before .if1 .taken) (c .before .before .before .before .before .if2 .taken) (c .before .before .if3 .left))
 
--- src/lib.rt:126:13
 returns-3 : tie.Need-returns-3
 returns-3 c = let s = c .before .before in sym (above-none (s .args .self) (s .args .other) (c .before .if1 .taken) (c .if2 .left))
 
--- src/lib.rt:116:5
 returns-4 : tie.Need-returns-4
 returns-4 c = let s = c .before in sym (none-above (s .args .self) (s .args .other) (c .if1 .left))
 

@@ -9,18 +9,13 @@ use Rattle.network.specs.Lists.{pick}
 use Rattle.network.specs.Scan.{withStop}
 use Rattle.network.proofs.Rating.with_stop.Statement.{statement}
 use Rattle.network.proofs.Rating.with_stop.Tie as tie
-use Rattle.network.proofs.Rating.with_stop.Reads as reads
-use Rattle.network.proofs.Rating.with_stop.Lts as lts
 
--- src/lib.rt:136:30
 mul-sum : tie.Need-mul-sum
 mul-sum c = search needs
 
--- src/lib.rt:136:19
 add-sum : tie.Need-add-sum
 add-sum c = search needs
 
--- src/lib.rt:139:17
 returns : tie.Need-returns
 unfolding withStop
 returns c =
@@ -29,7 +24,6 @@ returns c =
     (let e : s .args .self .least ≡ min (s .args .self .least) (s .args .gap) = omega arith in e
     ∙ ap (λ t. pick t (min (s .args .self .least) (s .args .gap)) (s .args .gap)) (sym (c .before .before .if1 .taken)))
 
--- src/lib.rt:132:5
 returns-2 : tie.Need-returns-2
 unfolding withStop
 returns-2 c =
@@ -38,7 +32,6 @@ returns-2 c =
     (let e : s .args .gap ≡ min (s .args .self .least) (s .args .gap) = omega arith in e
     ∙ ap (λ t. pick t (min (s .args .self .least) (s .args .gap)) (s .args .gap)) (sym (c .before .before .if1 .taken)))
 
--- src/lib.rt:132:5
 returns-3 : tie.Need-returns-3
 unfolding withStop
 returns-3 c =

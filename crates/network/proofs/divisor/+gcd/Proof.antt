@@ -23,19 +23,15 @@ gcd-at t = and 0 gcd-kinds.ps (is 0 gcd-kinds.ps μ-gcd t) gcd.Pre
 abbrev gcd-below : ℕ → In 0 gcd-kinds.ps
 gcd-below t = and 0 gcd-kinds.ps (falls 0 gcd-kinds.ps _<_ μ-gcd t) gcd.Pre
 
--- src/divisor.rt:10:35
 gcd-rem-gcd : (t : ℕ) → gcd-lts.Need-rem-gcd (gcd-below t, gcd.Post) (gcd-at t) gcd.Post
 gcd-rem-gcd t c = pos-of-ne-zero (c .if1 .left)
 
--- src/divisor.rt:10:28
 gcd-gcd-requires : (t : ℕ) → gcd-lts.Need-gcd-requires (gcd-below t, gcd.Post) (gcd-at t) gcd.Post
 gcd-gcd-requires t c κs = (rw (← (c .before .pre .0)) (mod-lt (c .before .args .a) (pos-of-ne-zero (c .if1 .left))), tt)
 
--- src/divisor.rt:7:1
 gcd-returns : (t : ℕ) → gcd-lts.Need-returns (gcd-below t, gcd.Post) (gcd-at t) gcd.Post
 gcd-returns t c = sym (ap (divisor.gcd (c .before .args .a)) (c .if1 .taken) ∙ gcd-zero (c .before .args .a))
 
--- src/divisor.rt:7:1
 gcd-returns-2 : (t : ℕ) → gcd-lts.Need-returns-2 (gcd-below t, gcd.Post) (gcd-at t) gcd.Post
 gcd-returns-2 t c = c .gcd .ensures ∙ sym (gcd-step-pos (c .before .before .args .a) (c .before .before .args .b) (pos-of-ne-zero (c .before .if1 .left)))
 

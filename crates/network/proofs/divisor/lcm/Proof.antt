@@ -9,19 +9,13 @@ use Rattle.network.specs.Divisor as divisor
 use Rattle.network.proofs.Laws.Divisor.{gcd-pos-left}
 use Rattle.network.proofs.divisor.lcm.Statement.{statement}
 use Rattle.network.proofs.divisor.lcm.Tie as tie
-use Rattle.network.proofs.divisor.lcm.Reads as reads
-use Rattle.network.proofs.divisor.lcm.Lts as lts
-use Rattle.network.proofs.divisor.gcd.Reads as gcd-reads
 
--- src/divisor.rt:18:9
 gcd-requires : tie.Need-gcd-requires
 gcd-requires c κs = tt
 
--- src/divisor.rt:18:5
 div-result : tie.Need-div-result
 div-result c = rw (c .gcd .ensures) (gcd-pos-left (c .before .args .a) (c .before .args .b) (c .before .pre .0))
 
--- src/divisor.rt:18:5
 mul-result : tie.Need-mul-result
 mul-result c =
     record {
@@ -30,7 +24,6 @@ mul-result c =
           (lit< tt);
     }
 
--- src/divisor.rt:14:1
 returns : tie.Need-returns
 unfolding divisor.lcm
 returns c = ap (λ (g : ℕ). c .before .args .a / g * c .before .args .b) (c .gcd .ensures)

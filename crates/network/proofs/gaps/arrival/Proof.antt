@@ -11,8 +11,6 @@ use Rattle.network.proofs.Laws.Integers.{natAbs-add-le, natAbs-le-mag, 
 use borrow.Author.Needs.{needs}
 use Rattle.network.proofs.gaps.arrival.Statement.{statement}
 use Rattle.network.proofs.gaps.arrival.Tie as tie
-use Rattle.network.proofs.gaps.arrival.Reads as reads
-use Rattle.network.proofs.gaps.arrival.Lts as lts
 
 abbrev sum : tie.Start → ℤ
 sum c = c .args .start +ℤ pos (c .args .offset)
@@ -32,19 +30,15 @@ read c =
     (ap (λ (z : ℤ). toZ w64 (ofZ w64 z)) (toZ-ofZ (c .fits .start)) ∙ toZ-ofZ (sfits-widen tt (c .fits .start)))
     (toZ-pos w64 (omega (arith, c .fits .offset)))
 
--- src/gaps.rt:28:5
 cast-result : tie.Need-cast-result
 cast-result c = rw (toZ-ofZ {w = w32} (c .fits .start)) (sfits-widen tt (c .fits .start))
 
--- src/gaps.rt:28:20
 cast-result-2 : tie.Need-cast-result-2
 cast-result-2 c = search needs
 
--- src/gaps.rt:28:5
 add-result : tie.Need-add-result
 add-result c = rw (read c) (fits c)
 
--- src/gaps.rt:25:1
 returns : tie.Need-returns
 returns c = rw (read c, toZ-ofZ {w = w64} (fits c)) (refl, small c)
 

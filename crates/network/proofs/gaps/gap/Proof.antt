@@ -14,10 +14,6 @@ use Rattle.network.proofs.Laws.Integers.{natAbs-sub-le, sfits-of-natAbs
 use borrow.Author.Needs.{needs}
 use Rattle.network.proofs.gaps.gap.Statement.{statement}
 use Rattle.network.proofs.gaps.gap.Tie as tie
-use Rattle.network.proofs.gaps.gap.Reads as reads
-use Rattle.network.proofs.gaps.gap.Lts as lts
-use Rattle.network.proofs.divisor.gcd.Reads as gcd-reads
-use Rattle.network.proofs.gaps.residue.Reads as residue-reads
 
 -- What the code subtracts is the difference of the two arrivals
 module _ (s : tie.Start) where
@@ -47,27 +43,21 @@ below c =
     let s = c .before .before in
     omega (arith, reduced c, c .before .gcd .ensures, residue-lt (difference s) _ (divisor-pos s))
 
--- src/gaps.rt:36:9
 gcd-requires : tie.Need-gcd-requires
 gcd-requires c κs = search needs
 
--- src/gaps.rt:37:21
 sub-residue : tie.Need-sub-residue
 sub-residue c = rw (subtracted (c .before)) (fits (c .before))
 
--- src/gaps.rt:37:9
 residue-requires : tie.Need-residue-requires
 residue-requires c κs = rw (c .gcd .ensures) (divisor-pos (c .before))
 
--- src/gaps.rt:38:12
 sub-if1 : tie.Need-sub-if1
 sub-if1 c = omega (arith, below c)
 
--- src/gaps.rt:38:31
 sub-result : tie.Need-sub-result
 sub-result c = omega (arith, below (c .before))
 
--- src/gaps.rt:32:1
 returns : tie.Need-returns
 unfolding gaps.gapOf gaps.fold
 returns c =
@@ -75,7 +65,6 @@ returns c =
     let lesser : r .residue .result ≡ min (r .residue .result) (r .before .gcd .result - r .residue .result) = omega arith in
     lesser ∙ ap₂ (λ (g d : ℕ). min d (g - d)) (r .before .gcd .ensures) (reduced r)
 
--- src/gaps.rt:32:1
 returns-2 : tie.Need-returns-2
 unfolding gaps.gapOf gaps.fold
 returns-2 c =

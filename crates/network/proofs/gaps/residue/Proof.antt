@@ -16,8 +16,6 @@ use Rattle.network.proofs.Laws.Integers.{minus-one-sub}
 use borrow.Author.Needs.{needs}
 use Rattle.network.proofs.gaps.residue.Statement.{statement}
 use Rattle.network.proofs.gaps.residue.Tie as tie
-use Rattle.network.proofs.gaps.residue.Reads as reads
-use Rattle.network.proofs.gaps.residue.Lts as lts
 
 -- What the test tells of a number of 64 bits, and what the code then computes with
 record Negative (x : ℤ) : Type 0 where
@@ -55,43 +53,33 @@ below-zero c = negative (c .before .args .x) (c .before .fits .x) (c .if1 .taken
 from-zero : (c : tie.Else1) → Natural (c .before .args .x)
 from-zero c = natural (c .before .args .x) (c .before .fits .x) (c .if1 .left)
 
--- src/gaps.rt:16:22
 sub-below : tie.Need-sub-below
 sub-below c = rw (below-zero c .moved) (record { sfits = below-zero c .bound })
 
--- src/gaps.rt:16:21
 cast-below : tie.Need-cast-below
 cast-below c = rw (below-zero c .read) (tt, omega (arith, below-zero c .bound))
 
--- src/gaps.rt:16:21
 rem-below : tie.Need-rem-below
 rem-below c = search needs
 
--- src/gaps.rt:17:9
 sub-result : tie.Need-sub-result
 sub-result c = search needs
 
--- src/gaps.rt:17:17
 cast-result : tie.Need-cast-result
 cast-result c = omega (arith, mod-lt (natAbs (toZ w64 (ofZ w64 (negsuc 0 -ℤ toZ w64 (ofZ w64 (c .before .args .x)))))) (c .before .pre), c .before .fits .g)
 
--- src/gaps.rt:17:9
 sub-result-2 : tie.Need-sub-result-2
 sub-result-2 c = omega (arith, mod-lt (natAbs (toZ w64 (ofZ w64 (negsuc 0 -ℤ toZ w64 (ofZ w64 (c .before .args .x)))))) (c .before .pre))
 
--- src/gaps.rt:19:21
 cast-above : tie.Need-cast-above
 cast-above c = rw (from-zero c .read) (tt, omega (arith, from-zero c .bound))
 
--- src/gaps.rt:19:21
 rem-above : tie.Need-rem-above
 rem-above c = search needs
 
--- src/gaps.rt:20:9
 cast-result-2 : tie.Need-cast-result-2
 cast-result-2 c = omega (arith, mod-lt (natAbs (toZ w64 (ofZ w64 (c .before .args .x)))) (c .before .pre), c .before .fits .g)
 
--- src/gaps.rt:9:1
 returns : tie.Need-returns
 unfolding gaps.residue
 returns c =
@@ -100,7 +88,6 @@ returns c =
     subst (λ (z : ℤ). g - 1 - natAbs z % g ≡ gaps.residue (c .before .args .x) g) (sym (b .read))
     (subst (λ (z : ℤ). g - 1 - b .k % g ≡ gaps.residue z g) (sym (b .is)) (omega arith))
 
--- src/gaps.rt:9:1
 returns-2 : tie.Need-returns-2
 unfolding gaps.residue
 returns-2 c =

@@ -19,10 +19,6 @@ use Rattle.network.proofs.Laws.Valid.{accepted-valid}
 use Rattle.network.proofs.Laws.Stored.{held-lines}
 use Rattle.network.proofs.rate.rate.Statement.{statement}
 use Rattle.network.proofs.rate.rate.Tie as tie
-use Rattle.network.proofs.rate.rate.Reads as reads
-use Rattle.network.proofs.rate.rate.Lts as lts
-use Rattle.network.proofs.rate.sheet_rating.Reads as sheet-rating-reads
-use Rattle.network.proofs.reader.read_network.Reads as read-network-reads
 
 -- In the arm of `Passes` the file is accepted, as a valid network
 accepted-here : (c : tie.After-enum-told) → readFile (c .before .before .before .before .before .args .file .now) ≡ accepted (netOf (c .before .before .before .read-network .result .network))
@@ -34,26 +30,21 @@ valid-here : (c : tie.After-enum-told) → Valid (netOf (c .before .before .befo
 unfolding IsBytes
 valid-here c = accepted-valid (c .before .before .before .before .before .args .file .now) _ (λ i. c .before .before .before .before .shared-slice-known .given i .fits) (accepted-here c)
 
--- src/rate.rt:33:9
 read-network-requires : tie.Need-read-network-requires
 read-network-requires c κs = search needs
 
--- src/rate.rt:37:26
 enum-known-check : tie.Need-enum-known-check
 enum-known-check c = search needs
 
--- src/rate.rt:39:16
 enum-told : tie.Need-enum-told
 enum-told c = search needs
 
--- src/rate.rt:40:21
 sheet-rating-requires : tie.Need-sheet-rating-requires
 sheet-rating-requires c κs =
     let t = c .before .before in
     let r = c .before .before .before .before .before .read-network in
     (r .ensures .0, valid-here t, c .if1 .taken ∙ sym (held-lines (r .result .network) (r .ensures .0)))
 
--- src/rate.rt:41:17
 returns : tie.Need-returns
 unfolding rateAnswer ratingValues rateOutcome onSheet
 returns c =
@@ -65,7 +56,6 @@ returns c =
     ap ratingValues (c .sheet-rating .ensures)
     ∙ sym (ap (λ (k : Reading). onSheet rating k sheet) (accepted-here t) ∙ ap (λ b. pick b (ratingValues (rating n sheet)) (refusal 15 0)) fits)
 
--- src/rate.rt:30:1
 returns-2 : tie.Need-returns-2
 unfolding rateAnswer rateOutcome onSheet readingOf
 returns-2 c =
@@ -74,7 +64,6 @@ returns-2 c =
     (ap (λ (k : Reading). onSheet rating k (c .before .before .before .before .before .before .args .sheet .now))
     (sym (r .ensures .1) ∙ ap (λ (k : Check). readingOf k (r .result .network)) (c .before .check .given .1)))
 
--- src/rate.rt:30:1
 returns-3 : tie.Need-returns-3
 unfolding rateAnswer rateOutcome onSheet
 returns-3 c =

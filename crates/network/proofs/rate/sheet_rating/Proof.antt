@@ -12,11 +12,6 @@ use Rattle.network.proofs.Laws.Rate.{rating-of-rows, counted-served, st
 use Rattle.network.proofs.Laws.Rating.{servedList-some}
 use Rattle.network.proofs.rate.sheet_rating.Statement.{statement}
 use Rattle.network.proofs.rate.sheet_rating.Tie as tie
-use Rattle.network.proofs.rate.sheet_rating.Reads as reads
-use Rattle.network.proofs.rate.sheet_rating.Lts as lts
-use Rattle.network.proofs.ratings.rating_over.Reads as rating-over-reads
-use Rattle.network.proofs.ratings.served_row.Reads as served-row-reads
-use Rattle.network.proofs.ratings.stop_gaps.Reads as stop-gaps-reads
 
 ones-are : (stop : ℕ) → stop < 64 → _≡_ {A = ℕ} (getD (replicate 64 1) stop 0) 1
 ones-are stop h = getD-replicate 64 stop 1 0 h
@@ -29,22 +24,18 @@ some-counted : (c : tie.After-served-row) → 0 < length (countedStops (c .serve
 unfolding eachOnce
 some-counted c = rw (counted c, length-map) (servedList-some (c .before .pre .1))
 
--- src/rate.rt:23:18
 served-row-requires : tie.Need-served-row-requires
 served-row-requires c κs = search needs
 
--- src/rate.rt:25:16
 stop-gaps-requires : tie.Need-stop-gaps-requires
 stop-gaps-requires c κs = search needs
 
--- src/rate.rt:26:5
 rating-over-requires : tie.Need-rating-over-requires
 rating-over-requires c κs stop h k =
     let r = c .before .before .before .before .before in
     let e = c .before .before .before .stop-gaps .ensures stop h k in
     (omega (arith, e, stopGap-le-maxPeriod (r .before .pre .1) (r .before .args .sheet .now) stop), omega (arith, ones-are stop h))
 
--- src/rate.rt:19:1
 returns : tie.Need-returns
 unfolding rating
 returns c =

@@ -11,68 +11,50 @@ use Rattle.network.specs.Rating.{arrivalOf}
 use borrow.Author.Needs.{needs}
 use Rattle.network.proofs.ratings.call_gap.Statement.{statement}
 use Rattle.network.proofs.ratings.call_gap.Tie as tie
-use Rattle.network.proofs.ratings.call_gap.Reads as reads
-use Rattle.network.proofs.ratings.call_gap.Lts as lts
-use Rattle.network.proofs.gaps.arrival.Reads as arrival-reads
-use Rattle.network.proofs.gaps.gap.Reads as gap-reads
 
 -- A start that is read from the sheet, and the arrival that is handed on, are the numbers themselves
 arrives : (start : ℤ) (offset : ℕ) (r : ℤ) → SFits w32 start → SFits w64 r → r ≡ toZ w32 (ofZ w32 start) +ℤ pos offset → toZ w64 (ofZ w64 r) ≡ start +ℤ pos offset
 arrives start offset r f g e = toZ-ofZ g ∙ e ∙ ap (λ (z : ℤ). z +ℤ pos offset) (toZ-ofZ f)
 
--- src/ratings.rt:23:16
 cast-line : tie.Need-cast-line
 cast-line c = search needs
 
--- src/ratings.rt:24:17
 cast-other : tie.Need-cast-other
 cast-other c = search needs
 
--- src/ratings.rt:25:21
 mul-arrival : tie.Need-mul-arrival
 mul-arrival c = search needs
 
--- src/ratings.rt:25:21
 shared-slice-copy-out-arrival : tie.Need-shared-slice-copy-out-arrival
 shared-slice-copy-out-arrival c = search needs
 
--- src/ratings.rt:25:9
 arrival-requires : tie.Need-arrival-requires
 arrival-requires c κs = search needs
 
--- src/ratings.rt:26:21
 mul-arrival-2 : tie.Need-mul-arrival-2
 mul-arrival-2 c = search needs
 
--- src/ratings.rt:26:21
 shared-slice-copy-out-arrival-2 : tie.Need-shared-slice-copy-out-arrival-2
 shared-slice-copy-out-arrival-2 c = search needs
 
--- src/ratings.rt:26:9
 arrival-requires-2 : tie.Need-arrival-requires-2
 arrival-requires-2 c κs = search needs
 
--- src/ratings.rt:27:12
 mul-gap : tie.Need-mul-gap
 mul-gap c = search needs
 
--- src/ratings.rt:27:12
 element-copy-out-gap : tie.Need-element-copy-out-gap
 element-copy-out-gap c = search needs
 
--- src/ratings.rt:27:30
 mul-gap-2 : tie.Need-mul-gap-2
 mul-gap-2 c = search needs
 
--- src/ratings.rt:27:30
 element-copy-out-gap-2 : tie.Need-element-copy-out-gap-2
 element-copy-out-gap-2 c = search needs
 
--- src/ratings.rt:27:5
 gap-requires : tie.Need-gap-requires
 gap-requires c κs = search needs
 
--- src/ratings.rt:18:1
 returns : tie.Need-returns
 unfolding arrivalOf
 returns c =

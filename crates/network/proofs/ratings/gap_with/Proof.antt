@@ -19,9 +19,6 @@ use Rattle.network.proofs.Laws.Scan.{keep-all, callsBefore-some, gapOfS
 use Rattle.network.proofs.Laws.Stored.{held-lines, held-period, held-call-line, held-period-pos}
 use Rattle.network.proofs.ratings.gap_with.Statement.{statement}
 use Rattle.network.proofs.ratings.gap_with.Tie as tie
-use Rattle.network.proofs.ratings.gap_with.Reads as reads
-use Rattle.network.proofs.ratings.gap_with.Lts as lts
-use Rattle.network.proofs.ratings.least_gap.Reads as least-gap-reads
 
 -- The calls that stand at the stop have periods of at least 1
 periods-pos :
@@ -43,23 +40,18 @@ periods-pos s =
         rw (getD-take (s .args .before) (s .args .t1 .list) j noCall h, periodOf, held-period (s .args .t1) _ l)
         (held-period-pos (s .args .t1) (s .pre .0 .0) (s .pre .0 .1) _ l)
 
--- src/ratings.rt:76:20
 cast-line : tie.Need-cast-line
 cast-line c = search needs
 
--- src/ratings.rt:77:16
 mul-result : tie.Need-mul-result
 mul-result c = search needs
 
--- src/ratings.rt:77:16
 element-copy-out-result : tie.Need-element-copy-out-result
 element-copy-out-result c = search needs
 
--- src/ratings.rt:77:16
 cast-result : tie.Need-cast-result
 cast-result c = search needs
 
--- src/ratings.rt:77:9
 returns : tie.Need-returns
 unfolding gapOfStop callsBefore keep periodOf
 returns c =
@@ -69,11 +61,9 @@ returns c =
     (c .before .before .if1 .taken)
     ∙ held-period (s .args .t1) (s .args .call .line) (omega (arith, s .pre .1 .0 .0, held-lines (s .args .t1) (s .pre .0 .0))))
 
--- src/ratings.rt:79:5
 least-gap-requires : tie.Need-least-gap-requires
 least-gap-requires c κs = search needs
 
--- src/ratings.rt:61:1
 returns-2 : tie.Need-returns-2
 returns-2 c =
     let s = c .before .before in

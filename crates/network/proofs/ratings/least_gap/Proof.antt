@@ -19,9 +19,6 @@ use Rattle.network.proofs.Laws.Scan.{lastAt-le, lastAt-landed, step-bac
 use Rattle.network.proofs.Laws.Stored.{held-lines, held-period, held-call-line, held-period-pos}
 use Rattle.network.proofs.ratings.least_gap.Statement.{statement}
 use Rattle.network.proofs.ratings.least_gap.Tie as tie
-use Rattle.network.proofs.ratings.least_gap.Reads as reads
-use Rattle.network.proofs.ratings.least_gap.Lts as lts
-use Rattle.network.proofs.ratings.call_gap.Reads as call-gap-reads
 
 -- the gap from an earlier call to this one
 abbrev to : Network → List ℤ → Call → Call → ℕ
@@ -94,23 +91,18 @@ module _ (c : tie.In-loop Inv-loop μ-loop) where
       ∙ ap (λ (k : ℕ). leastFrom (c .before .loop .lesser) (map g (callsBefore s (network .list) k))) (omega (arith, c .loop-test .taken))
       ∙ c .before .loop .inv .2
 
--- src/ratings.rt:47:5
 loop-holds : tie.Need-loop-holds Inv-loop μ-loop
 loop-holds c = (omega arith, c .pre .1 .1, refl)
 
--- src/ratings.rt:48:18
 sub-at : tie.Need-sub-at Inv-loop μ-loop
 sub-at c = c .loop-test .taken
 
--- src/ratings.rt:49:21
 mul-other : tie.Need-mul-other Inv-loop μ-loop
 mul-other c = omega (arith, in-file c, start c .pre .0 .0 .calls)
 
--- src/ratings.rt:49:21
 element-copy-out-other : tie.Need-element-copy-out-other Inv-loop μ-loop
 element-copy-out-other c = omega (arith, in-file c, start c .pre .0 .0 .calls)
 
--- src/ratings.rt:50:13
 call-gap-requires : tie.Need-call-gap-requires Inv-loop μ-loop
 call-gap-requires c κs =
     let t = c .before .before .before in (
@@ -122,27 +114,22 @@ call-gap-requires c κs =
       (omega (arith, own-line t, start t .pre .0 .0 .lines), omega (arith, own-line t, sheet-length t)),
     )
 
--- src/ratings.rt:54:16
 mul-from : tie.Need-mul-from Inv-loop μ-loop
 mul-from c = omega (arith, in-file (c .before .before .before .before .before), start (c .before .before .before .before .before) .pre .0 .0 .calls)
 
--- src/ratings.rt:54:16
 element-copy-out-from : tie.Need-element-copy-out-from Inv-loop μ-loop
 element-copy-out-from c = omega (arith, in-file (c .before .before .before .before .before), start (c .before .before .before .before .before) .pre .0 .0 .calls)
 
--- src/ratings.rt:54:16
 cast-from : tie.Need-cast-from Inv-loop μ-loop
 cast-from c =
     let t = c .before .before .before .before .before .before in
     omega (arith, led-back t, lastAt-le (start t .args .call .stop) (network t .list) (at t), in-file t, start t .pre .0 .0 .calls)
 
--- src/ratings.rt:47:5
 loop-less : tie.Need-loop-less Inv-loop μ-loop
 loop-less c =
     let t = c .before .before .before .before .before .before in
     omega (arith, led-back t, lastAt-le (start t .args .call .stop) (network t .list) (at t), t .loop-test .taken)
 
--- src/ratings.rt:47:5
 loop-again : tie.Need-loop-again Inv-loop μ-loop
 loop-again c =
     let t = c .before .before .before .before .before .before in
@@ -156,7 +143,6 @@ loop-again c =
       ap (λ (v : ℕ). leastFrom v (map g (callsBefore stop (network t .list) (getD (start t .args .previous .now) (at t) 0)))) lesser ∙ onward t,
     )
 
--- src/ratings.rt:32:1
 returns : tie.Need-returns Inv-loop μ-loop
 unfolding leastFrom callsBefore keep
 returns c =

@@ -13,9 +13,6 @@ use Rattle.network.specs.Scan.{ratingOfGaps, countedStops, withStop}
 use Rattle.network.proofs.Laws.Scan.{countedBelow, rating-counted, rating-passed}
 use Rattle.network.proofs.ratings.rating_over.Statement.{statement}
 use Rattle.network.proofs.ratings.rating_over.Tie as tie
-use Rattle.network.proofs.ratings.rating_over.Reads as reads
-use Rattle.network.proofs.ratings.rating_over.Lts as lts
-use Rattle.network.proofs.Rating.with_stop.Reads as with-stop-reads
 
 abbrev Inv-loop : tie.InvT-loop
 Inv-loop gaps counts weights rating₀ stop₀ rating stop =
@@ -38,51 +35,40 @@ adds-little :
     → getD (s .args .weights .now) stop 0 * getD (s .args .gaps .now) stop 0 ≤ 2880000
 adds-little s stop h k = mul-le-mul (s .pre stop h k .1) (s .pre stop h k .0)
 
--- src/ratings.rt:113:5
 loop-holds : tie.Need-loop-holds Inv-loop μ-loop
 unfolding ratingOfGaps below
 loop-holds c = (omega arith, refl, omega arith)
 
--- src/ratings.rt:114:16
 element-copy-out-if1 : tie.Need-element-copy-out-if1 Inv-loop μ-loop
 element-copy-out-if1 c = omega arith
 
--- src/ratings.rt:115:39
 mul-with-stop : tie.Need-mul-with-stop Inv-loop μ-loop
 mul-with-stop c = omega arith
 
--- src/ratings.rt:115:39
 element-copy-out-with-stop : tie.Need-element-copy-out-with-stop Inv-loop μ-loop
 element-copy-out-with-stop c = omega arith
 
--- src/ratings.rt:115:51
 mul-with-stop-2 : tie.Need-mul-with-stop-2 Inv-loop μ-loop
 mul-with-stop-2 c = omega arith
 
--- src/ratings.rt:115:51
 element-copy-out-with-stop-2 : tie.Need-element-copy-out-with-stop-2 Inv-loop μ-loop
 element-copy-out-with-stop-2 c = omega arith
 
--- src/ratings.rt:115:51
 cast-with-stop : tie.Need-cast-with-stop Inv-loop μ-loop
 cast-with-stop c = let s = c .before .before .before .before .before .before in omega (arith, s .pre (c .before .before .before .before .before .loop .stop) (c .before .before .before .before .loop-test .taken) (c .before .before .if1 .taken) .1)
 
--- src/ratings.rt:115:13
 with-stop-requires : tie.Need-with-stop-requires Inv-loop μ-loop
 with-stop-requires c κs =
     let s = c .before .before .before .before .before .before in
     let l = c .before .before .before .before .before .loop in
     omega (arith, l .inv .2, adds-little s (l .stop) (c .before .before .before .before .loop-test .taken) (c .before .before .if1 .taken))
 
--- src/ratings.rt:113:9
 add-stop : tie.Need-add-stop Inv-loop μ-loop
 add-stop c = omega arith
 
--- src/ratings.rt:113:5
 loop-less : tie.Need-loop-less Inv-loop μ-loop
 loop-less c = omega arith
 
--- src/ratings.rt:113:5
 loop-again : tie.Need-loop-again Inv-loop μ-loop
 loop-again c =
     let s = c .before .before .before .before in
@@ -110,7 +96,6 @@ loop-again c =
           (c .if1 .came),
     )
 
--- src/ratings.rt:108:1
 returns : tie.Need-returns Inv-loop μ-loop
 unfolding countedStops
 returns c =

@@ -21,8 +21,6 @@ use Rattle.network.proofs.Laws.Scan.{getD-zeros}
 use Rattle.network.proofs.Laws.Stored.{held-call-stop}
 use Rattle.network.proofs.ratings.served_row.Statement.{statement}
 use Rattle.network.proofs.ratings.served_row.Tie as tie
-use Rattle.network.proofs.ratings.served_row.Reads as reads
-use Rattle.network.proofs.ratings.served_row.Lts as lts
 
 abbrev Inv-loop : tie.InvT-loop
 Inv-loop network row₀ count i₀ row i =
@@ -60,36 +58,28 @@ module _ (t : tie.In-loop Inv-loop μ-loop) where
   low : getD (t .before .before .args .t1 .list) (t .before .loop .i) noCall .stop < 64
   low = omega (arith, held-call-stop (t .before .before .args .t1) (t .before .before .pre .0) (t .before .before .pre .1) (t .before .loop .i) (t .loop-test .taken))
 
--- src/ratings.rt:128:5
 loop-holds : tie.Need-loop-holds Inv-loop μ-loop
 unfolding isServed any
 loop-holds c = (omega arith, refl, λ stop h. ap (ltb 0) (getD-zeros 64 stop))
 
--- src/ratings.rt:129:20
 mul-call : tie.Need-mul-call Inv-loop μ-loop
 mul-call c = omega (arith, small c)
 
--- src/ratings.rt:129:20
 element-copy-out-call : tie.Need-element-copy-out-call Inv-loop μ-loop
 element-copy-out-call c = omega (arith, small c)
 
--- src/ratings.rt:130:20
 cast-stop : tie.Need-cast-stop Inv-loop μ-loop
 cast-stop c = omega (arith, low (c .before .before))
 
--- src/ratings.rt:131:9
 array-write-row : tie.Need-array-write-row Inv-loop μ-loop
 array-write-row c = low (c .before .before)
 
--- src/ratings.rt:128:9
 add-i : tie.Need-add-i Inv-loop μ-loop
 add-i c = omega (arith, small (c .before .before))
 
--- src/ratings.rt:128:5
 loop-less : tie.Need-loop-less Inv-loop μ-loop
 loop-less c = omega (arith, c .before .before .loop-test .taken)
 
--- src/ratings.rt:128:5
 loop-again : tie.Need-loop-again Inv-loop μ-loop
 loop-again c =
     let t = c .before .before in
@@ -102,7 +92,6 @@ loop-again c =
           (ℕ-discrete stop _),
     )
 
--- src/ratings.rt:122:1
 returns : tie.Need-returns Inv-loop μ-loop
 unfolding netOf
 returns c stop h =

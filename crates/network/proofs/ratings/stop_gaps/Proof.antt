@@ -17,9 +17,6 @@ use Rattle.network.proofs.Laws.Scan.{Scanned, scanned-none, scanned-cou
 use Rattle.network.proofs.Laws.Stored.{held-lines, held-call-line, held-call-stop}
 use Rattle.network.proofs.ratings.stop_gaps.Statement.{statement}
 use Rattle.network.proofs.ratings.stop_gaps.Tie as tie
-use Rattle.network.proofs.ratings.stop_gaps.Reads as reads
-use Rattle.network.proofs.ratings.stop_gaps.Lts as lts
-use Rattle.network.proofs.ratings.gap_with.Reads as gap-with-reads
 
 abbrev Inv-loop : tie.InvT-loop
 Inv-loop sheet counts network gaps₀ last₀ previous₀ count i₀ gaps last previous i =
@@ -72,43 +69,33 @@ module _ (t : tie.In-loop Inv-loop μ-loop) where
   unfolding LeadsBack
   leads-before j h = scanned .leads j (omega (arith, before-le, h))
 
--- src/ratings.rt:92:5
 loop-holds : tie.Need-loop-holds Inv-loop μ-loop
 loop-holds c = (omega arith, scanned-none (netOf (c .args .t1)) (c .args .sheet .now) (c .args .t1 .list) (c .args .counts .now))
 
--- src/ratings.rt:93:20
 mul-call : tie.Need-mul-call Inv-loop μ-loop
 mul-call c = omega (arith, small c)
 
--- src/ratings.rt:93:20
 element-copy-out-call : tie.Need-element-copy-out-call Inv-loop μ-loop
 element-copy-out-call c = omega (arith, small c)
 
--- src/ratings.rt:94:20
 cast-stop : tie.Need-cast-stop Inv-loop μ-loop
 cast-stop c = omega (arith, stop-low (c .before .before))
 
--- src/ratings.rt:95:22
 mul-before : tie.Need-mul-before Inv-loop μ-loop
 mul-before c = omega (arith, stop-low (c .before .before))
 
--- src/ratings.rt:95:22
 array-read-before : tie.Need-array-read-before Inv-loop μ-loop
 array-read-before c = omega (arith, stop-low (c .before .before))
 
--- src/ratings.rt:96:16
 element-copy-out-if1 : tie.Need-element-copy-out-if1 Inv-loop μ-loop
 element-copy-out-if1 c = omega (arith, stop-low (c .before .before))
 
--- src/ratings.rt:97:76
 mul-gap-with : tie.Need-mul-gap-with Inv-loop μ-loop
 mul-gap-with c = omega (arith, stop-low (c .before .before .before .before .before))
 
--- src/ratings.rt:97:76
 array-read-gap-with : tie.Need-array-read-gap-with Inv-loop μ-loop
 array-read-gap-with c = omega (arith, stop-low (c .before .before .before .before .before))
 
--- src/ratings.rt:97:26
 gap-with-requires : tie.Need-gap-with-requires Inv-loop μ-loop
 gap-with-requires c κs =
     let t = c .before .before .before .before .before in (
@@ -127,47 +114,36 @@ gap-with-requires c κs =
       ),
     )
 
--- src/ratings.rt:97:13
 mul-gaps : tie.Need-mul-gaps Inv-loop μ-loop
 mul-gaps c = omega (arith, stop-low (c .before .before .before .before .before .before))
 
--- src/ratings.rt:97:13
 array-write-gaps : tie.Need-array-write-gaps Inv-loop μ-loop
 array-write-gaps c = omega (arith, stop-low (c .before .before .before .before .before .before))
 
--- src/ratings.rt:99:9
 mul-previous : tie.Need-mul-previous Inv-loop μ-loop
 mul-previous c = omega (arith, small (c .before .before .before .before))
 
--- src/ratings.rt:99:9
 array-write-previous : tie.Need-array-write-previous Inv-loop μ-loop
 array-write-previous c = omega (arith, small (c .before .before .before .before))
 
--- src/ratings.rt:100:22
 cast-last : tie.Need-cast-last Inv-loop μ-loop
 cast-last c = omega (arith, small (c .before .before .before .before))
 
--- src/ratings.rt:100:22
 add-last : tie.Need-add-last Inv-loop μ-loop
 add-last c = omega (arith, small (c .before .before .before .before))
 
--- src/ratings.rt:100:9
 mul-last : tie.Need-mul-last Inv-loop μ-loop
 mul-last c = omega (arith, stop-low (c .before .before .before .before))
 
--- src/ratings.rt:100:9
 array-write-last : tie.Need-array-write-last Inv-loop μ-loop
 array-write-last c = omega (arith, stop-low (c .before .before .before .before))
 
--- src/ratings.rt:92:9
 add-i : tie.Need-add-i Inv-loop μ-loop
 add-i c = omega (arith, small (c .before .before .before .before))
 
--- src/ratings.rt:92:5
 loop-less : tie.Need-loop-less Inv-loop μ-loop
 loop-less c = omega (arith, (c .before .before .before .before) .loop-test .taken)
 
--- src/ratings.rt:92:5
 loop-again : tie.Need-loop-again Inv-loop μ-loop
 loop-again c =
     let t = c .before .before .before .before in (
@@ -186,7 +162,6 @@ loop-again c =
           (c .if1 .came),
     )
 
--- src/ratings.rt:84:1
 returns : tie.Need-returns Inv-loop μ-loop
 unfolding stopGap callsOfStop callsBefore netOf
 returns c stop h k =

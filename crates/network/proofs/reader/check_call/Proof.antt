@@ -18,9 +18,6 @@ use Rattle.network.proofs.Laws.Grounds.{first-none, first-hit, first-mi
 use Rattle.network.proofs.Laws.Offsets.{called-mark}
 use Rattle.network.proofs.reader.check_call.Statement.{statement}
 use Rattle.network.proofs.reader.check_call.Tie as tie
-use Rattle.network.proofs.reader.check_call.Reads as reads
-use Rattle.network.proofs.reader.check_call.Lts as lts
-use Rattle.network.proofs.alike.mark.Reads as mark-reads
 
 -- The mark of the line at the stop says whether ground 9 applies
 marked : (marks : List ℕ) (cs : List Call) → Marks marks cs → (line stop mark : ℕ) → line < maxLines → stop ≤ maxStop

@@ -10,8 +10,6 @@ use Rattle.network.specs.Lists.{allBelow}
 use Rattle.network.proofs.Laws.Lists.{allBelow-next, allBelow-fails}
 use Rattle.network.proofs.reader.every_line_calls.Statement.{statement}
 use Rattle.network.proofs.reader.every_line_calls.Tie as tie
-use Rattle.network.proofs.reader.every_line_calls.Reads as reads
-use Rattle.network.proofs.reader.every_line_calls.Lts as lts
 
 abbrev Inv-loop : tie.InvT-loop
 Inv-loop lines latest line₀ line = (line ≤ lines) × (allBelow (λ l. ltb 0 (getD latest l 0)) line ≡ true)

@@ -5,25 +5,19 @@ use Rattle.network.specs.Network.{command, operandBytes}
 use Rattle.network.proofs.Laws.Network.{operandBytes-others}
 use Rattle.network.proofs.reader.operand_bytes.Statement.{statement}
 use Rattle.network.proofs.reader.operand_bytes.Tie as tie
-use Rattle.network.proofs.reader.operand_bytes.Reads as reads
-use Rattle.network.proofs.reader.operand_bytes.Lts as lts
 
--- src/reader.rt:51:1
 returns : tie.Need-returns
 unfolding command operandBytes
 returns c = sym (ap (λ b. operandBytes (command b)) (c .match .keys1))
 
--- src/reader.rt:51:1
 returns-2 : tie.Need-returns-2
 unfolding command operandBytes
 returns-2 c = sym (ap (λ b. operandBytes (command b)) (c .match .keys2))
 
--- src/reader.rt:51:1
 returns-3 : tie.Need-returns-3
 unfolding command operandBytes
 returns-3 c = sym (ap (λ b. operandBytes (command b)) (c .match .keys3))
 
--- src/reader.rt:51:1
 returns-4 : tie.Need-returns-4
 returns-4 c = sym (operandBytes-others (c .before .args .code) (c .match .rest .0 .0 .1) (c .match .rest .0 .1) (c .match .rest .1))
 

@@ -14,10 +14,6 @@ use Rattle.network.proofs.Laws.Stored.{held-lines, held-calls}
 use Rattle.network.proofs.Laws.Valid.{accepted-valid}
 use Rattle.network.proofs.reader.read.Statement.{statement}
 use Rattle.network.proofs.reader.read.Tie as tie
-use Rattle.network.proofs.reader.read.Reads as reads
-use Rattle.network.proofs.reader.read.Lts as lts
-use Rattle.network.proofs.reader.read_network.Reads as read-network-reads
-use Rattle.network.proofs.reader.served_stops.Reads as served-stops-reads
 
 values-are :
     (n : Network) (stops : ℕ)
@@ -35,38 +31,30 @@ valid-here c =
     accepted-valid (c .before .before .before .before .before .args .file .now) _ (λ i. c .before .before .before .before .shared-slice-known .given i .fits)
     (sym (r .ensures .1) ∙ ap (λ (k : Check). readingOf k (r .result .network)) (c .enum-told .given .1))
 
--- src/reader.rt:277:9
 read-network-requires : tie.Need-read-network-requires
 read-network-requires c κs = search needs
 
--- src/reader.rt:281:26
 enum-known-check : tie.Need-enum-known-check
 enum-known-check c = search needs
 
--- src/reader.rt:283:20
 enum-told : tie.Need-enum-told
 enum-told c = search needs
 
--- src/reader.rt:283:20
 cast-t8 : tie.Need-cast-t8
 cast-t8 c = search needs
 
--- src/reader.rt:284:20
 served-stops-requires : tie.Need-served-stops-requires
 served-stops-requires c κs = (c .before .before .before .before .read-network .ensures .0, valid-here (c .before))
 
--- src/reader.rt:285:20
 cast-t10 : tie.Need-cast-t10
 cast-t10 c = search needs
 
--- src/reader.rt:274:1
 returns : tie.Need-returns
 unfolding readAnswer readOutcome readingOf
 returns c =
     let r = c .before .before .before .before .read-network in
     sym (ap readOutcome (sym (r .ensures .1) ∙ ap (λ (k : Check). readingOf k (r .result .network)) (c .before .check .given .1)))
 
--- src/reader.rt:274:1
 returns-2 : tie.Need-returns-2
 unfolding readAnswer readOutcome readingOf
 returns-2 c =

@@ -11,10 +11,6 @@ use Rattle.network.specs.Grounds.{grounds}
 use Rattle.network.specs.Stored.{Tells}
 use Rattle.network.proofs.reader.read_call.Statement.{statement}
 use Rattle.network.proofs.reader.read_call.Tie as tie
-use Rattle.network.proofs.reader.read_call.Reads as reads
-use Rattle.network.proofs.reader.read_call.Lts as lts
-use Rattle.network.proofs.reader.check_call.Reads as check-call-reads
-use Rattle.network.proofs.reader.word.Reads as word-reads
 
 -- In the arm of `Passes` the operands are there
 four : (c : tie.After-enum-told) → 4 ≤ length (c .before .before .before .before .args .behind .now)

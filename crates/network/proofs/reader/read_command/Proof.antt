@@ -8,12 +8,6 @@ use Rattle.network.proofs.Laws.Network.{command-unknown}
 use Rattle.network.proofs.Laws.Grounds.{first-hit}
 use Rattle.network.proofs.reader.read_command.Statement.{statement}
 use Rattle.network.proofs.reader.read_command.Tie as tie
-use Rattle.network.proofs.reader.read_command.Reads as reads
-use Rattle.network.proofs.reader.read_command.Lts as lts
-use Rattle.network.proofs.reader.read_call.Reads as read-call-reads
-use Rattle.network.proofs.reader.read_end.Reads as read-end-reads
-use Rattle.network.proofs.reader.read_line.Reads as read-line-reads
-use Rattle.network.proofs.reader.read_ride.Reads as read-ride-reads
 
 read-line-requires : tie.Need-read-line-requires
 read-line-requires c κs = search needs

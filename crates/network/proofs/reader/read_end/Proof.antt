@@ -18,9 +18,6 @@ use Rattle.network.proofs.Laws.Grounds.{first-none, first-hit, first-mi
 use Rattle.network.proofs.Laws.Latest.{latest-calls}
 use Rattle.network.proofs.reader.read_end.Statement.{statement}
 use Rattle.network.proofs.reader.read_end.Tie as tie
-use Rattle.network.proofs.reader.read_end.Reads as reads
-use Rattle.network.proofs.reader.read_end.Lts as lts
-use Rattle.network.proofs.reader.every_line_calls.Reads as every-line-calls-reads
 
 -- The row says whether a line is silent
 silent : (n : Net) (lines : ℕ) (latest : List ℕ) → lines ≤ maxLines → lines ≡ length (n .periods) → Latest latest (n .calls)

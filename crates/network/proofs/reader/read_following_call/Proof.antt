@@ -17,10 +17,6 @@ use Rattle.network.proofs.Laws.Grounds.{call-grounds-alike, first-appen
 use Rattle.network.proofs.Laws.Latest.{latest-calls, latest-offset}
 use Rattle.network.proofs.reader.read_following_call.Statement.{statement}
 use Rattle.network.proofs.reader.read_following_call.Tie as tie
-use Rattle.network.proofs.reader.read_following_call.Reads as reads
-use Rattle.network.proofs.reader.read_following_call.Lts as lts
-use Rattle.network.proofs.reader.latest_of.Reads as latest-of-reads
-use Rattle.network.proofs.reader.word.Reads as word-reads
 
 -- What the row's place says of the line that the operands name
 module _ (n : Net) (p : ℕ) (behind latest : List ℕ) (l : Latest latest (n .calls)) (low : getD behind 0 0 < maxLines)

@@ -12,10 +12,6 @@ use Rattle.network.specs.Stored.{Tells}
 use Rattle.network.proofs.Laws.Grounds.{first-none, first-hit, first-miss, period-too-short, period-too-long, period-in-range}
 use Rattle.network.proofs.reader.read_line.Statement.{statement}
 use Rattle.network.proofs.reader.read_line.Tie as tie
-use Rattle.network.proofs.reader.read_line.Reads as reads
-use Rattle.network.proofs.reader.read_line.Lts as lts
-use Rattle.network.proofs.divisor.lcm.Reads as lcm-reads
-use Rattle.network.proofs.reader.word.Reads as word-reads
 
 returns : tie.Need-returns
 unfolding Tells grounds cutOff operandBytes

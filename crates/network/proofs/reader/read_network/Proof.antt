@@ -28,13 +28,6 @@ use Rattle.network.proofs.Laws.Stored.{LineTold, CallTold, held-lines, 
 use Rattle.network.proofs.Laws.Stored.{read-refused, read-ended, read-onward}
 use Rattle.network.proofs.reader.read_network.Statement.{statement}
 use Rattle.network.proofs.reader.read_network.Tie as tie
-use Rattle.network.proofs.reader.read_network.Reads as reads
-use Rattle.network.proofs.reader.read_network.Lts as lts
-use Rattle.network.proofs.Network.new.Reads as new-reads
-use Rattle.network.proofs.reader.part_behind.Reads as part-behind-reads
-use Rattle.network.proofs.reader.passed.Reads as passed-reads
-use Rattle.network.proofs.reader.read_command.Reads as read-command-reads
-use Rattle.network.proofs.reader.refused.Reads as refused-reads
 
 abbrev Inv-loop : tie.InvT-loop
 Inv-loop file network₀ marks₀ latest₀ rest₀ network marks latest rest =

@@ -9,10 +9,6 @@ use Rattle.network.specs.Stored.{Tells}
 use Rattle.network.proofs.Laws.Grounds.{call-grounds-alike, first-append-hit}
 use Rattle.network.proofs.reader.read_ride.Statement.{statement}
 use Rattle.network.proofs.reader.read_ride.Tie as tie
-use Rattle.network.proofs.reader.read_ride.Reads as reads
-use Rattle.network.proofs.reader.read_ride.Lts as lts
-use Rattle.network.proofs.reader.check_call.Reads as check-call-reads
-use Rattle.network.proofs.reader.read_following_call.Reads as read-following-call-reads
 
 check-call-requires : tie.Need-check-call-requires
 check-call-requires c κs = search needs

@@ -14,9 +14,6 @@ use Rattle.network.specs.Network.{servedStops}
 use Rattle.network.proofs.Laws.Lists.{countBelow-next, countBelow-le, countBelow-same}
 use Rattle.network.proofs.reader.served_stops.Statement.{statement}
 use Rattle.network.proofs.reader.served_stops.Tie as tie
-use Rattle.network.proofs.reader.served_stops.Reads as reads
-use Rattle.network.proofs.reader.served_stops.Lts as lts
-use Rattle.network.proofs.ratings.served_row.Reads as served-row-reads
 
 abbrev Inv-loop : tie.InvT-loop
 Inv-loop served count₀ stop₀ count stop = (stop ≤ 64) × (count ≡ countBelow (λ s. ltb 0 (getD served s 0)) stop) × (count ≤ stop)
@@ -27,32 +24,25 @@ abbrev μ-loop : tie.MeasureT-loop
 counted : (p : ℕ → Bool) (stop count more : ℕ) → count ≡ countBelow p stop → pick (p stop) 1 0 ≡ more → count + more ≡ countBelow p (stop + 1)
 counted p stop count more e f = cc (countBelow-next p stop)
 
--- src/reader.rt:339:18
 served-row-requires : tie.Need-served-row-requires Inv-loop μ-loop
 served-row-requires c κs = c .pre
 
--- src/reader.rt:341:5
 loop-holds : tie.Need-loop-holds Inv-loop μ-loop
 unfolding countBelow
 loop-holds c = (omega arith, refl, omega arith)
 
--- src/reader.rt:342:16
 array-read-if1 : tie.Need-array-read-if1 Inv-loop μ-loop
 array-read-if1 c = omega arith
 
--- src/reader.rt:343:13
 add-count : tie.Need-add-count Inv-loop μ-loop
 add-count c = omega arith
 
--- src/reader.rt:341:9
 add-stop : tie.Need-add-stop Inv-loop μ-loop
 add-stop c = omega arith
 
--- src/reader.rt:341:5
 loop-less : tie.Need-loop-less Inv-loop μ-loop
 loop-less c = omega arith
 
--- src/reader.rt:341:5
 loop-again : tie.Need-loop-again Inv-loop μ-loop
 loop-again c =
     let l = c .before .before .loop in
@@ -65,7 +55,6 @@ loop-again c =
     (c .if1 .came) in
     (omega arith, next, omega (arith, next, countBelow-le marked (l .stop + 1)))
 
--- src/reader.rt:335:1
 returns : tie.Need-returns Inv-loop μ-loop
 unfolding servedStops
 returns c =

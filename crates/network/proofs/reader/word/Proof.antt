@@ -6,40 +6,30 @@ use Rattle.network.specs.Network as net
 use borrow.Author.Needs.{needs}
 use Rattle.network.proofs.reader.word.Statement.{statement}
 use Rattle.network.proofs.reader.word.Tie as tie
-use Rattle.network.proofs.reader.word.Reads as reads
-use Rattle.network.proofs.reader.word.Lts as lts
 
--- src/reader.rt:23:5
 shared-slice-read-result : tie.Need-shared-slice-read-result
 shared-slice-read-result c = search needs
 
--- src/reader.rt:23:5
 cast-result : tie.Need-cast-result
 cast-result c = omega (arith, c .shared-slice-known .given (c .before .args .at))
 
--- src/reader.rt:23:5
 mul-result : tie.Need-mul-result
 mul-result c = omega (arith, c .shared-slice-known .given (c .before .args .at))
 
--- src/reader.rt:23:36
 add-result : tie.Need-add-result
 add-result c = search needs
 
--- src/reader.rt:23:30
 shared-slice-read-result-2 : tie.Need-shared-slice-read-result-2
 shared-slice-read-result-2 c = search needs
 
--- src/reader.rt:23:30
 cast-result-2 : tie.Need-cast-result-2
 cast-result-2 c = omega (arith, c .shared-slice-known2 .given (c .before .before .args .at + 1))
 
--- src/reader.rt:23:5
 add-result-2 : tie.Need-add-result-2
 add-result-2 c =
     omega
     (arith, c .shared-slice-known2 .given (c .before .before .args .at), c .shared-slice-known2 .given (c .before .before .args .at + 1))
 
--- src/reader.rt:19:1
 returns : tie.Need-returns
 unfolding net.word
 returns c = refl

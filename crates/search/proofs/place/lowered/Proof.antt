@@ -17,9 +17,6 @@ use Rattle.search.specs.Held.{Linked, callsIn}
 use Rattle.search.proofs.Laws.Linked.{length-callsIn, calls-few, line-row-lt-16, offset-row-low, divisor-pos, divisor-le, reciprocal-is, gap-of-rows}
 use Rattle.search.proofs.place.lowered.Statement.{statement}
 use Rattle.search.proofs.place.lowered.Tie as tie
-use Rattle.search.proofs.place.lowered.Reads as reads
-use Rattle.search.proofs.place.lowered.Lts as lts
-use Rattle.search.proofs.place.gap_by.Reads as gap-by-reads
 
 -- the gap from an earlier call to the one at a place
 abbrev to : {lines offsets previous divisors : List ℕ} → Linked lines offsets previous divisors → List ℕ → ℕ → Call → ℕ

@@ -36,10 +36,6 @@ use Rattle.search.proofs.Laws.Placing.{
 }
 use Rattle.search.proofs.place.place.Statement.{statement}
 use Rattle.search.proofs.place.place.Tie as tie
-use Rattle.search.proofs.place.place.Reads as reads
-use Rattle.search.proofs.place.place.Lts as lts
-use Rattle.search.proofs.place.falls_short.Reads as falls-short-reads
-use Rattle.search.proofs.place.lowered.Reads as lowered-reads
 
 abbrev Inv-loop : tie.InvT-loop
 Inv-loop stops lines offsets previous divisors first line start best begin end next₀ i₀ next i =
