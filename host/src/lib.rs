@@ -8,6 +8,7 @@
 //! * [`files`] makes network files and sheets, good and bad, from a seed.
 //! * [`measure`] measures the engine's rate call beside the independent one.
 //! * [`program`] runs the proved engine's program `best`.
+//! * [`small`] has networks so small that every timetable can be rated.
 
 #![deny(unsafe_code)]
 
@@ -17,3 +18,4 @@ pub mod files;
 pub mod measure;
 pub mod papers;
 pub mod program;
+pub mod small;

@@ -8,42 +8,7 @@ use host::papers::rating::{
     arrivals, divisor, pair_gap, pairs, rating, rating_by_counting, rating_of_gaps, whole, Rating,
 };
 use host::papers::walk::{most_tries, walk, Answer, Walked};
-
-/// A small network: short periods, few lines, so that every timetable can be
-/// rated.
-fn small_network(dice: &mut Dice, most_timetables: u32) -> Network {
-    loop {
-        let size = Size {
-            lines: (1, 4),
-            stops: (1, 6),
-            cycle: dice.pick(&[6, 8, 12, 20, 24, 30, 36, 60, 60, 72, 210]),
-            longest: dice.pick(&[6, 12, 20, 36]),
-        };
-        let commands = valid_commands_of(dice, &size);
-        let net = read(&bytes_of(&commands)).expect("a valid file");
-        if net.periods.iter().product::<u32>() <= most_timetables {
-            return net;
-        }
-    }
-}
-
-/// The timetable after this one, the last line fastest; `None` after the last.
-fn next_timetable(net: &Network, mut starts: Vec<i64>) -> Option<Vec<i64>> {
-    for line in (0..net.lines()).rev() {
-        starts[line] += 1;
-        if starts[line] < i64::from(net.periods[line]) {
-            return Some(starts);
-        }
-        starts[line] = 0;
-    }
-    None
-}
-
-/// All timetables with each start in 0..period, in ascending order.
-fn every_timetable(net: &Network) -> impl Iterator<Item = Vec<i64>> + '_ {
-    let first = vec![0; net.lines()];
-    std::iter::successors(Some(first), |starts| next_timetable(net, starts.clone()))
-}
+use host::small::{every_timetable, small_file};
 
 /// Every timetable is rated both ways; the walk's best is the best of them, and
 /// its starts are the first of the best with line 0 at 0.
@@ -52,7 +17,7 @@ fn the_walk_finds_the_best_of_every_timetable() {
     let mut dice = Dice::new(1);
     let mut several_lines = 0;
     for _ in 0..1_500 {
-        let net = small_network(&mut dice, 20_000);
+        let (_, net) = small_file(&mut dice, 20_000);
         several_lines += usize::from(net.lines() > 2);
         let mut best: Option<Rating> = None;
         let mut first_at_zero: Option<(Rating, Vec<i64>)> = None;
@@ -87,7 +52,7 @@ fn the_walk_finds_the_best_of_every_timetable() {
 fn no_start_beyond_the_period_is_better() {
     let mut dice = Dice::new(2);
     for _ in 0..300 {
-        let net = small_network(&mut dice, 20_000);
+        let (_, net) = small_file(&mut dice, 20_000);
         let Answer::Finished { best, .. } = walk(&net, u32::MAX).answer else {
             panic!("the walk must finish");
         };
@@ -261,7 +226,7 @@ fn walk_by_the_book(net: &Network, budget: u32) -> Walked {
 fn the_walk_is_the_walk_by_the_book() {
     let mut dice = Dice::new(4);
     for _ in 0..600 {
-        let net = small_network(&mut dice, 20_000);
+        let (_, net) = small_file(&mut dice, 20_000);
         let full = walk_by_the_book(&net, u32::MAX);
         assert_eq!(walk(&net, u32::MAX), full);
         let Answer::Finished { tries, .. } = full.answer else {
@@ -282,7 +247,7 @@ fn the_walk_is_the_walk_by_the_book() {
 fn starts_have_the_rating_reported() {
     let mut dice = Dice::new(5);
     for _ in 0..500 {
-        let net = small_network(&mut dice, 20_000);
+        let (_, net) = small_file(&mut dice, 20_000);
         let budget = dice.below(200) as u32;
         let Walked { answer, starts } = walk(&net, budget);
         match (answer, starts) {
@@ -304,7 +269,7 @@ fn starts_have_the_rating_reported() {
 fn caps_and_upper_values() {
     let mut dice = Dice::new(6);
     for _ in 0..300 {
-        let net = small_network(&mut dice, 1_000_000);
+        let (_, net) = small_file(&mut dice, 1_000_000);
         for stop in 0..STOPS {
             let expected = match net.lines_at(stop).is_empty() {
                 true => None,

@@ -6,14 +6,13 @@
 //! longer run. A case is made from its number alone; a failure names it.
 
 use host::engine::{self, Counts, Mark, Rating, Refusal, Searched, Sheet};
-use host::files::{
-    any_budget, any_file, any_sheet_bytes, bytes_of, sheet_bytes, valid_commands_of, Dice, Size,
-};
+use host::files::{any_budget, any_file, any_sheet_bytes, sheet_bytes, Dice};
 use host::papers;
 use host::papers::network::{read, Network};
-use host::papers::rating::{rating, whole};
+use host::papers::rating::rating;
 use host::papers::sheets::{better_bytes, mark_bytes, rate_bytes, weighted_bytes, Better, Marked};
 use host::papers::walk::{walk, Answer, Walked};
+use host::small::{every_timetable, small_file};
 use std::panic::{catch_unwind, AssertUnwindSafe};
 use std::sync::atomic::{AtomicUsize, Ordering};
 
@@ -277,36 +276,12 @@ fn seeded_files_and_sheets() {
 // Every timetable
 // ---------------------------------------------------------------------------
 
-/// A network with at most so many timetables of starts within the periods.
-fn small_file(dice: &mut Dice, most: u32) -> (Vec<u8>, Network) {
-    loop {
-        let size = Size {
-            lines: (1, 4),
-            stops: (1, 6),
-            cycle: dice.pick(&[6, 8, 12, 20, 24, 30, 36, 60, 60, 72, 210]),
-            longest: dice.pick(&[6, 12, 20, 36]),
-        };
-        let file = bytes_of(&valid_commands_of(dice, &size));
-        let net = read(&file).expect("a valid file");
-        if net.periods.iter().product::<u32>() <= most {
-            return (file, net);
-        }
-    }
-}
-
 /// The best rating of all timetables, each start within its period.
 fn best_of_every(net: &Network) -> Rating {
-    let count: u32 = net.periods.iter().product();
-    let timetable = |mut number: u32| -> Vec<i32> {
-        let digit = |&period: &u32| {
-            let start = number % period;
-            number /= period;
-            start as i32
-        };
-        net.periods.iter().map(digit).collect()
-    };
-    let best = (0..count).map(|number| rating(net, &whole(&timetable(number))));
-    rated(best.max().expect("a timetable"))
+    let best = every_timetable(net)
+        .map(|starts| rating(net, &starts))
+        .max();
+    rated(best.expect("a timetable"))
 }
 
 /// The engine's optimum is the best of every timetable of small networks, its
