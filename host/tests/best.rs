@@ -69,6 +69,9 @@ fn the_cases_of_the_paper() {
     });
     let p9 = network(&[20, 30], calls.as_flattened());
     assert_eq!(agreed(&p9), "gap 3 sum 11 tries 31 starts 0 4\n");
+    // A cap by the half of 1, rounded down; without it 89 tries.
+    let halves = network(&[15, 20, 4], &[(0, 0, 0), (1, 0, 0), (2, 0, 0)]);
+    assert_eq!(agreed(&halves), "gap 0 sum 0 tries 25 starts 0 0 0\n");
     // Periods 1,440 and 7: the longest common cycle.
     agreed(&network(&[1_440, 7], &[(0, 0, 65_535), (1, 0, 0)]));
 }

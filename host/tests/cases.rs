@@ -183,6 +183,14 @@ fn p8_a_stop_with_one_line() {
 }
 
 #[test]
+fn caps_by_half_divisors() {
+    // Periods 15, 20 and 4: the half of 1, rounded down, is 0. By the even spacing alone it would take 89 tries.
+    let three = file(&[15, 20, 4], &[(0, 0, 0), (1, 0, 0), (2, 0, 0)]);
+    assert_eq!(searched(&three, 25), (finished(0, 0, 25), vec![0, 0, 0]));
+    assert_eq!(searched(&three, 24), (stopped(0, 0, 24), vec![0, 0, 0]));
+}
+
+#[test]
 fn p9_classes_and_search() {
     let found = classes(&net(&p9()));
     assert_eq!(found.class_row[..3], [0, 0, 2]);

@@ -2,9 +2,11 @@
 // sum, the tries and the starts; or why the file is refused.
 use libc::STDIN_FILENO;
 use libc::STDOUT_FILENO;
+use network::Network;
 use network::ReadAnswer;
 use search::SearchAnswer;
 ghost use Prim.Native.Nat.{_≤_};
+ghost use Rattle.network.specs.Network.{maxLines};
 
 const BUDGET: u32 = 1000000;
 
@@ -29,9 +31,9 @@ fn run(file: &[u8]) {
 }
 
 fn find(file: &[u8], lines: usize)
-    requires { ⌜ lines ≤ 16 ⌝ }
+    requires { ⌜ lines ≤ maxLines ⌝ }
 {
-    let mut row = [0i32; 16];
+    let mut row = [0i32; Network::MAX_LINES];
     let starts = &mut row[..lines];
     let answer = search::call::search(file, starts, BUDGET);
     match answer {

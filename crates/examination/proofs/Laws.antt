@@ -1,5 +1,4 @@
 -- The laws of the definitions of `specs/`.
 pub mod Bytes
 pub mod Chosen
-pub mod Places
 pub mod Refusals

@@ -1,74 +1,123 @@
 -- What a mark means: decided and equal, no choice of whole-number starts rates above the sheet; decided and not equal, some choice does, and the
--- best rating is its rating. Of the search's theorems it uses those on its optimality alone. Assumes nothing.
+-- best rating is its rating; undecided only where the budget was too small. Of the search's proofs it cites the page of its demands alone.
+-- Assumes nothing.
 use Prim.Native.Nat.{ℕ, _<_, _≤_}
 use mathlib.Core.Path.{_≡_, refl, sym, ap, _∙_}
 use mathlib.Core.Bool.{Bool, true, false, _&&_}
 use mathlib.Core.List.{List}
-use mathlib.Core.Logic.{_⊎_, inl, inr, ⊎-elim}
+use mathlib.Core.Logic.{_⊎_, inl, inr}
 use native.Mathlib.Omega.{arith}
 use borrow.Author.Tests.{eqb-true, eqb-false, eq-eqb}
-use borrow.Fn.World.{ArgsD, ResD}
-use borrow.Fn.Kinds.{endedOf}
-use contract.Lifetimes.{Lfts}
-use denote.Triple.Clauses.{AtExit}
 use lib.Dec.{eqb}
 use lib.IntN.{ℤ}
 use lib.ListN.{length}
 use Rattle.network.specs.Lists.{pick}
-use Rattle.network.specs.Network.{Net}
+use Rattle.network.specs.Network.{Net, maxPeriod}
 use Rattle.network.specs.Rating.{IsRating, rating}
 use Rattle.network.specs.Reading.{Reading, accepted, readFile}
 use Rattle.network.specs.Valid.{IsBytes}
 use Rattle.network.proofs.Laws.Gaps.{accepted-valid, rating-is-rating}
 use Rattle.network.proofs.Laws.Lists.{zero-ne-one}
-use Rattle.search.specs.Search.{SearchOutcome, finished, stopped, stoppedWithNone, searchOutcome, startRowAfter}
+use Rattle.search.specs.Search.{SearchOutcome, finished, stopped, stoppedWithNone, triesOf, searchOutcome, startRowAfter}
 use Rattle.search.specs.Search as search
-use Rattle.search.proofs.Demand3.{Searches, finished-has-its-rating, finished-fills-the-row, finished-is-best}
-use Rattle.examination.proofs.marking.mark as mark
-use Rattle.examination.proofs.marking.mark.Kinds as kinds
-use Rattle.examination.proofs.marking.mark.Reads as mark-contract
-use Rattle.examination.specs.Sheets.{MarkOutcome, markAnswer, decided, undecided, refusal, fits, marked, markOutcome}
+use Rattle.search.proofs.Demands.{Searches, demandedBound, Demand3, Answers, demand-3, answers}
+use Rattle.examination.specs.Sheets.{MarkOutcome, decided, undecided, refusal, fits, marked, markOutcome}
 
--- A mark call by its contract
+-- ---- What is demanded, of an accepted network, the sheet and the budget as lent, and the answer
+
+pub record MarkMeans (n : Net) (sheet : List ℤ) (budget : ℕ) (answer : MarkOutcome) : Type 0 where
+  -- the sheet's rating is its own
+  pub decided-rating : {least sum bestLeast bestSum : ℕ} {equal : Bool} {tries : ℕ} → answer ≡ decided least sum bestLeast bestSum equal tries
+      → IsRating n sheet least sum
+  pub undecided-rating : {least sum tries : ℕ} → answer ≡ undecided least sum tries → IsRating n sheet least sum
+  -- the best rating is that of some whole-number starts, and of no choice of them is the rating above it
+  pub best-is-attained : {least sum bestLeast bestSum : ℕ} {equal : Bool} {tries : ℕ} → answer ≡ decided least sum bestLeast bestSum equal tries
+      → (starts : List ℤ) × (length starts ≡ length (n .periods)) × IsRating n starts bestLeast bestSum
+  pub best-is-unbeaten : {least sum bestLeast bestSum : ℕ} {equal : Bool} {tries : ℕ} → answer ≡ decided least sum bestLeast bestSum equal tries
+      → (starts : List ℤ) → length starts ≡ length (n .periods) → {least′ sum′ : ℕ} → IsRating n starts least′ sum′
+      → (least′ < bestLeast) ⊎ ((least′ ≡ bestLeast) × (sum′ ≤ bestSum))
+  -- equal: no choice of whole-number starts rates above this sheet
+  pub equal-is-unbeaten : {least sum bestLeast bestSum tries : ℕ} → answer ≡ decided least sum bestLeast bestSum true tries
+      → (starts : List ℤ) → length starts ≡ length (n .periods) → {least′ sum′ : ℕ} → IsRating n starts least′ sum′
+      → (least′ < least) ⊎ ((least′ ≡ least) × (sum′ ≤ sum))
+  -- not equal: some do, and the best rating is theirs
+  pub unequal-is-beaten : {least sum bestLeast bestSum tries : ℕ} → answer ≡ decided least sum bestLeast bestSum false tries
+      → (least < bestLeast) ⊎ ((least ≡ bestLeast) × (sum < bestSum))
+  -- the tries are within demand 3's bound and the budget; undecided, they are the budget
+  pub decided-tries : {least sum bestLeast bestSum : ℕ} {equal : Bool} {tries : ℕ} → answer ≡ decided least sum bestLeast bestSum equal tries
+      → (tries ≤ demandedBound n) × (tries ≤ budget)
+  pub undecided-tries : {least sum tries : ℕ} → answer ≡ undecided least sum tries → (tries ≤ demandedBound n) × (tries ≡ budget)
+  -- under a budget of at least the bound it is never undecided
+  pub decides : length sheet ≡ length (n .periods) → demandedBound n ≤ budget
+      → (least : ℕ) × (sum : ℕ) × (bestLeast : ℕ) × (bestSum : ℕ) × (equal : Bool) × (tries : ℕ)
+      × (answer ≡ decided least sum bestLeast bestSum equal tries)
+
+-- ---- A mark by its definition
+
+-- What the contract in src/marking.rt says
 pub record Marks (file : List ℕ) (sheet : List ℤ) (budget : ℕ) (answer : MarkOutcome) : Type 0 where
   pub bytes : IsBytes file
   pub answered : answer ≡ markOutcome (readFile file) sheet budget
 
--- What the contract in src/marking.rt says is this record
-pub marks-by-contract : (κs : Lfts 2) (a : ArgsD mark.signature κs) (r : ResD mark.signature κs) (s : AtExit (endedOf 2 kinds.ps kinds.r) κs)
-    → IsBytes (a .0 .now) → mark-contract.Post κs a r s → Marks (a .0 .now) (a .1 .0 .now) (a .1 .1 .0) (markAnswer r)
-marks-by-contract κs a r s bytes post = record { bytes = bytes; answered = post }
-
--- What a decided mark tells of the sheet and of the search
-record Told (n : Net) (sheet : List ℤ) (budget least sum bestLeast bestSum : ℕ) (equal : Bool) (tries : ℕ) : Type 0 where
+-- What a mark that isn't a refusal tells of the sheet and of the search
+record Told (n : Net) (sheet : List ℤ) (budget least sum : ℕ) (searched : SearchOutcome) : Type 0 where
   fit : length sheet ≡ length (n .periods)
   its-least : rating n sheet .least ≡ least
   its-sum : rating n sheet .sum ≡ sum
-  searched : searchOutcome (accepted n) (length sheet) budget ≡ finished bestLeast bestSum tries
-  compared : (eqb least bestLeast && eqb sum bestSum) ≡ equal
+  found : searchOutcome (accepted n) (length sheet) budget ≡ searched
 
-module _ (n : Net) (sheet : List ℤ) (budget : ℕ) {least sum bestLeast bestSum : ℕ} {equal : Bool} {tries : ℕ} where
-  told-by : (o : SearchOutcome) → length sheet ≡ length (n .periods) → searchOutcome (accepted n) (length sheet) budget ≡ o
-      → marked (rating n sheet .least) (rating n sheet .sum) o ≡ decided least sum bestLeast bestSum equal tries
-      → Told n sheet budget least sum bestLeast bestSum equal tries
-  unfolding marked
-  told-by (finished l s t) f q e =
-      record { fit = f; its-least = cc; its-sum = cc; searched = q ∙ cc; compared = cc }
-  told-by (stopped l s t) f q e = absurd (zero-ne-one (cc))
-  told-by (stoppedWithNone t) f q e = absurd (zero-ne-one (cc))
-  told-by (search.refusal k p) f q e = absurd (zero-ne-one (cc))
+abbrev ToldDecided : Net → List ℤ → ℕ → ℕ → ℕ → ℕ → ℕ → Bool → ℕ → Type 0
+ToldDecided n sheet budget least sum bestLeast bestSum equal tries =
+    Told n sheet budget least sum (finished bestLeast bestSum tries) × ((eqb least bestLeast && eqb sum bestSum) ≡ equal)
 
-  told-of-decided : markOutcome (accepted n) sheet budget ≡ decided least sum bestLeast bestSum equal tries
-      → Told n sheet budget least sum bestLeast bestSum equal tries
+abbrev ToldUndecided : Net → List ℤ → ℕ → ℕ → ℕ → ℕ → Type 0
+ToldUndecided n sheet budget least sum tries =
+    ((l : ℕ) × (s : ℕ) × Told n sheet budget least sum (stopped l s tries)) ⊎ Told n sheet budget least sum (stoppedWithNone tries)
+
+module _ (n : Net) (sheet : List ℤ) (budget : ℕ) where
+  -- By whether the sheet fits, and by what the search answers
+  mark-cases : (P : MarkOutcome → Type 0)
+      → P (refusal 15 0)
+      → (length sheet ≡ length (n .periods) → (o : SearchOutcome) → searchOutcome (accepted n) (length sheet) budget ≡ o
+      → P (marked (rating n sheet .least) (rating n sheet .sum) o))
+      → P (markOutcome (accepted n) sheet budget)
   unfolding markOutcome fits
-  told-of-decided = go (eqb (length sheet) (length (n .periods))) refl
+  mark-cases P unfit fit = go (eqb (length sheet) (length (n .periods))) refl
     where
       go : (b : Bool) → eqb (length sheet) (length (n .periods)) ≡ b
-          → pick b (marked (rating n sheet .least) (rating n sheet .sum) (searchOutcome (accepted n) (length sheet) budget)) (refusal 15 0)
-          ≡ decided least sum bestLeast bestSum equal tries
-          → Told n sheet budget least sum bestLeast bestSum equal tries
-      go true f e = told-by (searchOutcome (accepted n) (length sheet) budget) (eqb-true _ _ f) refl e
-      go false f e = absurd (zero-ne-one (cc))
+          → P (pick b (marked (rating n sheet .least) (rating n sheet .sum) (searchOutcome (accepted n) (length sheet) budget)) (refusal 15 0))
+      go true f = fit (eqb-true _ _ f) _ refl
+      go false f = unfit
+
+  told-of-decided : {least sum bestLeast bestSum : ℕ} {equal : Bool} {tries : ℕ}
+      → markOutcome (accepted n) sheet budget ≡ decided least sum bestLeast bestSum equal tries
+      → ToldDecided n sheet budget least sum bestLeast bestSum equal tries
+  unfolding marked
+  told-of-decided {least} {sum} {bestLeast} {bestSum} {equal} {tries} =
+      mark-cases (λ m. m ≡ decided least sum bestLeast bestSum equal tries → ToldDecided n sheet budget least sum bestLeast bestSum equal tries)
+      (λ e. absurd (zero-ne-one (cc))) go
+    where
+      go : length sheet ≡ length (n .periods) → (o : SearchOutcome) → searchOutcome (accepted n) (length sheet) budget ≡ o
+          → marked (rating n sheet .least) (rating n sheet .sum) o ≡ decided least sum bestLeast bestSum equal tries
+          → ToldDecided n sheet budget least sum bestLeast bestSum equal tries
+      go f (finished l s t) q e = (record { fit = f; its-least = cc; its-sum = cc; found = q ∙ cc }, cc)
+      go f (stopped l s t) q e = absurd (zero-ne-one (cc))
+      go f (stoppedWithNone t) q e = absurd (zero-ne-one (cc))
+      go f (search.refusal k p) q e = absurd (zero-ne-one (cc))
+
+  told-of-undecided : {least sum tries : ℕ} → markOutcome (accepted n) sheet budget ≡ undecided least sum tries
+      → ToldUndecided n sheet budget least sum tries
+  unfolding marked
+  told-of-undecided {least} {sum} {tries} =
+      mark-cases (λ m. m ≡ undecided least sum tries → ToldUndecided n sheet budget least sum tries) (λ e. absurd (zero-ne-one (cc))) go
+    where
+      go : length sheet ≡ length (n .periods) → (o : SearchOutcome) → searchOutcome (accepted n) (length sheet) budget ≡ o
+          → marked (rating n sheet .least) (rating n sheet .sum) o ≡ undecided least sum tries
+          → ToldUndecided n sheet budget least sum tries
+      go f (finished l s t) q e = absurd (zero-ne-one (cc))
+      go f (stopped l s t) q e = inl (l, s, record { fit = f; its-least = cc; its-sum = cc; found = q ∙ cc })
+      go f (stoppedWithNone t) q e = inr (record { fit = f; its-least = cc; its-sum = cc; found = q ∙ cc })
+      go f (search.refusal k p) q e = absurd (zero-ne-one (cc))
 
 -- Two ratings of which the one isn't above the other are equal, or the one is below
 below-or-equal : (least sum bestLeast bestSum : ℕ) → (eqb least bestLeast && eqb sum bestSum) ≡ false
@@ -85,42 +134,84 @@ and-eq a b c d = go (eqb a b) (eqb c d) refl refl
     go true false p q e = absurd (zero-ne-one (cc))
     go false y p q e = absurd (zero-ne-one (cc))
 
--- A decided mark of a sheet on an accepted file
+-- A mark of a sheet on an accepted file
 module _ {file : List ℕ} {sheet : List ℤ} {budget : ℕ} {answer : MarkOutcome} (call : Marks file sheet budget answer)
-    {n : Net} (reads : readFile file ≡ accepted n) {least sum bestLeast bestSum : ℕ} {equal : Bool} {tries : ℕ}
-    (is : answer ≡ decided least sum bestLeast bestSum equal tries) where
-  told : Told n sheet budget least sum bestLeast bestSum equal tries
-  told =
-      told-of-decided n sheet budget
-      (sym (ap (λ (read : Reading). markOutcome read sheet budget) reads) ∙ sym (call .answered) ∙ is)
-
+    {n : Net} (reads : readFile file ≡ accepted n) where
   -- The search that it rests on, with the sheet for a start row
   searches : Searches file sheet budget (searchOutcome (readFile file) (length sheet) budget) (startRowAfter (readFile file) budget sheet)
   searches = record { bytes = call .bytes; answered = refl; left = refl }
 
-  ended : searchOutcome (readFile file) (length sheet) budget ≡ finished bestLeast bestSum tries
-  ended = ap (λ (read : Reading). searchOutcome read (length sheet) budget) reads ∙ told .searched
+  of-search : Demand3 n sheet budget (searchOutcome (readFile file) (length sheet) budget) (startRowAfter (readFile file) budget sheet)
+  of-search = demand-3 searches reads
 
-  -- The sheet has the rating that is reported
-  pub sheet-has-its-rating : IsRating n sheet least sum
-  sheet-has-its-rating =
-      rw (← told .its-least, ← told .its-sum) (rating-is-rating n (accepted-valid file n (call .bytes) reads) sheet)
+  its-answers : Answers n sheet budget (searchOutcome (readFile file) (length sheet) budget) (startRowAfter (readFile file) budget sheet)
+  its-answers = answers searches reads
 
-  -- Equal: no list of integer starts rates above this sheet
-  pub equal-is-unbeaten : equal ≡ true → (starts : List ℤ) → length starts ≡ length (n .periods)
-      → {least′ sum′ : ℕ} → IsRating n starts least′ sum′ → (least′ < least) ⊎ ((least′ ≡ least) × (sum′ ≤ sum))
-  equal-is-unbeaten e starts f r =
-      let same = and-eq least bestLeast sum bestSum (told .compared ∙ e) in
-      rw (same .0, same .1) (finished-is-best searches reads ended starts f r)
+  answer-is : {m : MarkOutcome} → answer ≡ m → markOutcome (accepted n) sheet budget ≡ m
+  answer-is e = sym (ap (λ (read : Reading). markOutcome read sheet budget) reads) ∙ sym (call .answered) ∙ e
 
-  -- Not equal: some starts rate above it, and the best rating is theirs
-  pub unequal-is-beaten : equal ≡ false
-      → (starts : List ℤ) × (length starts ≡ length (n .periods)) × IsRating n starts bestLeast bestSum
-      × ((least < bestLeast) ⊎ ((least ≡ bestLeast) × (sum < bestSum)))
-  unequal-is-beaten e = (
-    startRowAfter (readFile file) budget sheet,
-    finished-fills-the-row searches reads ended,
-    finished-has-its-rating searches reads ended,
-    below-or-equal least sum bestLeast bestSum (told .compared ∙ e)
-        (finished-is-best searches reads ended sheet (told .fit) sheet-has-its-rating),
+  found-is : {o : SearchOutcome} → searchOutcome (accepted n) (length sheet) budget ≡ o → searchOutcome (readFile file) (length sheet) budget ≡ o
+  found-is e = ap (λ (read : Reading). searchOutcome read (length sheet) budget) reads ∙ e
+
+  rated : {least sum : ℕ} {o : SearchOutcome} → Told n sheet budget least sum o → IsRating n sheet least sum
+  rated t = rw (← t .its-least, ← t .its-sum) (rating-is-rating n (accepted-valid file n (call .bytes) reads) sheet)
+
+  tries-are : {o : SearchOutcome} → searchOutcome (accepted n) (length sheet) budget ≡ o
+      → (triesOf o ≤ demandedBound n) × (triesOf o ≤ budget)
+  tries-are e = (rw (found-is e) at (of-search .tries-at-most), rw (found-is e) at (its-answers .tries-within))
+
+  module _ {least sum tries : ℕ} (is : answer ≡ undecided least sum tries) where
+    undecided-told : ToldUndecided n sheet budget least sum tries
+    undecided-told = told-of-undecided n sheet budget (answer-is is)
+
+    undecided-is-rated : IsRating n sheet least sum
+    undecided-is-rated = go undecided-told
+      where
+        go : ToldUndecided n sheet budget least sum tries → IsRating n sheet least sum
+        go (inl t) = rated (t .2)
+        go (inr t) = rated t
+
+    undecided-at-budget : (tries ≤ demandedBound n) × (tries ≡ budget)
+    undecided-at-budget = go undecided-told
+      where
+        go : ToldUndecided n sheet budget least sum tries → (tries ≤ demandedBound n) × (tries ≡ budget)
+        go (inl t) = (tries-are (t .2 .found) .0, its-answers .stopped-at-budget (found-is (t .2 .found)))
+        go (inr t) = (tries-are (t .found) .0, its-answers .none-at-budget (found-is (t .found)) .0)
+
+  -- Where the search finishes, the mark is decided
+  decided-of-finished : length sheet ≡ length (n .periods)
+      → (least : ℕ) × (sum : ℕ) × (tries : ℕ) × (searchOutcome (readFile file) (length sheet) budget ≡ finished least sum tries)
+      → (least : ℕ) × (sum : ℕ) × (bestLeast : ℕ) × (bestSum : ℕ) × (equal : Bool) × (tries : ℕ)
+      × (answer ≡ decided least sum bestLeast bestSum equal tries)
+  unfolding markOutcome fits marked
+  decided-of-finished fit (bestLeast, bestSum, tries, e) = (
+    rating n sheet .least,
+    rating n sheet .sum,
+    bestLeast,
+    bestSum,
+    eqb (rating n sheet .least) bestLeast && eqb (rating n sheet .sum) bestSum,
+    tries,
+    call .answered
+        ∙ rw (reads, eq-eqb _ _ fit, sym (ap (λ (read : Reading). searchOutcome read (length sheet) budget) reads) ∙ e) refl,
   )
+
+  pub mark-means : MarkMeans n sheet budget answer
+  mark-means =
+      record {
+        decided-rating = λ e. rated (told-of-decided n sheet budget (answer-is e) .0);
+        undecided-rating = undecided-is-rated;
+        best-is-attained = λ e.
+            let q = of-search .finished-has-its-rating (found-is (told-of-decided n sheet budget (answer-is e) .0 .found)) in
+            (startRowAfter (readFile file) budget sheet, q .0, q .1);
+        best-is-unbeaten = λ e. of-search .finished-is-best (found-is (told-of-decided n sheet budget (answer-is e) .0 .found));
+        equal-is-unbeaten = λ {least} {sum} {bestLeast} {bestSum} e starts f q.
+            let t = told-of-decided n sheet budget (answer-is e) in
+            let same = and-eq least bestLeast sum bestSum (t .1) in
+            rw (same .0, same .1) (of-search .finished-is-best (found-is (t .0 .found)) starts f q);
+        unequal-is-beaten = λ {least} {sum} {bestLeast} {bestSum} e.
+            let t = told-of-decided n sheet budget (answer-is e) in
+            below-or-equal least sum bestLeast bestSum (t .1) (of-search .finished-is-best (found-is (t .0 .found)) sheet (t .0 .fit) (rated (t .0)));
+        decided-tries = λ e. tries-are (told-of-decided n sheet budget (answer-is e) .0 .found);
+        undecided-tries = undecided-at-budget;
+        decides = λ fit enough. decided-of-finished fit (of-search .finishes fit enough);
+      }

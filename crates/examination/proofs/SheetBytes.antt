@@ -7,6 +7,7 @@ use mathlib.Core.List.{List, [], _∷_}
 use native.Mathlib.Omega.{arith}
 use borrow.Author.Tests.{lt-ltb, le-ltb}
 use lib.IntN.{ℤ, pos, negsuc, _-ℤ_}
+use lib.ListN.{length}
 use Rattle.network.specs.Lists.{pick}
 use Rattle.network.proofs.Laws.Integers.{difference, difference-pos, difference-sub, eq-of-difference}
 use Rattle.examination.specs.Bytes.{signed, starts}
@@ -45,6 +46,11 @@ unfolding starts bytesOf
 starts-of-bytes [] none = refl
 starts-of-bytes (x ∷ rest) (next h r) =
     ap₂ (λ (y : ℤ) (ys : List ℤ). y ∷ ys) (ap signed (joined (complement x)) ∙ signed-complement x h) (starts-of-bytes rest r)
+
+pub length-bytesOf : (sheet : List ℤ) → length (bytesOf sheet) ≡ 4 * length sheet
+unfolding bytesOf
+length-bytesOf [] = refl
+length-bytesOf (x ∷ rest) = omega (arith, length-bytesOf rest)
 
 -- Both ends, and about 0
 pub ends : starts (128 ∷ 0 ∷ 0 ∷ 0 ∷ 127 ∷ 255 ∷ 255 ∷ 255 ∷ 255 ∷ 255 ∷ 255 ∷ 255 ∷ 0 ∷ 0 ∷ 0 ∷ 0 ∷ [])

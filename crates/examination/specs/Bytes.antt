@@ -1,6 +1,7 @@
 -- Document 01, "Sheets", the host program: a sheet as 4 bytes for each start, two's complement, most significant first; a byte count other
 -- than 4×lines is ground 15, after the file's grounds.
 use Prim.Native.Nat.{ℕ, _+_, _*_}
+use mathlib.Core.Path.{_≡_}
 use mathlib.Core.Bool.{Bool}
 use mathlib.Core.List.{List, [], _∷_}
 use lib.Dec.{eqb, ltb}
@@ -27,6 +28,10 @@ starts (a ∷ b ∷ c ∷ []) = []
 -- There are 4 bytes for each line
 unfoldable pub bytesFit : Net → List ℕ → Bool
 bytesFit n bytes = eqb (length bytes) (4 * length (n .periods))
+
+-- 15: there aren't ("Grounds for refusing", of a sheet handed over as bytes)
+abbrev pub BytesUnfit : List ℕ → Net → Type 0
+BytesUnfit bytes n = length bytes ≡ 4 * length (n .periods) → ⊥
 
 -- A call on a file and a sheet, the sheet being handed over as bytes: the file's refusal, then ground 15, then the call's answer on the starts
 unfoldable pub byBytes : {A : Type 0} → (Reading → List ℤ → A) → (ℕ → ℕ → A) → Reading → List ℕ → A

@@ -1,5 +1,6 @@
 -- docs/ABI.md: what an export returns, and what it leaves in its answer row.
-use Prim.Native.Nat.{ℕ, _+_, _*_}
+use Prim.Native.Nat.{ℕ, _+_, _*_, _/_, _%_, _≤_}
+use mathlib.Core.Path.{_≡_}
 use mathlib.Core.Bool.{Bool, true, false}
 use mathlib.Core.List.{List, [], _∷_}
 use Rattle.network.specs.Reading.{Outcome, values, refusal}
@@ -8,9 +9,17 @@ use Rattle.search.specs.Search as search
 use Rattle.examination.specs.Sheets.{Better, first, second, neither, MarkOutcome, decided, undecided}
 use Rattle.examination.specs.Sheets as sheets
 
+-- More than any place that a refusal names
+abbrev pub placeLimit : ℕ
+placeLimit = 65536
+
 -- A refusal as one number
 unfoldable pub refusalCode : ℕ → ℕ → ℕ
-refusalCode number place = 65536 * number + place
+refusalCode number place = placeLimit * number + place
+
+-- A return value that tells a refusal, with its number and place
+abbrev pub TellsRefusal : ℕ → ℕ → ℕ → Type 0
+TellsRefusal returned number place = (placeLimit ≤ returned) × (returned / placeLimit ≡ number) × (returned % placeLimit ≡ place)
 
 -- Read, rate, the weighted rating and the class call: 0, and the answer's values in the row; a refusal leaves the row as it was
 unfoldable pub status : Outcome → ℕ
@@ -20,11 +29,6 @@ status (refusal number place) = refusalCode number place
 unfoldable pub rowAfter : Outcome → List ℕ → List ℕ
 rowAfter (values vs) row = vs
 rowAfter (refusal number place) row = row
-
--- The place that an answer names, 0 where it is no refusal
-unfoldable pub placeOf : Outcome → ℕ
-placeOf (values vs) = 0
-placeOf (refusal number place) = place
 
 -- The search: 0 finished, 1 stopped with a best, 2 stopped with none; the best rating, 0 and 0 where there is none, and the tries
 unfoldable pub searchStatus : SearchOutcome → ℕ

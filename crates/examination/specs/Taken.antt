@@ -15,13 +15,17 @@ use Rattle.examination.specs.Bytes.{signed, starts}
 unfoldable pub startAt : List ℕ → ℕ → ℤ
 startAt bytes at = signed (word bytes at * 65536 + word bytes (at + 2))
 
+-- One more than a network has lines
+abbrev pub places : ℕ
+places = 17
+
 -- A whole number of starts, at most 16
 unfoldable pub isWhole : ℕ → Bool
-isWhole bytes = eqb (bytes % 4) 0 && ltb (bytes / 4) 17
+isWhole bytes = eqb (bytes % 4) 0 && ltb (bytes / 4) places
 
 -- The sheet that the bytes stand for
 unfoldable pub sheetOf : List ℕ → List ℤ
-sheetOf bytes = pick (isWhole (length bytes)) (starts bytes) (replicate 17 (pos 0))
+sheetOf bytes = pick (isWhole (length bytes)) (starts bytes) (replicate places (pos 0))
 
 -- The sheet that is held: the first places of its row
 unfoldable pub held : Sheet → List ℤ

@@ -6,6 +6,7 @@ use network::rate::rate;
 ghost use mathlib.Core.Path.{_≡_};
 ghost use mathlib.Core.List.{[]};
 ghost use Rattle.network.specs.Reading.{readFile};
+ghost use Rattle.network.specs.Valid.{IsBytes};
 ghost use Rattle.examination.specs.Chosen.{ratingFrom};
 ghost use Rattle.examination.specs.Sheets as sheets;
 
@@ -25,7 +26,8 @@ pub fn rating_from(answer: RateAnswer) -> Rating
 
 // Which of two sheets is the better.
 pub fn choose(file: &[u8], first: &[i32], second: &[i32]) -> Choice
-    ensures { λ r. ⌜ sheets.choiceOf r ≡ sheets.betterOf (readFile (now (file .entry))) (now (first .entry)) (now (second .entry)) ⌝ }
+    ensures choice { λ r. ⌜ sheets.choiceOf r ≡ sheets.betterOf (readFile (now (file .entry))) (now (first .entry)) (now (second .entry)) ⌝ }
+    ensures bytes { λ _. ⌜ IsBytes (now (file .entry)) ⌝ }
 {
     let one = rating_from(rate(file, first));
     let other = rating_from(rate(file, second));
@@ -44,6 +46,7 @@ pub fn better<'a>(file: &[u8], first: &'a [i32], second: &'a [i32]) -> &'a [i32]
     ensures first { λ r. ⌜ (sheets.betterOf (readFile (now (file .entry))) (now (first .entry)) (now (second .entry)) ≡ sheets.first → r ≡ first .entry) ⌝ }
     ensures second { λ r. ⌜ (sheets.betterOf (readFile (now (file .entry))) (now (first .entry)) (now (second .entry)) ≡ sheets.second → r ≡ second .entry) ⌝ }
     ensures neither { λ r. ⌜ (sheets.betterOf (readFile (now (file .entry))) (now (first .entry)) (now (second .entry)) ≡ sheets.neither → (r .ptr ≡ first .entry .ptr) × (r .now ≡ [])) ⌝ }
+    ensures bytes { λ _. ⌜ IsBytes (now (file .entry)) ⌝ }
 {
     let choice = choose(file, first, second);
     match choice {

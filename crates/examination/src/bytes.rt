@@ -25,16 +25,19 @@ pub fn start_at(bytes: &[u8], at: usize) -> i32
 pub fn sheet_of(bytes: &[u8]) -> Sheet
     ensures { λ r. ⌜ (r .count ≤ length (r .starts)) × (taken.held r ≡ taken.sheetOf (now (bytes .entry))) ⌝ }
 {
-    let mut starts = [0i32; 17];
+    let mut starts = [0i32; Sheet::PLACES];
     let length = bytes.len();
     let count = length / 4;
     if length % 4 == 0 {
-        if count < 17 {
+        if count < Sheet::PLACES {
             for i in 0..count {
                 starts[i] = start_at(bytes, i * 4);
             }
             return Sheet { count, starts };
         }
     }
-    Sheet { count: 17, starts }
+    Sheet {
+        count: Sheet::PLACES,
+        starts,
+    }
 }

@@ -15,23 +15,27 @@ use search::SearchAnswer;
 use search::call::search;
 ghost use mathlib.Core.Path.{_≡_};
 ghost use mathlib.Core.List.{List};
-ghost use Prim.Native.Nat.{_<_};
+ghost use Prim.Native.Nat.{ℕ, _<_};
 ghost use lib.IntN.{ℤ};
 ghost use lib.ListN.{length};
 ghost use Rattle.network.specs.ClassCall as call;
 ghost use Rattle.network.specs.Rate.{rateAnswer, rateOutcome};
 ghost use Rattle.network.specs.Reading.{Reading, readFile, readOutcome, refusal};
+ghost use Rattle.network.specs.Valid.{IsBytes};
 ghost use Rattle.search.specs.Search.{searchOutcome, startRowAfter};
 ghost use Rattle.examination.specs.Bytes as bytes;
 ghost use Rattle.examination.specs.Exports as export;
 ghost use Rattle.examination.specs.Sheets as sheets;
 
+// More than any place: a refusal is its number times this, plus its place.
+const PLACE_LIMIT: u32 = 65536;
+
 // A refusal as one number.
 pub fn refusal_code(number: u8, place: usize) -> u32
-    requires { ⌜ place < 65536 ⌝ }
+    requires { ⌜ place < export.placeLimit ⌝ }
     ensures { λ r. ⌜ r ≡ export.refusalCode number place ⌝ }
 {
-    number as u32 * 65536 + place as u32
+    number as u32 * PLACE_LIMIT + place as u32
 }
 
 // 1 where the test holds, else 0.
@@ -43,7 +47,7 @@ pub fn one_if(test: bool) -> u32
 
 // A rating's two numbers into the answer row, or a refusal; and what the export returns.
 pub fn put_rating(told: RateAnswer, answer: &mut [u32; 2]) -> u32
-    requires { ⌜ export.placeOf (rateAnswer told) < 65536 ⌝ }
+    requires { ⌜ ((number place : ℕ) → rateAnswer told ≡ refusal number place → place < export.placeLimit) ⌝ }
     ensures returned { λ r. ⌜ r ≡ export.status (rateAnswer told) ⌝ }
     ensures row { λ _. ⌜ now (answer .exit) ≡ export.rowAfter (rateAnswer told) (now (answer .entry)) ⌝ }
 {
@@ -61,6 +65,7 @@ pub fn put_rating(told: RateAnswer, answer: &mut [u32; 2]) -> u32
 pub extern "C" fn examination_read(file: &[u8], answer: &mut [u32; 4]) -> u32
     ensures returned { λ r. ⌜ r ≡ export.status (readOutcome (readFile (now (file .entry)))) ⌝ }
     ensures row { λ _. ⌜ now (answer .exit) ≡ export.rowAfter (readOutcome (readFile (now (file .entry)))) (now (answer .entry)) ⌝ }
+    ensures bytes { λ _. ⌜ IsBytes (now (file .entry)) ⌝ }
 {
     let told = read(file);
     match told {
@@ -82,6 +87,7 @@ pub extern "C" fn examination_read(file: &[u8], answer: &mut [u32; 4]) -> u32
 pub extern "C" fn examination_rate(file: &[u8], sheet: &[u8], answer: &mut [u32; 2]) -> u32
     ensures returned { λ r. ⌜ r ≡ export.status (bytes.byBytes rateOutcome refusal (readFile (now (file .entry))) (now (sheet .entry))) ⌝ }
     ensures row { λ _. ⌜ now (answer .exit) ≡ export.rowAfter (bytes.byBytes rateOutcome refusal (readFile (now (file .entry))) (now (sheet .entry))) (now (answer .entry)) ⌝ }
+    ensures bytes { λ _. ⌜ IsBytes (now (file .entry)) ⌝ }
 {
     let taken = sheet_of(sheet);
     let starts = taken.starts;
@@ -95,6 +101,7 @@ pub extern "C" fn examination_rate(file: &[u8], sheet: &[u8], answer: &mut [u32;
 pub extern "C" fn examination_weighted(file: &[u8], sheet: &[u8], answer: &mut [u32; 2]) -> u32
     ensures returned { λ r. ⌜ r ≡ export.status (bytes.byBytes call.weightedOutcome refusal (readFile (now (file .entry))) (now (sheet .entry))) ⌝ }
     ensures row { λ _. ⌜ now (answer .exit) ≡ export.rowAfter (bytes.byBytes call.weightedOutcome refusal (readFile (now (file .entry))) (now (sheet .entry))) (now (answer .entry)) ⌝ }
+    ensures bytes { λ _. ⌜ IsBytes (now (file .entry)) ⌝ }
 {
     let taken = sheet_of(sheet);
     let starts = taken.starts;
@@ -115,6 +122,7 @@ pub extern "C" fn examination_classes(
     ensures row { λ _. ⌜ now (answer .exit) ≡ export.rowAfter (call.classOutcome (readFile (now (file .entry))) (length (now («class_row» .entry))) (length (now («weight_row» .entry)))) (now (answer .entry)) ⌝ }
     ensures classes { λ _. ⌜ now («class_row» .exit) ≡ call.classRowAfter (readFile (now (file .entry))) (now («class_row» .entry)) (now («weight_row» .entry)) ⌝ }
     ensures weights { λ _. ⌜ now («weight_row» .exit) ≡ call.weightRowAfter (readFile (now (file .entry))) (now («class_row» .entry)) (now («weight_row» .entry)) ⌝ }
+    ensures bytes { λ _. ⌜ IsBytes (now (file .entry)) ⌝ }
 {
     let told = classes(file, class_row, weight_row);
     match told {
@@ -137,6 +145,7 @@ pub extern "C" fn examination_search(
     ensures returned { λ r. ⌜ r ≡ export.searchStatus (searchOutcome (readFile (now (file .entry))) (length (now («start_row» .entry))) budget) ⌝ }
     ensures row { λ _. ⌜ now (answer .exit) ≡ export.searchRow (searchOutcome (readFile (now (file .entry))) (length (now («start_row» .entry))) budget) (now (answer .entry)) ⌝ }
     ensures starts { λ _. ⌜ now («start_row» .exit) ≡ startRowAfter (readFile (now (file .entry))) budget (now («start_row» .entry)) ⌝ }
+    ensures bytes { λ _. ⌜ IsBytes (now (file .entry)) ⌝ }
 {
     let told = search(file, start_row, budget);
     match told {
@@ -159,7 +168,8 @@ pub extern "C" fn examination_search(
 // Better-of-two, both sheets as bytes: 1 the first, 2 the second, 0 neither.
 #[no_mangle]
 pub extern "C" fn examination_better(file: &[u8], first: &[u8], second: &[u8]) -> u32
-    ensures { λ r. ⌜ r ≡ export.betterStatus (bytes.betterBytes (readFile (now (file .entry))) (now (first .entry)) (now (second .entry))) ⌝ }
+    ensures returned { λ r. ⌜ r ≡ export.betterStatus (bytes.betterBytes (readFile (now (file .entry))) (now (first .entry)) (now (second .entry))) ⌝ }
+    ensures bytes { λ _. ⌜ IsBytes (now (file .entry)) ⌝ }
 {
     let one = sheet_of(first);
     let one_starts = one.starts;
@@ -185,6 +195,7 @@ pub extern "C" fn examination_mark(
 ) -> u32
     ensures returned { λ r. ⌜ r ≡ export.markStatus (bytes.byBytes (λ (f : Reading) (s : List ℤ). sheets.markOutcome f s budget) sheets.refusal (readFile (now (file .entry))) (now (sheet .entry))) ⌝ }
     ensures row { λ _. ⌜ now (answer .exit) ≡ export.markRow (bytes.byBytes (λ (f : Reading) (s : List ℤ). sheets.markOutcome f s budget) sheets.refusal (readFile (now (file .entry))) (now (sheet .entry))) (now (answer .entry)) ⌝ }
+    ensures bytes { λ _. ⌜ IsBytes (now (file .entry)) ⌝ }
 {
     let taken = sheet_of(sheet);
     let starts = taken.starts;

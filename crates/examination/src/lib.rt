@@ -37,5 +37,10 @@ pub enum MarkAnswer {
 // whole number of starts, or is too large.
 pub struct Sheet {
     pub count: usize,
-    pub starts: [i32; 17],
+    pub starts: [i32; Sheet::PLACES],
+}
+
+impl Sheet {
+    // One more than a network has lines.
+    pub const PLACES: usize = 17;
 }

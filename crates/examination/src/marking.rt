@@ -1,11 +1,14 @@
 // The mark call.
 use crate::MarkAnswer;
+use network::Network;
 use network::RateAnswer;
+use network::Rating;
 use network::rate::rate;
 use search::SearchAnswer;
 use search::call::search;
 ghost use mathlib.Core.Path.{_≡_};
 ghost use Rattle.network.specs.Reading.{readFile};
+ghost use Rattle.network.specs.Valid.{IsBytes};
 ghost use Rattle.search.specs.Search.{searchAnswer};
 ghost use Rattle.examination.specs.Sheets as sheets;
 
@@ -19,7 +22,17 @@ pub fn marked(least: u32, sum: u32, answer: SearchAnswer) -> MarkAnswer
             sum: best_sum,
             tries,
         } => {
-            let equal = least == best_least && sum == best_sum;
+            let rating = Rating {
+                some: true,
+                least,
+                sum,
+            };
+            let best = Rating {
+                some: true,
+                least: best_least,
+                sum: best_sum,
+            };
+            let equal = rating.is_equal(best);
             MarkAnswer::Decided {
                 least,
                 sum,
@@ -41,13 +54,14 @@ pub fn marked(least: u32, sum: u32, answer: SearchAnswer) -> MarkAnswer
 
 // Mark: a file, a sheet and a budget; the sheet's rating beside the best one, or undecided where the search stops, or the refusal of rate.
 pub fn mark(file: &[u8], sheet: &[i32], budget: u32) -> MarkAnswer
-    ensures { λ r. ⌜ sheets.markAnswer r ≡ sheets.markOutcome (readFile (now (file .entry))) (now (sheet .entry)) budget ⌝ }
+    ensures answer { λ r. ⌜ sheets.markAnswer r ≡ sheets.markOutcome (readFile (now (file .entry))) (now (sheet .entry)) budget ⌝ }
+    ensures bytes { λ _. ⌜ IsBytes (now (file .entry)) ⌝ }
 {
     let rated = rate(file, sheet);
     match rated {
         RateAnswer::Refused { number, place } => MarkAnswer::Refused { number, place },
         RateAnswer::Rated { least, sum } => {
-            let mut row = [0i32; 16];
+            let mut row = [0i32; Network::MAX_LINES];
             let count = sheet.len();
             let found = search(file, &mut row[..count], budget);
             marked(least, sum, found)

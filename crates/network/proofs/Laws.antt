@@ -9,6 +9,7 @@ pub mod Integers
 pub mod Network
 pub mod Grounds
 pub mod Reading
+pub mod Refusals
 pub mod Valid
 pub mod Stored
 pub mod Latest
@@ -30,3 +31,5 @@ pub mod Offsets
 pub mod Kept
 pub mod ClassRows
 pub mod Weighted
+pub mod Ranges
+pub mod Classified

@@ -10,7 +10,7 @@ use Rattle.network.specs.declared.Rating.{Rating}
 use Rattle.network.specs.declared.ClassAnswer.{ClassAnswer}
 use Rattle.network.specs.declared.ClassAnswer.the-variants as answer
 use Rattle.network.specs.Lists.{pick}
-use Rattle.network.specs.Network.{Net}
+use Rattle.network.specs.Network.{Net, stopCount}
 use Rattle.network.specs.Reading.{Reading, accepted, refused, Outcome, values, refusal}
 use Rattle.network.specs.Rating.{ratingOver}
 use Rattle.network.specs.Rate.{onSheet}
@@ -23,7 +23,7 @@ classAnswer (answer.Refused number place) = refusal number place
 
 -- Class and weight row are both 64 long ("Grounds for refusing", 17)
 unfoldable pub rowsFit : ℕ → ℕ → Bool
-rowsFit classes weights = eqb classes 64 && eqb weights 64
+rowsFit classes weights = eqb classes stopCount && eqb weights stopCount
 
 -- What the class call has to answer, given how long the rows are: the file's refusal, then ground 17, then the number of classes
 unfoldable pub classOutcome : Reading → ℕ → ℕ → Outcome

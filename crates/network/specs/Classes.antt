@@ -68,9 +68,13 @@ unfoldable pub table : (ℕ → ℕ) → ℕ → List ℕ
 table f zero = []
 table f (suc n) = table f n ++ (f n ∷ [])
 
+-- What the class row holds for an unserved stop
+abbrev pub unserved : ℕ
+unserved = 255
+
 -- The class row: for each stop the lowest stop alike to it, 255 if unserved
 unfoldable pub classRow : Net → List ℕ
-classRow n = table (λ s. pick (isServed s (n .calls)) (lowestAlike n s) 255) (suc maxStop)
+classRow n = table (λ s. pick (isServed s (n .calls)) (lowestAlike n s) unserved) (suc maxStop)
 
 -- The weight row: the size of the class at its lowest stop, 0 elsewhere
 unfoldable pub weightRow : Net → List ℕ
@@ -83,4 +87,4 @@ classCount n = countBelow (λ s. isLowest n s) (suc maxStop)
 -- The lowest stops with their weights, as two rows give them: those that the class row names as their own lowest
 unfoldable pub lowestStops : List ℕ → List ℕ → List Counted
 lowestStops classes weights =
-    map (λ (s : ℕ). record { stop = s; weight = getD weights s 0 }) (below (λ s. eqb (getD classes s 255) s) (suc maxStop))
+    map (λ (s : ℕ). record { stop = s; weight = getD weights s 0 }) (below (λ s. eqb (getD classes s unserved) s) (suc maxStop))

@@ -3,6 +3,8 @@ pub mod Divisor
 pub mod Network
 pub mod Grounds
 pub mod Reading
+pub mod Gives
+pub mod Refusals
 pub mod Valid
 pub mod Stored
 pub mod Gap

@@ -30,6 +30,10 @@ maxCycle = 10080
 abbrev pub maxStop : ℕ
 maxStop = 63
 
+-- .. and so many numbers of stops there are
+abbrev pub stopCount : ℕ
+stopCount = 64
+
 abbrev pub maxOffset : ℕ
 maxOffset = 65535
 

@@ -11,7 +11,7 @@ use lib.IntN.{ℤ, pos, _+ℤ_}
 use lib.ListN.{length, getD}
 use Rattle.network.specs.declared.Call.{Call}
 use Rattle.network.specs.declared.Rating.{Rating}
-use Rattle.network.specs.Lists.{keep, below, sumOf, leastOf}
+use Rattle.network.specs.Lists.{pick, keep, below, sumOf, leastOf}
 use Rattle.network.specs.Network.{Net, maxStop, isServed}
 use Rattle.network.specs.Valid.{noCall}
 use Rattle.network.specs.Gap.{trip, distance, gapOf}
@@ -128,3 +128,7 @@ noRating = record { some = false; least = 0; sum = 0 }
 unfoldable pub isAbove : Rating → Rating → Bool
 isAbove r q =
     r .some && (not (q .some) || (ltb (q .least) (r .least) || eqb (q .least) (r .least) && ltb (q .sum) (r .sum)))
+
+-- Two ratings are equal if their least gaps are and their sums are; none is equal to none alone
+unfoldable pub isEqual : Rating → Rating → Bool
+isEqual r q = pick (r .some) (q .some && (eqb (r .least) (q .least) && eqb (r .sum) (q .sum))) (not (q .some))

@@ -35,6 +35,10 @@ unfoldable pub countedStops : List ℕ → List ℕ → List Counted
 countedStops counts weights =
     map (λ (s : ℕ). record { stop = s; weight = getD weights s 0 }) (below (λ s. ltb 0 (getD counts s 0)) (suc maxStop))
 
+-- The weights that a rating takes: 64 stops of 1,440 minutes, each so many times, stay below 2^32
+abbrev pub maxWeight : ℕ
+maxWeight = 2000
+
 -- The rating of stops with these gaps, none where there are none
 unfoldable pub ratingOfGaps : (ℕ → ℕ) → List Counted → Rating
 ratingOfGaps gap [] = noRating

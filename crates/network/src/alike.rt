@@ -11,31 +11,32 @@ ghost use lib.ListN.{getD};
 ghost use Rattle.network.specs.Divisor as divisor;
 ghost use Rattle.network.specs.Gap as gaps;
 ghost use Rattle.network.specs.Lists.{allBelow};
+ghost use Rattle.network.specs.Network as net;
 ghost use Rattle.network.specs.Offsets.{Marks, markIn, sameLineIn, sameDifferenceIn, alikeIn};
 ghost use Rattle.network.specs.Stored.{netOf, Sound};
 ghost use Rattle.network.specs.Valid.{Valid};
 
 // The marks of all lines at all stops: one more than the line's offset there, so that 0 says that it doesn't call.
-pub fn offset_table(network: Network) -> [u32; 1024]
+pub fn offset_table(network: Network) -> [u32; Network::TABLE]
     requires { ⌜ Sound network × Valid (netOf network) ⌝ }
     ensures { λ r. ⌜ Marks r (netOf network .calls) ⌝ }
 {
-    let mut marks = [0u32; 1024];
+    let mut marks = [0u32; Network::TABLE];
     let count = network.calls;
     for i in 0..count {
         let call = network.list[i];
-        let place = call.stop as usize * 16 + call.line as usize;
+        let place = call.stop as usize * Network::MAX_LINES + call.line as usize;
         marks[place] = call.offset as u32 + 1;
     }
     marks
 }
 
 // The mark of a line at a stop.
-pub fn mark(marks: &[u32; 1024], line: usize, stop: usize) -> u32
-    requires { ⌜ (line < 16) × (stop < 64) ⌝ }
+pub fn mark(marks: &[u32; Network::TABLE], line: usize, stop: usize) -> u32
+    requires { ⌜ (line < net.maxLines) × (stop < net.stopCount) ⌝ }
     ensures { λ r. ⌜ r ≡ markIn (now (marks .entry)) line stop ⌝ }
 {
-    marks[stop * 16 + line]
+    marks[stop * Network::MAX_LINES + line]
 }
 
 // Whether a line with these marks at two stops calls at both or at neither.
@@ -46,8 +47,8 @@ pub fn both_or_neither(here: u32, there: u32) -> bool
 }
 
 // Whether the same lines call at both stops.
-pub fn same_lines(marks: &[u32; 1024], lines: usize, first: usize, second: usize) -> bool
-    requires { ⌜ (lines ≤ 16) × (first < 64) × (second < 64) ⌝ }
+pub fn same_lines(marks: &[u32; Network::TABLE], lines: usize, first: usize, second: usize) -> bool
+    requires { ⌜ (lines ≤ net.maxLines) × (first < net.stopCount) × (second < net.stopCount) ⌝ }
     ensures { λ r. ⌜ r ≡ allBelow (sameLineIn (now (marks .entry)) first second) lines ⌝ }
 {
     for line in 0..lines {
@@ -70,14 +71,14 @@ pub fn same_remainder(a: u32, b: u32, c: u32, d: u32, period: u16, other: u16) -
 // Whether the offsets of two lines differ at both stops by the same remainder. Marks, being one more, differ as the offsets do. Where one of
 // the lines doesn't call at the first stop, there is nothing to compare.
 pub fn same_difference(
-    marks: &[u32; 1024],
-    periods: &[u16; 16],
+    marks: &[u32; Network::TABLE],
+    periods: &[u16; Network::MAX_LINES],
     first: usize,
     second: usize,
     line: usize,
     other: usize,
 ) -> bool
-    requires { ⌜ (first < 64) × (second < 64) × (line < 16) × (other < 16) × (0 < getD (now periods) line 0) ⌝ }
+    requires { ⌜ (first < net.stopCount) × (second < net.stopCount) × (line < net.maxLines) × (other < net.maxLines) × (0 < getD (now periods) line 0) ⌝ }
     ensures { λ r. ⌜ r ≡ sameDifferenceIn (now (marks .entry)) (now (periods .entry)) first second line other ⌝ }
 {
     let a = mark(marks, line, first);
@@ -94,13 +95,13 @@ pub fn same_difference(
 
 // The same for a line and each line before it. Every pair of lines is met once, at the later of the two.
 pub fn same_differences(
-    marks: &[u32; 1024],
-    periods: &[u16; 16],
+    marks: &[u32; Network::TABLE],
+    periods: &[u16; Network::MAX_LINES],
     first: usize,
     second: usize,
     line: usize,
 ) -> bool
-    requires { ⌜ (first < 64) × (second < 64) × (line < 16) × (0 < getD (now periods) line 0) ⌝ }
+    requires { ⌜ (first < net.stopCount) × (second < net.stopCount) × (line < net.maxLines) × (0 < getD (now periods) line 0) ⌝ }
     ensures { λ r. ⌜ r ≡ allBelow (sameDifferenceIn (now (marks .entry)) (now (periods .entry)) first second line) line ⌝ }
 {
     for other in 0..line {
@@ -113,13 +114,13 @@ pub fn same_differences(
 
 // Whether two stops are alike, by the table: the same lines call, and each two of them differ by the same remainder.
 pub fn alike(
-    marks: &[u32; 1024],
-    periods: &[u16; 16],
+    marks: &[u32; Network::TABLE],
+    periods: &[u16; Network::MAX_LINES],
     lines: usize,
     first: usize,
     second: usize,
 ) -> bool
-    requires { ⌜ (lines ≤ 16) × (first < 64) × (second < 64) × ((line : ℕ) → line < lines → 0 < getD (now periods) line 0) ⌝ }
+    requires { ⌜ (lines ≤ net.maxLines) × (first < net.stopCount) × (second < net.stopCount) × ((line : ℕ) → line < lines → 0 < getD (now periods) line 0) ⌝ }
     ensures { λ r. ⌜ r ≡ alikeIn (now (marks .entry)) (now (periods .entry)) lines first second ⌝ }
 {
     if !same_lines(marks, lines, first, second) {

@@ -22,17 +22,22 @@ ghost use Rattle.network.specs.Offsets.{Marks};
 ghost use Rattle.network.specs.Rate.{rateAnswer};
 ghost use Rattle.network.specs.Reading.{readFile};
 ghost use Rattle.network.specs.Stored.{netOf, Sound};
-ghost use Rattle.network.specs.Valid.{Valid};
+ghost use Rattle.network.specs.Valid.{Valid, IsBytes};
 
 // The lowest stop alike to a stop, 255 if it is unserved. Of the stops below it none needs to be asked whether it is served: without a line
 // it has other lines than a served stop.
-pub fn class_of(network: Network, marks: &[u32; 1024], served: &[u8; 64], stop: usize) -> u8
+pub fn class_of(
+    network: Network,
+    marks: &[u32; Network::TABLE],
+    served: &[u8; Network::STOPS],
+    stop: usize,
+) -> u8
     requires { ⌜ Sound network × Valid (netOf network) × Marks (now marks) (netOf network .calls) ⌝ }
-    requires { ⌜ (stop < 64) × (ltb 0 (getD (now served) stop 0) ≡ net.isServed stop (netOf network .calls)) ⌝ }
-    ensures { λ r. ⌜ r ≡ pick (net.isServed stop (netOf network .calls)) (class.lowestAlike (netOf network) stop) 255 ⌝ }
+    requires { ⌜ (stop < net.stopCount) × (ltb 0 (getD (now served) stop 0) ≡ net.isServed stop (netOf network .calls)) ⌝ }
+    ensures { λ r. ⌜ r ≡ pick (net.isServed stop (netOf network .calls)) (class.lowestAlike (netOf network) stop) class.unserved ⌝ }
 {
     if served[stop] == 0 {
-        return 255;
+        return Network::UNSERVED;
     }
     let lines = network.lines;
     for other in 0..stop {
@@ -46,7 +51,7 @@ pub fn class_of(network: Network, marks: &[u32; 1024], served: &[u8; 64], stop: 
 // Fills both rows and counts the classes. The lowest stop of a class comes before the others, so that its weight is set to 0 before they
 // are counted there.
 pub fn fill_rows(network: Network, class_row: &mut [u8], weight_row: &mut [u16]) -> u32
-    requires { ⌜ Sound network × Valid (netOf network) × (length (now «class_row») ≡ 64) × (length (now «weight_row») ≡ 64) ⌝ }
+    requires { ⌜ Sound network × Valid (netOf network) × (length (now «class_row») ≡ net.stopCount) × (length (now «weight_row») ≡ net.stopCount) ⌝ }
     ensures { λ r. ⌜ r ≡ class.classCount (netOf network) ⌝ }
     ensures { λ r. ⌜ now («class_row» .exit) ≡ class.classRow (netOf network) ⌝ }
     ensures { λ r. ⌜ now («weight_row» .exit) ≡ class.weightRow (netOf network) ⌝ }
@@ -54,12 +59,12 @@ pub fn fill_rows(network: Network, class_row: &mut [u8], weight_row: &mut [u16])
     let marks = offset_table(network);
     let served = served_row(network);
     let mut count: u32 = 0;
-    for stop in 0..64usize {
+    for stop in 0..Network::STOPS {
         let lowest = class_of(network, &marks, &served, stop);
         let at = lowest as usize;
         class_row[stop] = lowest;
         weight_row[stop] = 0;
-        if at < 64 {
+        if at < Network::STOPS {
             weight_row[at] = weight_row[at] + 1;
         }
         if at == stop {
@@ -70,11 +75,11 @@ pub fn fill_rows(network: Network, class_row: &mut [u8], weight_row: &mut [u16])
 }
 
 // The lowest stops: 1 for each stop that the class row names as its own lowest, 0 for the others.
-pub fn lowest_row(classes: &[u8; 64]) -> [u8; 64]
-    ensures { λ r. ⌜ ((stop : ℕ) → stop < 64 → ltb 0 (getD r stop 0) ≡ eqb (getD (now (classes .entry)) stop 0) stop) ⌝ }
+pub fn lowest_row(classes: &[u8; Network::STOPS]) -> [u8; Network::STOPS]
+    ensures { λ r. ⌜ ((stop : ℕ) → stop < net.stopCount → ltb 0 (getD r stop 0) ≡ eqb (getD (now (classes .entry)) stop 0) stop) ⌝ }
 {
-    let mut row = [0u8; 64];
-    for stop in 0..64usize {
+    let mut row = [0u8; Network::STOPS];
+    for stop in 0..Network::STOPS {
         if classes[stop] == stop as u8 {
             row[stop] = 1;
         }
@@ -87,8 +92,8 @@ pub fn weighted_rating(network: Network, sheet: &[i32]) -> Rating
     requires { ⌜ Sound network × Valid (netOf network) × (length (now sheet) ≡ length (netOf network .periods)) ⌝ }
     ensures { λ r. ⌜ r ≡ call.weightedRating (netOf network) (now (sheet .entry)) ⌝ }
 {
-    let mut classes = [0u8; 64];
-    let mut weights = [0u16; 64];
+    let mut classes = [0u8; Network::STOPS];
+    let mut weights = [0u16; Network::STOPS];
     fill_rows(network, &mut classes, &mut weights);
     let counts = lowest_row(&classes);
     let gaps = stop_gaps(network, sheet, &counts);
@@ -98,9 +103,10 @@ pub fn weighted_rating(network: Network, sheet: &[i32]) -> Rating
 // The class call: fills the class row and the weight row and answers how many classes there are; or the file's refusal, or ground 17
 // where a row isn't 64 long. A refusal leaves both rows as they are.
 pub fn classes(file: &[u8], class_row: &mut [u8], weight_row: &mut [u16]) -> ClassAnswer
-    ensures { λ r. ⌜ call.classAnswer r ≡ call.classOutcome (readFile (now (file .entry))) (length (now («class_row» .entry))) (length (now («weight_row» .entry))) ⌝ }
-    ensures { λ r. ⌜ now («class_row» .exit) ≡ call.classRowAfter (readFile (now (file .entry))) (now («class_row» .entry)) (now («weight_row» .entry)) ⌝ }
-    ensures { λ r. ⌜ now («weight_row» .exit) ≡ call.weightRowAfter (readFile (now (file .entry))) (now («class_row» .entry)) (now («weight_row» .entry)) ⌝ }
+    ensures answer { λ r. ⌜ call.classAnswer r ≡ call.classOutcome (readFile (now (file .entry))) (length (now («class_row» .entry))) (length (now («weight_row» .entry))) ⌝ }
+    ensures classes { λ _. ⌜ now («class_row» .exit) ≡ call.classRowAfter (readFile (now (file .entry))) (now («class_row» .entry)) (now («weight_row» .entry)) ⌝ }
+    ensures weights { λ _. ⌜ now («weight_row» .exit) ≡ call.weightRowAfter (readFile (now (file .entry))) (now («class_row» .entry)) (now («weight_row» .entry)) ⌝ }
+    ensures bytes { λ _. ⌜ IsBytes (now (file .entry)) ⌝ }
 {
     let step = read_network(file);
     let network = step.network;
@@ -108,8 +114,8 @@ pub fn classes(file: &[u8], class_row: &mut [u8], weight_row: &mut [u16]) -> Cla
     match check {
         Check::Refused { number, place } => ClassAnswer::Refused { number, place },
         Check::Passes => {
-            if class_row.len() == 64 {
-                if weight_row.len() == 64 {
+            if class_row.len() == Network::STOPS {
+                if weight_row.len() == Network::STOPS {
                     let count = fill_rows(network, class_row, weight_row);
                     return ClassAnswer::Classes { count };
                 }
@@ -124,7 +130,8 @@ pub fn classes(file: &[u8], class_row: &mut [u8], weight_row: &mut [u16]) -> Cla
 
 // The weighted rating, a call on a file and a sheet: it refuses as rate does.
 pub fn weighted(file: &[u8], sheet: &[i32]) -> RateAnswer
-    ensures { λ r. ⌜ rateAnswer r ≡ call.weightedOutcome (readFile (now (file .entry))) (now (sheet .entry)) ⌝ }
+    ensures answer { λ r. ⌜ rateAnswer r ≡ call.weightedOutcome (readFile (now (file .entry))) (now (sheet .entry)) ⌝ }
+    ensures bytes { λ _. ⌜ IsBytes (now (file .entry)) ⌝ }
 {
     let step = read_network(file);
     let network = step.network;

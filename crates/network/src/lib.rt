@@ -44,6 +44,18 @@ impl Network {
 
     pub const MAX_CALLS: usize = 256;
 
+    // One more than the highest stop.
+    pub const STOPS: usize = 64;
+
+    // A place for each line at each stop.
+    pub const TABLE: usize = 1024;
+
+    // A place for each two lines.
+    pub const PAIRS: usize = 256;
+
+    // In the class row: the stop is unserved.
+    pub const UNSERVED: u8 = 255;
+
     // The network before the first command.
     pub fn new() -> Network
         ensures { λ r. ⌜ Sound r × (netOf r ≡ net.emptyNet) ⌝ }
@@ -130,6 +142,22 @@ impl Rating {
             return true;
         }
         false
+    }
+
+    // Whether this rating is the same as another: the same least gap and the same sum, or both are none.
+    pub fn is_equal(self, other: Rating) -> bool
+        ensures { λ r. ⌜ r ≡ rating.isEqual self other ⌝ }
+    {
+        if self.some {
+            if other.some {
+                return self.least == other.least && self.sum == other.sum;
+            }
+            return false;
+        }
+        if other.some {
+            return false;
+        }
+        true
     }
 
     // The rating with one stop more.

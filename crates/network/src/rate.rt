@@ -13,7 +13,7 @@ ghost use Rattle.network.specs.Rate.{rateAnswer, rateOutcome};
 ghost use Rattle.network.specs.Rating as rating;
 ghost use Rattle.network.specs.Reading.{readFile};
 ghost use Rattle.network.specs.Stored.{netOf, Sound};
-ghost use Rattle.network.specs.Valid.{Valid};
+ghost use Rattle.network.specs.Valid.{Valid, IsBytes};
 
 // The rating of a sheet with one start for each line: every served stop counts once.
 pub fn sheet_rating(network: Network, sheet: &[i32]) -> Rating
@@ -21,14 +21,15 @@ pub fn sheet_rating(network: Network, sheet: &[i32]) -> Rating
     ensures { λ r. ⌜ r ≡ rating.rating (netOf network) (now (sheet .entry)) ⌝ }
 {
     let counts = served_row(network);
-    let weights = [1u16; 64];
+    let weights = [1u16; Network::STOPS];
     let gaps = stop_gaps(network, sheet, &counts);
     rating_over(&gaps, &counts, &weights)
 }
 
 // Rate: a file and a sheet of starts; its rating, or the file's refusal, or ground 15 where the sheet hasn't one start for each line.
 pub fn rate(file: &[u8], sheet: &[i32]) -> RateAnswer
-    ensures { λ r. ⌜ rateAnswer r ≡ rateOutcome (readFile (now (file .entry))) (now (sheet .entry)) ⌝ }
+    ensures answer { λ r. ⌜ rateAnswer r ≡ rateOutcome (readFile (now (file .entry))) (now (sheet .entry)) ⌝ }
+    ensures bytes { λ _. ⌜ IsBytes (now (file .entry)) ⌝ }
 {
     let step = read_network(file);
     let network = step.network;

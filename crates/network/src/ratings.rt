@@ -17,9 +17,14 @@ ghost use Rattle.network.specs.Stored.{netOf, Sound};
 ghost use Rattle.network.specs.Valid.{Valid, noCall};
 
 // The gap of two calls, on a sheet of starts and the lines' periods.
-pub fn call_gap(sheet: &[i32], periods: &[u16; 16], first: Call, second: Call) -> u32
-    requires { ⌜ (first .line < 16) × (first .line < length (now sheet)) × (0 < getD (now periods) (first .line) 0) ⌝ }
-    requires { ⌜ (second .line < 16) × (second .line < length (now sheet)) ⌝ }
+pub fn call_gap(
+    sheet: &[i32],
+    periods: &[u16; Network::MAX_LINES],
+    first: Call,
+    second: Call,
+) -> u32
+    requires { ⌜ (first .line < net.maxLines) × (first .line < length (now sheet)) × (0 < getD (now periods) (first .line) 0) ⌝ }
+    requires { ⌜ (second .line < net.maxLines) × (second .line < length (now sheet)) ⌝ }
     ensures { λ r. ⌜ r ≡ gapOf (rating.arrivalOf (now (sheet .entry)) first) (getD (now (periods .entry)) (first .line) 0) (rating.arrivalOf (now (sheet .entry)) second) (getD (now (periods .entry)) (second .line) 0) ⌝ }
 {
     let line = first.line as usize;
@@ -34,7 +39,7 @@ pub fn call_gap(sheet: &[i32], periods: &[u16; 16], first: Call, second: Call) -
 pub fn least_gap(
     network: Network,
     sheet: &[i32],
-    previous: &[u16; 256],
+    previous: &[u16; Network::MAX_CALLS],
     call: Call,
     next: u16,
     least: u32,
@@ -63,7 +68,7 @@ pub fn least_gap(
 pub fn gap_with(
     network: Network,
     sheet: &[i32],
-    previous: &[u16; 256],
+    previous: &[u16; Network::MAX_CALLS],
     call: Call,
     before: u16,
     gap: u32,
@@ -83,13 +88,17 @@ pub fn gap_with(
 
 // The gaps of the stops that count, in one pass over the calls. `last` has for each stop one more than the latest call there, and
 // `previous` for each call one more than the call before it at its stop, 0 where there is none.
-pub fn stop_gaps(network: Network, sheet: &[i32], counts: &[u8; 64]) -> [u32; 64]
+pub fn stop_gaps(
+    network: Network,
+    sheet: &[i32],
+    counts: &[u8; Network::STOPS],
+) -> [u32; Network::STOPS]
     requires { ⌜ Sound network × Valid (netOf network) × (length (now sheet) ≡ length (netOf network .periods)) ⌝ }
-    ensures { λ r. ⌜ ((stop : ℕ) → stop < 64 → 0 < getD (now (counts .entry)) stop 0 → getD r stop 0 ≡ rating.stopGap (netOf network) (now (sheet .entry)) stop) ⌝ }
+    ensures { λ r. ⌜ ((stop : ℕ) → stop < net.stopCount → 0 < getD (now (counts .entry)) stop 0 → getD r stop 0 ≡ rating.stopGap (netOf network) (now (sheet .entry)) stop) ⌝ }
 {
-    let mut gaps = [0u32; 64];
-    let mut last = [0u16; 64];
-    let mut previous = [0u16; 256];
+    let mut gaps = [0u32; Network::STOPS];
+    let mut last = [0u16; Network::STOPS];
+    let mut previous = [0u16; Network::MAX_CALLS];
     let count = network.calls;
     for i in 0..count {
         let call = network.list[i];
@@ -105,12 +114,16 @@ pub fn stop_gaps(network: Network, sheet: &[i32], counts: &[u8; 64]) -> [u32; 64
 }
 
 // The rating of stops with these gaps: those that count, with their weights in the sum.
-pub fn rating_over(gaps: &[u32; 64], counts: &[u8; 64], weights: &[u16; 64]) -> Rating
-    requires { ⌜ ((stop : ℕ) → stop < 64 → 0 < getD (now counts) stop 0 → (getD (now gaps) stop 0 ≤ 1440) × (getD (now weights) stop 0 ≤ 2000)) ⌝ }
+pub fn rating_over(
+    gaps: &[u32; Network::STOPS],
+    counts: &[u8; Network::STOPS],
+    weights: &[u16; Network::STOPS],
+) -> Rating
+    requires { ⌜ ((stop : ℕ) → stop < net.stopCount → 0 < getD (now counts) stop 0 → (getD (now gaps) stop 0 ≤ net.maxPeriod) × (getD (now weights) stop 0 ≤ scan.maxWeight)) ⌝ }
     ensures { λ r. ⌜ r ≡ scan.ratingOfGaps (λ stop. getD (now (gaps .entry)) stop 0) (scan.countedStops (now (counts .entry)) (now (weights .entry))) ⌝ }
 {
     let mut rating = Rating::NONE;
-    for stop in 0..64usize {
+    for stop in 0..Network::STOPS {
         if 0 < counts[stop] {
             rating = rating.with_stop(gaps[stop], weights[stop] as u32);
         }
@@ -119,11 +132,11 @@ pub fn rating_over(gaps: &[u32; 64], counts: &[u8; 64], weights: &[u16; 64]) -> 
 }
 
 // The served stops: 1 for each stop with a call, 0 for the others.
-pub fn served_row(network: Network) -> [u8; 64]
+pub fn served_row(network: Network) -> [u8; Network::STOPS]
     requires { ⌜ Sound network × Valid (netOf network) ⌝ }
-    ensures { λ r. ⌜ ((stop : ℕ) → stop < 64 → ltb 0 (getD r stop 0) ≡ net.isServed stop (netOf network .calls)) ⌝ }
+    ensures { λ r. ⌜ ((stop : ℕ) → stop < net.stopCount → ltb 0 (getD r stop 0) ≡ net.isServed stop (netOf network .calls)) ⌝ }
 {
-    let mut row = [0u8; 64];
+    let mut row = [0u8; Network::STOPS];
     let count = network.calls;
     for i in 0..count {
         let call = network.list[i];

@@ -20,7 +20,7 @@ ghost use Rattle.network.specs.Reading as reading;
 ghost use Rattle.network.specs.declared.Check.{Check};
 ghost use Rattle.network.specs.Offsets.{Marks};
 ghost use Rattle.network.specs.Stored.{netOf, Sound, HasSize, Latest, Tells, readingOf};
-ghost use Rattle.network.specs.Valid.{Valid};
+ghost use Rattle.network.specs.Valid.{Valid, IsBytes};
 
 // A number of two bytes from a place on, most significant byte first.
 pub fn word(bytes: &[u8], at: usize) -> u16
@@ -112,7 +112,7 @@ pub fn read_line(size: Size, behind: &[u8], at: usize) -> Told
 }
 
 // 43 and 46: the grounds that they share, 3 and 7 to 10.
-pub fn check_call(size: Size, marks: &[u32; 1024], behind: &[u8], at: usize) -> Check
+pub fn check_call(size: Size, marks: &[u32; Network::TABLE], behind: &[u8], at: usize) -> Check
     requires { ⌜ size .lines ≤ net.maxLines ⌝ }
     ensures { λ r. ⌜ ((n : net.Net) → HasSize n size → Marks (now (marks .entry)) (n .calls) → r ≡ ground.first (ground.callGrounds net.callsByOffset n at (now (behind .entry)))) ⌝ }
     ensures { λ r. ⌜ (r ≡ Check.Passes → (4 ≤ length (now (behind .entry))) × (getD (now (behind .entry)) 0 0 < size .lines)) ⌝ }
@@ -153,7 +153,7 @@ pub fn check_call(size: Size, marks: &[u32; 1024], behind: &[u8], at: usize) -> 
 }
 
 // 43: the grounds of a call, or a call.
-pub fn read_call(size: Size, marks: &[u32; 1024], behind: &[u8], at: usize) -> Told
+pub fn read_call(size: Size, marks: &[u32; Network::TABLE], behind: &[u8], at: usize) -> Told
     requires { ⌜ size .lines ≤ net.maxLines ⌝ }
     ensures { λ r. ⌜ ((n : net.Net) → HasSize n size → Marks (now (marks .entry)) (n .calls) → Tells net.callsByOffset n at (now (behind .entry)) r) ⌝ }
 {
@@ -174,7 +174,7 @@ pub fn read_call(size: Size, marks: &[u32; 1024], behind: &[u8], at: usize) -> T
 // 46: the grounds of a call, then those of the ride.
 pub fn read_ride(
     size: Size,
-    marks: &[u32; 1024],
+    marks: &[u32; Network::TABLE],
     latest: &[u32; Network::MAX_LINES],
     behind: &[u8],
     at: usize,
@@ -268,7 +268,7 @@ pub fn read_end(lines: usize, latest: &[u32; Network::MAX_LINES], behind: &[u8],
 pub fn read_command(
     code: u8,
     size: Size,
-    marks: &[u32; 1024],
+    marks: &[u32; Network::TABLE],
     latest: &[u32; Network::MAX_LINES],
     behind: &[u8],
     at: usize,
@@ -295,7 +295,7 @@ pub fn read_network(file: &[u8]) -> Step
     ensures { λ r. ⌜ Sound (r .network) × (readingOf (r .check) (r .network) ≡ reading.readFile (now (file .entry))) ⌝ }
 {
     let mut network = Network::new();
-    let mut marks = [0u32; 1024];
+    let mut marks = [0u32; Network::TABLE];
     let mut latest = [0u32; Network::MAX_LINES];
     let mut rest = file;
     while 0 < rest.len() {
@@ -322,7 +322,7 @@ pub fn read_network(file: &[u8]) -> Step
                 network.list[place] = call;
                 network.calls = place + 1;
                 let mark = call.offset as u32 + 1;
-                marks[call.stop as usize * 16 + call.line as usize] = mark;
+                marks[call.stop as usize * Network::MAX_LINES + call.line as usize] = mark;
                 latest[call.line as usize] = mark;
             }
         }
@@ -338,7 +338,7 @@ pub fn served_stops(network: Network) -> u32
 {
     let served = served_row(network);
     let mut count: u32 = 0;
-    for stop in 0..64usize {
+    for stop in 0..Network::STOPS {
         if 0 < served[stop] {
             count += 1;
         }
@@ -348,7 +348,8 @@ pub fn served_stops(network: Network) -> u32
 
 // The read call: the numbers of lines, served stops and calls, and the common cycle; or the refusal.
 pub fn read(file: &[u8]) -> ReadAnswer
-    ensures { λ r. ⌜ reading.readAnswer r ≡ reading.readOutcome (reading.readFile (now (file .entry))) ⌝ }
+    ensures answer { λ r. ⌜ reading.readAnswer r ≡ reading.readOutcome (reading.readFile (now (file .entry))) ⌝ }
+    ensures bytes { λ _. ⌜ IsBytes (now (file .entry)) ⌝ }
 {
     let step = read_network(file);
     let network = step.network;

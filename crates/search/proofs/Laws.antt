@@ -18,3 +18,4 @@ pub mod Placing
 pub mod Tries
 pub mod Called
 pub mod Optimal
+pub mod Outcome

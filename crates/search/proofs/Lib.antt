@@ -1,3 +1,3 @@
 pub mod Cases
 pub mod Laws
-pub mod Demand3
+pub mod Demands

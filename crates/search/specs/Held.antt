@@ -9,7 +9,7 @@ use Rattle.network.specs.declared.Call.{Call}
 use Rattle.network.specs.declared.Rating.{Rating}
 use Rattle.network.specs.Lists.{pick}
 use Rattle.network.specs.Divisor.{gcd}
-use Rattle.network.specs.Network.{Net, isServed, maxPeriod}
+use Rattle.network.specs.Network.{Net, isServed, maxLines, maxPeriod, stopCount}
 use Rattle.network.specs.Rating.{isAbove}
 use Rattle.network.specs.Scan.{LeadsBack}
 use Rattle.network.specs.Valid.{Valid, noCall}
@@ -19,6 +19,14 @@ use Rattle.search.specs.Caps.{cap, upperValue, upperRating}
 use Rattle.search.specs.Walk.{State, oneTry, eachStart, walk}
 use Rattle.search.specs.Search.{startCounts, notAbove}
 use Rattle.search.specs.Layout.{byLine}
+
+-- More than any arrival of the walk: a start below 1,440 and an offset below 65,536
+abbrev pub arrivalLimit : ℕ
+arrivalLimit = 67000
+
+-- The most that 64 upper values of 16 bits add up to
+abbrev pub maxUpperSum : ℕ
+maxUpperSum = 4194240
 
 -- The reciprocal of a divisor: 2^40 over it, rounded up
 unfoldable pub reciprocal : ℕ → ℕ
@@ -40,7 +48,7 @@ pub record Linked (lines offsets previous divisors : List ℕ) : Type 0 where
       (i j : ℕ)
       → i < length (net .periods)
       → j < length (net .periods)
-      → getD divisors (i * 16 + j) 0 ≡ withReciprocal (gcd (getD (net .periods) j 0) (getD (net .periods) i 0))
+      → getD divisors (i * maxLines + j) 0 ≡ withReciprocal (gcd (getD (net .periods) j 0) (getD (net .periods) i 0))
 
 -- The calls in the order of their lines
 abbrev pub callsIn : {lines offsets previous divisors : List ℕ} → Linked lines offsets previous divisors → List Call
@@ -58,12 +66,12 @@ startsOf k starts = map pos (take k starts)
 
 -- A partial timetable of the first `k` lines: its starts, its upper values and its upper rating
 pub record Represents (n : Net) (k : ℕ) (p : Placed) : Type 0 where
-  pub starts-row : length (p .starts) ≡ 16
-  pub values-row : length (p .values) ≡ 64
+  pub starts-row : length (p .starts) ≡ maxLines
+  pub values-row : length (p .values) ≡ stopCount
   pub starts-low : (i : ℕ) → getD (p .starts) i 0 < maxPeriod
   pub value-of :
-      (stop : ℕ) → stop < 64 → isServed stop (n .calls) ≡ true → getD (p .values) stop 0 ≡ upperValue n (cap n) (startsOf k (p .starts)) stop
-  pub sum-low : p .sum ≤ 4194240
+      (stop : ℕ) → stop < stopCount → isServed stop (n .calls) ≡ true → getD (p .values) stop 0 ≡ upperValue n (cap n) (startsOf k (p .starts)) stop
+  pub sum-low : p .sum ≤ maxUpperSum
   pub rating-of : _≡_ {A = Rating} (record { some = true; least = p .least; sum = p .sum }) (upperRating n (cap n) (startsOf k (p .starts)))
 
 -- A line can be placed at a start: the lines before it are placed

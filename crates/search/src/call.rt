@@ -20,20 +20,20 @@ use network::reader::read_network;
 ghost use mathlib.Core.Path.{_≡_};
 ghost use Prim.Native.Nat.{ℕ, _<_, _≤_};
 ghost use lib.ListN.{length, getD};
-ghost use Rattle.network.specs.Network.{Net};
+ghost use Rattle.network.specs.Network as net;
 ghost use Rattle.network.specs.Reading.{readFile};
 ghost use Rattle.network.specs.Stored.{netOf, Sound};
-ghost use Rattle.network.specs.Valid.{Valid};
+ghost use Rattle.network.specs.Valid.{Valid, IsBytes};
 ghost use Rattle.search.specs.Held as held;
 ghost use Rattle.search.specs.Search as spec;
 
 // The caps as the numbers of a rating.
-pub fn widened(row: &[u16; 64]) -> [u32; 64]
-    ensures { λ r. ⌜ ((stop : ℕ) → stop < 64 → getD r stop 0 ≡ getD (now (row .entry)) stop 0) ⌝ }
+pub fn widened(row: &[u16; Network::STOPS]) -> [u32; Network::STOPS]
+    ensures { λ r. ⌜ ((stop : ℕ) → stop < net.stopCount → getD r stop 0 ≡ getD (now (row .entry)) stop 0) ⌝ }
 {
     let caps: &[u16] = row;
-    let mut wide = [0u32; 64];
-    for stop in 0..64usize {
+    let mut wide = [0u32; Network::STOPS];
+    for stop in 0..Network::STOPS {
         wide[stop] = caps[stop] as u32;
     }
     wide
@@ -46,11 +46,11 @@ pub fn unplaced(network: Network) -> Placed
 {
     let caps = cap_row(network);
     let served = served_row(network);
-    let weights = [1u16; 64];
+    let weights = [1u16; Network::STOPS];
     let wide = widened(&caps);
     let upper = rating_over(&wide, &served, &weights);
     Placed {
-        starts: [0u16; 16],
+        starts: [0u16; Network::MAX_LINES],
         values: caps,
         least: upper.least,
         sum: upper.sum,
@@ -76,7 +76,7 @@ pub fn searched(network: Network, budget: u32) -> Walk
         tries: 0,
         stopped: false,
         best: Rating::NONE,
-        starts: [0u16; 16],
+        starts: [0u16; Network::MAX_LINES],
     };
     let last = network.lines - 1;
     try_starts(
@@ -98,8 +98,8 @@ pub fn searched(network: Network, budget: u32) -> Walk
 }
 
 // The best starts, written to the start row.
-pub fn write_starts(row: &mut [i32], starts: &[u16; 16])
-    requires { ⌜ length (now row) ≤ 16 ⌝ }
+pub fn write_starts(row: &mut [i32], starts: &[u16; Network::MAX_LINES])
+    requires { ⌜ length (now row) ≤ net.maxLines ⌝ }
     ensures { λ _. ⌜ now (row .exit) ≡ held.startsOf (length (now (row .entry))) (now (starts .entry)) ⌝ }
 {
     let from: &[u16] = starts;
@@ -111,7 +111,7 @@ pub fn write_starts(row: &mut [i32], starts: &[u16; 16])
 
 // What a walk at its end answers.
 pub fn outcome(walk: Walk) -> SearchAnswer
-    ensures { λ r. ⌜ ((n : Net) → spec.searchAnswer r ≡ spec.outcomeOf (held.stateOf n walk)) ⌝ }
+    ensures { λ r. ⌜ ((n : net.Net) → spec.searchAnswer r ≡ spec.outcomeOf (held.stateOf n walk)) ⌝ }
 {
     let best = walk.best;
     if walk.stopped {
@@ -136,6 +136,7 @@ pub fn outcome(walk: Walk) -> SearchAnswer
 pub fn search(file: &[u8], row: &mut [i32], budget: u32) -> SearchAnswer
     ensures answer { λ r. ⌜ spec.searchAnswer r ≡ spec.searchOutcome (readFile (now (file .entry))) (length (now (row .entry))) budget ⌝ }
     ensures starts { λ _. ⌜ now (row .exit) ≡ spec.startRowAfter (readFile (now (file .entry))) budget (now (row .entry)) ⌝ }
+    ensures bytes { λ _. ⌜ IsBytes (now (file .entry)) ⌝ }
 {
     let step = read_network(file);
     let network = step.network;

@@ -6,6 +6,7 @@ ghost use mathlib.Core.Path.{_≡_};
 ghost use mathlib.Core.List.{map, _++_, _∷_, []};
 ghost use Prim.Native.Nat.{ℕ, _<_, _≤_};
 ghost use lib.ListN.{length, getD};
+ghost use Rattle.network.specs.Network as net;
 ghost use Rattle.network.specs.Rating.{callsOfStop};
 ghost use Rattle.network.specs.Scan.{leastFrom, callsBefore};
 ghost use Rattle.network.specs.Stored.{netOf, Sound};
@@ -105,12 +106,12 @@ pub fn cap_of(network: Network, stop: u8) -> u32
 }
 
 // The caps of all stops, 0 for those that are not served.
-pub fn cap_row(network: Network) -> [u16; 64]
+pub fn cap_row(network: Network) -> [u16; Network::STOPS]
     requires { ⌜ Sound network × Valid (netOf network) ⌝ }
-    ensures { λ r. ⌜ ((stop : ℕ) → stop < 64 → getD r stop 0 ≡ cap (netOf network) stop) ⌝ }
+    ensures { λ r. ⌜ ((stop : ℕ) → stop < net.stopCount → getD r stop 0 ≡ cap (netOf network) stop) ⌝ }
 {
-    let mut row = [0u16; 64];
-    for stop in 0..64usize {
+    let mut row = [0u16; Network::STOPS];
+    for stop in 0..Network::STOPS {
         row[stop] = cap_of(network, stop as u8) as u16;
     }
     row

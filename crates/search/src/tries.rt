@@ -1,7 +1,9 @@
 // The walk: trying a line's starts and judging one placement call each other; lines left, then starts left, fall.
+use crate::Ordered;
 use crate::Placed;
 use crate::Walk;
 use crate::place::place;
+use network::Network;
 use network::Rating;
 ghost use mathlib.Core.Path.{_≡_};
 ghost use Prim.Native.Nat.{ℕ, _+_, _<_, _≤_};
@@ -12,13 +14,13 @@ ghost use Rattle.search.specs.Walk.{eachStart};
 // One try: its start for a line is judged. It stops the walk where the budget is used up, and is dropped where its upper rating isn't
 // above the best so far; otherwise it sends the walk to the next line or, on the last line, becomes the best.
 pub fn judge(
-    stops: &[u8; 256],
-    lines: &[u8; 256],
-    offsets: &[u16; 256],
-    previous: &[u16; 256],
-    divisors: &[u64; 256],
-    first: &[u16; 17],
-    counts: &[u16; 16],
+    stops: &[u8; Network::MAX_CALLS],
+    lines: &[u8; Network::MAX_CALLS],
+    offsets: &[u16; Network::MAX_CALLS],
+    previous: &[u16; Network::MAX_CALLS],
+    divisors: &[u64; Network::PAIRS],
+    first: &[u16; Ordered::FIRSTS],
+    counts: &[u16; Network::MAX_LINES],
     last: usize,
     budget: u32,
     line: usize,
@@ -91,13 +93,13 @@ pub fn judge(
 // A line's starts from `from` on, `count` of them, ascending. They are split into halves, so that the calls nest only as deep as the
 // number of starts has digits in base two. Up to 16 are judged one after another: each call copies the partial timetable.
 pub fn try_starts(
-    stops: &[u8; 256],
-    lines: &[u8; 256],
-    offsets: &[u16; 256],
-    previous: &[u16; 256],
-    divisors: &[u64; 256],
-    first: &[u16; 17],
-    counts: &[u16; 16],
+    stops: &[u8; Network::MAX_CALLS],
+    lines: &[u8; Network::MAX_CALLS],
+    offsets: &[u16; Network::MAX_CALLS],
+    previous: &[u16; Network::MAX_CALLS],
+    divisors: &[u64; Network::PAIRS],
+    first: &[u16; Ordered::FIRSTS],
+    counts: &[u16; Network::MAX_LINES],
     last: usize,
     budget: u32,
     line: usize,
@@ -111,26 +113,25 @@ pub fn try_starts(
     ensures within { λ r. ⌜ r .tries ≤ budget ⌝ }
     ensures tried { λ r. ⌜ ((l : held.Laid (now (stops .entry)) (now (lines .entry)) (now (offsets .entry)) (now (previous .entry)) (now (divisors .entry)) (now (first .entry))) → held.CanTry (l .linked .net) (now (counts .entry)) last line placed → held.stateOf (l .linked .net) r ≡ eachStart (held.tryAt (l .linked .net) budget line (held.startsOf line (placed .starts))) from count (held.stateOf (l .linked .net) walk)) ⌝ }
 {
-    if count < 17 {
-        let mut next = walk;
-        for start in from..from + count {
-            next = judge(
-                stops,
-                lines,
-                offsets,
-                previous,
-                divisors,
-                first,
-                counts,
-                last,
-                budget,
-                line,
-                start,
-                placed,
-                next,
-            );
-        }
-        return next;
+    if count == 0 {
+        return walk;
+    }
+    if count == 1 {
+        return judge(
+            stops,
+            lines,
+            offsets,
+            previous,
+            divisors,
+            first,
+            counts,
+            last,
+            budget,
+            line,
+            from,
+            placed,
+            walk,
+        );
     }
     let half = count / 2;
     let lower = try_starts(

@@ -5,6 +5,7 @@ pub fn all() {
     two_lines();
     three_lines();
     other_networks();
+    caps_by_half_divisors();
     one_line();
 }
 
@@ -62,6 +63,18 @@ fn other_networks() {
         b"P9",
         b"4C0014 4C001E 4300000000 4301000000 4300010007 4301010011 4300020005 4301020008 45",
         &mut pair,
+        1000000,
+    );
+}
+
+// Periods 15, 20 and 4 at one stop: 15 and 4 have no common divisor but 1, so that the cap is 0, the half of 1 rounded down, and every try
+// after the first timetable is dropped. By the even spacing alone, 2, or with halves rounded up, 1, it would take 89 tries.
+fn caps_by_half_divisors() {
+    let mut row = [7, 7, 7];
+    case(
+        b"caps by half divisors",
+        b"4C000F 4C0014 4C0004 4300000000 4301000000 4302000000 45",
+        &mut row,
         1000000,
     );
 }

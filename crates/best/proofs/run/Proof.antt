@@ -1,7 +1,6 @@
 -- `best::run` meets its contract: the lines that the read call answers are at most 16. Assumes nothing.
 use mathlib.Core.Path.{_≡_, sym, ap, _∙_}
 use Rattle.network.specs.Reading.{readAnswer}
-use Rattle.network.specs.Valid.{IsBytes}
 use Rattle.network.proofs.Laws.Valid.{answered-lines}
 use borrow.Author.Needs.{needs}
 use Rattle.best.proofs.run.Statement.{statement}
@@ -23,11 +22,11 @@ cast-find : tie.Need-cast-find
 cast-find c = search needs
 
 find-requires : tie.Need-find-requires
-unfolding IsBytes readAnswer
+unfolding readAnswer
 find-requires c κs =
     let r = c .before .before .before in
-    answered-lines (r .before .before .args .file .now) (λ i. r .before .shared-slice-known .given i .fits) _ _
-    (sym (ap readAnswer (c .before .answer2 .given .1)) ∙ r .read .ensures)
+    answered-lines (r .before .before .args .file .now) (r .read .ensures .1) _ _
+    (sym (ap readAnswer (c .before .answer2 .given .1)) ∙ r .read .ensures .0)
 
 returns : tie.Need-returns
 returns c = search needs

@@ -76,7 +76,7 @@ module _ (n : Net) (t : ℕ) where
       go false = omega arith
 
   -- it tells the stop's class
-  classAt-in : (s : ℕ) → s < 64 → isInClassOf n s t ≡ eqb (classAt n t) s
+  pub classAt-in : (s : ℕ) → s < 64 → isInClassOf n s t ≡ eqb (classAt n t) s
   classAt-in s h = go (isServed t (n .calls))
     where
       go : (x : Bool) → (x && eqb (lowestAlike n t) s) ≡ eqb (pick x (lowestAlike n t) 255) s
@@ -195,7 +195,7 @@ module _ (n : Net) (classes weights : List ℕ) (count stop : ℕ) (f : Filled n
 
 module _ {n : Net} (v : Valid n) where
   -- only the lowest stop of a class has stops in it
-  weight-is : (s : ℕ) → countBelow (isInClassOf n s) 64 ≡ pick (isLowest n s) (countBelow (isInClassOf n s) 64) 0
+  pub weight-is : (s : ℕ) → countBelow (isInClassOf n s) 64 ≡ pick (isLowest n s) (countBelow (isInClassOf n s) 64) 0
   weight-is s = go (isLowest n s) refl
     where
       none : isLowest n s ≡ false → (t : ℕ) → t < 64 → (x : Bool) → isInClassOf n s t ≡ x → x ≡ false

@@ -35,3 +35,5 @@ pub use Rattle.network.proofs.Laws.Permuted.{gapOfStop-permuted, stopGa
 -- the order of ratings
 pub use Rattle.network.proofs.Laws.Order.{Above, above-of-isAbove, isAbove-of-above, below-of-not-isAbove, isAbove-none}
 pub use Rattle.network.proofs.Laws.Order.{none-is-not-above, isAbove-irreflexive, isAbove-transitive}
+-- how large the numbers of a rating can be
+pub use Rattle.network.proofs.Laws.Ranges.{least-range, sum-range}

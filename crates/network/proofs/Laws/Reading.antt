@@ -1,7 +1,7 @@
 -- Laws of reading a file: it is read from one command's place to the next, and each command that passes makes the network one line or one
 -- call longer, which bounds the place. Assumes nothing.
 use Prim.Native.Nat.{ℕ, zero, suc, _+_, _*_, _≤_, _<_}
-use mathlib.Core.Path.{_≡_, refl, ap, _∙_, subst}
+use mathlib.Core.Path.{_≡_, refl, sym, ap, _∙_, subst}
 use mathlib.Core.Bool.{Bool, true, false}
 use mathlib.Core.List.{List, [], _∷_, _++_}
 use native.Mathlib.Omega.{arith}
@@ -17,6 +17,7 @@ use Rattle.network.specs.Network.{maxLines, maxCalls, command, operandBy
 use Rattle.network.specs.Network.{statedOffset, rideOffset, withLine, withCall, callOf, extend}
 use Rattle.network.specs.Grounds.{first, grounds, callGrounds, cutOff}
 use Rattle.network.specs.Reading.{Reading, accepted, refused, proceed, readFrom, readFile}
+use Rattle.network.specs.Gives.{Reached, start, next, Gives, runs-out, refuses, accepts}
 use Rattle.network.proofs.Laws.Lists.{zero-ne-one}
 use Rattle.network.proofs.Laws.Grounds.{line-passes, call-passes, ride-passes, end-passes, refused-named}
 
@@ -70,28 +71,7 @@ counted-next callsByRide n p behind e h r = counted-call n p _ (ride-passes n p 
 counted-next ends n p behind e h r = absurd (h refl)
 counted-next unknown n p behind e h r = absurd (zero-ne-one (cc))
 
--- ---- the places to which the reader comes, and how it ends
-
--- Reading `file` comes to place `p`, where `rest` stands and a command is due, with the network `n` before it
-pub data Reached (file : List ℕ) : Net → ℕ → List ℕ → Type 0 where
-  start : Reached file emptyNet 0 file
-  next : {n : Net} {p b : ℕ} {behind : List ℕ}
-      → Reached file n p (b ∷ behind)
-      → first (grounds (command b) n p behind) ≡ Passes
-      → (command b ≡ ends → ⊥)
-      → Reached file (extend (command b) n behind) (p + 1 + operandBytes (command b)) (drop (operandBytes (command b)) behind)
-
--- The command at which the reading is decided
-pub data Last (file : List ℕ) : Reading → Type 0 where
-  runs-out : {n : Net} {p : ℕ} → Reached file n p [] → Last file (refused 1 p)
-  refuses : {n : Net} {p b : ℕ} {behind : List ℕ} {number place : ℕ}
-      → Reached file n p (b ∷ behind)
-      → first (grounds (command b) n p behind) ≡ Refused number place
-      → Last file (refused number place)
-  accepts : {n : Net} {p b : ℕ} {behind : List ℕ}
-      → Reached file n p (b ∷ behind)
-      → first (grounds ends n p behind) ≡ Passes
-      → Last file (accepted n)
+-- ---- the places to which the reader comes, and what the file gives
 
 -- What a command does with the reading behind it: nothing, where it refuses or ends, and else it hands it on
 proceed-cases : (P : (Reading → Reading) → Type 0) (q : Check) (c : Command) (n : Net)
@@ -108,24 +88,73 @@ proceed-cases P Passes ends n f g h = g refl refl
 proceed-cases P Passes unknown n f g h = h (λ e. zero-ne-one (cc)) refl
 
 -- By the number of bytes that are left
-last-from : (file : List ℕ) (fuel : ℕ) (n : Net) (p : ℕ) (rest : List ℕ) → length rest ≤ fuel → Reached file n p rest
-    → Last file (readFrom n p 0 rest)
+gives-from : (file : List ℕ) (fuel : ℕ) (n : Net) (p : ℕ) (rest : List ℕ) → length rest ≤ fuel → Reached file n p rest
+    → Gives file (readFrom n p 0 rest)
 unfolding readFrom
-last-from file zero n p [] h r = runs-out r
-last-from file zero n p (b ∷ behind) h r = absurd (omega arith)
-last-from file (suc fuel) n p [] h r = runs-out r
-last-from file (suc fuel) n p (b ∷ behind) h r =
+gives-from file zero n p [] h r = runs-out r
+gives-from file zero n p (b ∷ behind) h r = absurd (omega arith)
+gives-from file (suc fuel) n p [] h r = runs-out r
+gives-from file (suc fuel) n p (b ∷ behind) h r =
     let c : Command = command b in
     let onward : Reading = readFrom (extend c n behind) (p + 1) (operandBytes c) behind in
     let left = length-drop (operandBytes c) behind in
-    proceed-cases (λ f. Last file (f onward)) (first (grounds c n p behind)) c n
+    proceed-cases (λ f. Gives file (f onward)) (first (grounds c n p behind)) c n
     (λ number place e. refuses r e)
-    (λ i e. accepts r (rw i at e))
-    (λ i e. let whole = passes-operands c n p behind e in rw readFrom-skip (last-from file fuel _ _ _ (omega arith) (next r e i)))
+    (λ i e. accepts r i e)
+    (λ i e. let whole = passes-operands c n p behind e in rw readFrom-skip (gives-from file fuel _ _ _ (omega arith) (next r e i)))
 
-pub readFile-last : (file : List ℕ) → Last file (readFile file)
+pub readFile-gives : (file : List ℕ) → Gives file (readFile file)
 unfolding readFile
-readFile-last file = last-from file (length file) emptyNet 0 file (omega arith) start
+readFile-gives file = gives-from file (length file) emptyNet 0 file (omega arith) start
+
+-- ---- what a command's byte says of the whole reading from there on
+
+proceed-onward : (c : Command) (n : Net) (onward : Reading) → (c ≡ ends → ⊥) → proceed Passes c n onward ≡ onward
+unfolding proceed
+proceed-onward statesLine n onward f = refl
+proceed-onward callsByOffset n onward f = refl
+proceed-onward callsByRide n onward f = refl
+proceed-onward ends n onward f = absurd (f refl)
+proceed-onward unknown n onward f = refl
+
+module _ (b : ℕ) (n : Net) (p : ℕ) (behind : List ℕ) where
+  onward : Reading
+  onward = readFrom (extend (command b) n behind) (p + 1) (operandBytes (command b)) behind
+
+  read-step : (k : Check) → first (grounds (command b) n p behind) ≡ k → readFrom n p 0 (b ∷ behind) ≡ proceed k (command b) n onward
+  unfolding readFrom onward
+  read-step k e = ap (λ (k : Check). proceed k (command b) n onward) e
+
+  pub read-refused : (number place : ℕ) → first (grounds (command b) n p behind) ≡ Refused number place
+      → readFrom n p 0 (b ∷ behind) ≡ refused number place
+  unfolding proceed
+  read-refused number place e = read-step (Refused number place) e
+
+  pub read-ended : first (grounds (command b) n p behind) ≡ Passes → command b ≡ ends → readFrom n p 0 (b ∷ behind) ≡ accepted n
+  unfolding proceed
+  read-ended e c = read-step Passes e ∙ ap (λ (d : Command). proceed Passes d n onward) c
+
+  pub read-onward : (m : Net) → first (grounds (command b) n p behind) ≡ Passes → (command b ≡ ends → ⊥) → m ≡ extend (command b) n behind
+      → readFrom n p 0 (b ∷ behind) ≡ readFrom m (p + 1 + operandBytes (command b)) 0 (drop (operandBytes (command b)) behind)
+  unfolding onward
+  read-onward m e f g =
+      read-step Passes e
+      ∙ proceed-onward (command b) n onward f
+      ∙ ap (λ (k : Net). readFrom k (p + 1) (operandBytes (command b)) behind) (sym g)
+      ∙ readFrom-skip m (p + 1) (operandBytes (command b)) behind (passes-operands (command b) n p behind e)
+
+-- ---- the relation and what is computed are one
+
+reached-read : {file : List ℕ} {n : Net} {p : ℕ} {rest : List ℕ} → Reached file n p rest → readFile file ≡ readFrom n p 0 rest
+unfolding readFile
+reached-read start = refl
+reached-read (next {n = n} {p = p} {b = b} {behind = behind} r e f) = reached-read r ∙ read-onward b n p behind _ e f refl
+
+pub gives-what-is-read : {file : List ℕ} {reading : Reading} → Gives file reading → readFile file ≡ reading
+unfolding readFrom
+gives-what-is-read (runs-out r) = reached-read r
+gives-what-is-read (refuses {n = n} {p = p} {b = b} {behind = behind} r e) = reached-read r ∙ read-refused b n p behind _ _ e
+gives-what-is-read (accepts {n = n} {p = p} {b = b} {behind = behind} r i e) = reached-read r ∙ read-ended b n p behind e i
 
 module _ {file : List ℕ} where
   pub reached-counted : {n : Net} {p : ℕ} {rest : List ℕ} → Reached file n p rest → Counted n p
@@ -142,24 +171,24 @@ module _ {file : List ℕ} where
 -- ---- what a reading tells
 
 -- A refusal's place is at most 3 * 16 + 5 * 256, or one more by ground 14
-last-named : {file : List ℕ} {number place : ℕ} → Last file (refused number place) → (1 ≤ number) × (number ≤ 14) × (place ≤ 1329)
-last-named (runs-out r) = omega (arith, reached-counted r)
-last-named {number = number} {place = place} (refuses {n = n} {p = p} {b = b} {behind = behind} r f) =
+gives-named : {file : List ℕ} {number place : ℕ} → Gives file (refused number place) → (1 ≤ number) × (number ≤ 14) × (place ≤ 1329)
+gives-named (runs-out r) = omega (arith, reached-counted r)
+gives-named {number = number} {place = place} (refuses {n = n} {p = p} {b = b} {behind = behind} r f) =
     omega (arith, reached-counted r, refused-named (command b) n p behind number place f)
 
 pub refused-place : (file : List ℕ) (number place : ℕ) → readFile file ≡ refused number place → place ≤ 1329
-refused-place file number place e = last-named (rw e at (readFile-last file)) .2
+refused-place file number place e = gives-named (rw e at (readFile-gives file)) .2
 
 pub refused-number : (file : List ℕ) (number place : ℕ) → readFile file ≡ refused number place → (1 ≤ number) × (number ≤ 14)
-refused-number file number place e = omega (arith, last-named (rw e at (readFile-last file)))
+refused-number file number place e = omega (arith, gives-named (rw e at (readFile-gives file)))
 
-last-length : {file : List ℕ} {n : Net} → Last file (accepted n) → length file ≡ 3 * length (n .periods) + 5 * length (n .calls) + 1
-last-length {n = n} (accepts {p = p} {behind = behind} r f) =
-    omega (arith, reached-counted r, reached-length r, end-passes n p behind f .last)
+gives-length : {file : List ℕ} {n : Net} → Gives file (accepted n) → length file ≡ 3 * length (n .periods) + 5 * length (n .calls) + 1
+gives-length {n = n} (accepts {p = p} {behind = behind} r i f) =
+    omega (arith, reached-counted r, reached-length r, end-passes n p behind (rw i at f) .last)
 
 pub accepted-length : (file : List ℕ) (n : Net) → readFile file ≡ accepted n
     → length file ≡ 3 * length (n .periods) + 5 * length (n .calls) + 1
-accepted-length file n e = last-length (rw e at (readFile-last file))
+accepted-length file n e = gives-length (rw e at (readFile-gives file))
 
 -- ---- the first 4,096 bytes decide: a command that is read stands at 1,328 or before, and looks at four bytes behind it at most
 

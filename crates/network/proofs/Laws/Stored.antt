@@ -167,39 +167,3 @@ tells-call c n p behind call (passes, inl (is, made)) =
 tells-call c n p behind call (passes, inr (is, made)) =
     call-told c callsByRide n p behind call _ passes (λ e. zero-ne-one (cc)) is made refl
     (ride-passes n p behind (ap (λ (d : Command). first (grounds d n p behind)) (sym is) ∙ passes) .0)
-
--- ---- what a command's byte says of the whole reading from there on
-
-proceed-onward : (c : Command) (n : Net) (onward : Reading) → (c ≡ ends → ⊥) → proceed Passes c n onward ≡ onward
-unfolding proceed
-proceed-onward statesLine n onward f = refl
-proceed-onward callsByOffset n onward f = refl
-proceed-onward callsByRide n onward f = refl
-proceed-onward ends n onward f = absurd (f refl)
-proceed-onward unknown n onward f = refl
-
-module _ (b : ℕ) (n : Net) (p : ℕ) (behind : List ℕ) where
-  onward : Reading
-  onward = readFrom (extend (command b) n behind) (p + 1) (operandBytes (command b)) behind
-
-  read-step : (k : Check) → first (grounds (command b) n p behind) ≡ k → readFrom n p 0 (b ∷ behind) ≡ proceed k (command b) n onward
-  unfolding readFrom onward
-  read-step k e = ap (λ (k : Check). proceed k (command b) n onward) e
-
-  pub read-refused : (number place : ℕ) → first (grounds (command b) n p behind) ≡ Refused number place
-      → readFrom n p 0 (b ∷ behind) ≡ refused number place
-  unfolding proceed
-  read-refused number place e = read-step (Refused number place) e
-
-  pub read-ended : first (grounds (command b) n p behind) ≡ Passes → command b ≡ ends → readFrom n p 0 (b ∷ behind) ≡ accepted n
-  unfolding proceed
-  read-ended e c = read-step Passes e ∙ ap (λ (d : Command). proceed Passes d n onward) c
-
-  pub read-onward : (m : Net) → first (grounds (command b) n p behind) ≡ Passes → (command b ≡ ends → ⊥) → m ≡ extend (command b) n behind
-      → readFrom n p 0 (b ∷ behind) ≡ readFrom m (p + 1 + operandBytes (command b)) 0 (drop (operandBytes (command b)) behind)
-  unfolding onward
-  read-onward m e f g =
-      read-step Passes e
-      ∙ proceed-onward (command b) n onward f
-      ∙ ap (λ (k : Net). readFrom k (p + 1) (operandBytes (command b)) behind) (sym g)
-      ∙ readFrom-skip m (p + 1) (operandBytes (command b)) behind (passes-operands (command b) n p behind e)

@@ -17,11 +17,12 @@ use Rattle.network.specs.Network.{maxLines, maxPeriod, maxCycle, maxStop
 use Rattle.network.specs.Network.{word, lineOperand, stopOperand, statedOffset, withLine, withCall, callOf, extend}
 use Rattle.network.specs.Grounds.{first, grounds}
 use Rattle.network.specs.Reading.{Reading, readFile, accepted, refused, Outcome, values, refusal, readOutcome}
+use Rattle.network.specs.Gives.{Reached, start, next, Gives, accepts}
 use Rattle.network.specs.Valid.{IsBytes, noCall, Valid}
 use Rattle.network.proofs.Laws.Lists.{zero-ne-one, and-both, any-take-found, snoc-all, snoc-pairs}
 use Rattle.network.proofs.Laws.Divisor.{commonCycle-snoc, period-divides-commonCycle, commonCycle-least, commonCycle-pos}
 use Rattle.network.proofs.Laws.Grounds.{LineFits, CallFits, line-passes, call-passes, ride-passes, end-passes}
-use Rattle.network.proofs.Laws.Reading.{Reached, start, next, Last, accepts, reached-counted, readFile-last}
+use Rattle.network.proofs.Laws.Reading.{reached-counted, readFile-gives}
 
 -- What `Valid` asks of a network on the way, besides the numbers of lines and calls
 record Sound (n : Net) : Type 0 where
@@ -110,10 +111,10 @@ module _ {file : List ℕ} (bytes : IsBytes file) where
   reached-sound (next {n = n} {p = p} {b = b} {behind = behind} r e c) =
       sound-next (command b) n p behind e c (λ i. reached-bytes r (suc i)) (reached-sound r)
 
-  last-valid : {n : Net} → Last file (accepted n) → Valid n
-  last-valid {n = n} (accepts {p = p} {behind = behind} r e) =
+  gives-valid : {n : Net} → Gives file (accepted n) → Valid n
+  gives-valid {n = n} (accepts {p = p} {behind = behind} r i e) =
       let s : Sound n = reached-sound r in
-      let f = end-passes n p behind e in
+      let f = end-passes n p behind (rw i at e) in
       record {
         some-line = f .some-line;
         lines = reached-counted r .lines;
@@ -129,7 +130,7 @@ module _ {file : List ℕ} (bytes : IsBytes file) where
       }
 
 pub accepted-valid : (file : List ℕ) (n : Net) → IsBytes file → readFile file ≡ accepted n → Valid n
-accepted-valid file n bytes e = last-valid bytes (rw e at (readFile-last file))
+accepted-valid file n bytes e = gives-valid bytes (rw e at (readFile-gives file))
 
 -- ---- the lines that the read call answers
 

@@ -1,4 +1,5 @@
--- The search of an accepted network at its end, from the laws of the walk and of upper ratings; and the walk by its outcome. Assumes nothing.
+-- The walk on an accepted network, from the laws of the walk and of upper ratings: how many tries it makes, when it stops, that its best is the
+-- rating of the starts beside it, and that at its end nothing is above. Assumes nothing.
 use Prim.Native.Nat.{ℕ, zero, suc, _+_, _*_, _≤_, _<_}
 use mathlib.Core.Path.{_≡_, refl, sym, ap, _∙_}
 use mathlib.Core.Bool.{Bool, true, false}
@@ -26,7 +27,7 @@ use Rattle.search.proofs.Laws.Chosen as tried
 use Rattle.search.proofs.Laws.Reduced.{reduced, reduced-length, reduced-chosen, reduced-rating}
 use Rattle.search.proofs.Laws.Tries.{length-startCounts}
 use Rattle.search.proofs.Laws.Walk.{Chosen, none-left, next, Chosen-length, Chosen-exists, best-is-chosen}
-use Rattle.search.proofs.Laws.Walk.{walk-tries-le, walk-finishes, none-above-best, finished-has-best}
+use Rattle.search.proofs.Laws.Walk.{walk-tries-le, walk-tries-le-budget, walk-stopped-at-budget, walk-finishes, none-above-best, finished-has-best}
 
 -- ---- the choices of the walk
 
@@ -45,40 +46,51 @@ startCounts-pos (t ∷ periods) f (suc i) h = f (suc i) h
 
 -- ---- the walk on a network
 
-searched-tries-le : (n : Net) (budget : ℕ) → searched n budget .tries ≤ triesBound n
+pub searched-tries-le : (n : Net) (budget : ℕ) → searched n budget .tries ≤ triesBound n
 unfolding searched triesBound
 searched-tries-le n budget =
     omega (arith, walk-tries-le (upperRating n (cap n)) notAbove budget (startCounts (n .periods)) [] atFirst)
 
-searched-finishes : (n : Net) (budget : ℕ) → triesBound n ≤ budget → searched n budget .stopped ≡ false
+pub searched-finishes : (n : Net) (budget : ℕ) → triesBound n ≤ budget → searched n budget .stopped ≡ false
 unfolding searched triesBound
 searched-finishes n budget h =
     walk-finishes (upperRating n (cap n)) notAbove budget (startCounts (n .periods)) [] atFirst refl (omega arith)
 
+pub searched-stopped : (n : Net) (budget : ℕ) → searched n budget .stopped ≡ true → searched n budget .tries ≡ budget
+unfolding searched
+searched-stopped n budget =
+    walk-stopped-at-budget (upperRating n (cap n)) notAbove budget (startCounts (n .periods)) [] atFirst refl
+
+pub searched-tries-le-budget : (n : Net) (budget : ℕ) → searched n budget .tries ≤ budget
+unfolding searched
+searched-tries-le-budget n budget =
+    walk-tries-le-budget (upperRating n (cap n)) notAbove budget (startCounts (n .periods)) [] atFirst (omega arith)
+
+-- A best, whether the walk ended or stopped
+module _ {n : Net} (valid : Valid n) (budget : ℕ) (some : searched n budget .best .some ≡ true) where
+  -- is the rating of the starts beside it
+  searched-rated : searched n budget .best ≡ rating n (searched n budget .starts)
+  unfolding searched
+  searched-rated =
+      let b = best-is-chosen (upperRating n (cap n)) budget (upperRating-some valid (cap n)) (startCounts (n .periods)) notAbove in
+      b .rated some ∙ upper-full valid _ (Chosen-length (b .chosen some) ∙ length-startCounts (n .periods))
+
+  pub searched-length : length (searched n budget .starts) ≡ length (n .periods)
+  unfolding searched
+  searched-length =
+      let b = best-is-chosen (upperRating n (cap n)) budget (upperRating-some valid (cap n)) (startCounts (n .periods)) notAbove in
+      Chosen-length (b .chosen some) ∙ length-startCounts (n .periods)
+
+  pub searched-rating : IsRating n (searched n budget .starts) (searched n budget .best .least) (searched n budget .best .sum)
+  searched-rating = rw searched-rated (rating-is-rating n valid (searched n budget .starts))
+
 module _ {n : Net} (valid : Valid n) (budget : ℕ) (ended : searched n budget .stopped ≡ false) where
-  searched-some : searched n budget .best .some ≡ true
+  pub searched-some : searched n budget .best .some ≡ true
   unfolding searched
   searched-some =
       let (starts, c) = Chosen-exists (startCounts (n .periods)) (startCounts-pos (n .periods) (valid .period-pos)) in
       finished-has-best (upperRating n (cap n)) budget (upperRating-some valid (cap n)) (startCounts (n .periods))
       (λ placed tail c. upper-sound n (cap n) placed tail) ended starts c
-
-  -- The best is the rating of the starts beside it
-  searched-rated : searched n budget .best ≡ rating n (searched n budget .starts)
-  unfolding searched
-  searched-rated =
-      let b = best-is-chosen (upperRating n (cap n)) budget (upperRating-some valid (cap n)) (startCounts (n .periods)) notAbove in
-      b .rated searched-some
-      ∙ upper-full valid _ (Chosen-length (b .chosen searched-some) ∙ length-startCounts (n .periods))
-
-  searched-length : length (searched n budget .starts) ≡ length (n .periods)
-  unfolding searched
-  searched-length =
-      let b = best-is-chosen (upperRating n (cap n)) budget (upperRating-some valid (cap n)) (startCounts (n .periods)) notAbove in
-      Chosen-length (b .chosen searched-some) ∙ length-startCounts (n .periods)
-
-  searched-rating : IsRating n (searched n budget .starts) (searched n budget .best .least) (searched n budget .best .sum)
-  searched-rating = rw searched-rated (rating-is-rating n valid (searched n budget .starts))
 
   -- No starts are rated above it
   searched-none-above : (starts : List ℤ) → length starts ≡ length (n .periods) → isAbove (rating n starts) (searched n budget .best) ≡ false
@@ -90,73 +102,12 @@ module _ {n : Net} (valid : Valid n) (budget : ℕ) (ended : searched n budget .
       (λ placed tail c. upper-sound n (cap n) placed tail) ended (reduced (n .periods) starts)
       (chosen-of-tried _ _ (reduced-chosen valid starts e))
 
-  searched-best : (starts : List ℤ) → length starts ≡ length (n .periods) → {least sum : ℕ} → IsRating n starts least sum
+  pub searched-best : (starts : List ℤ) → length starts ≡ length (n .periods) → {least sum : ℕ} → IsRating n starts least sum
       → (least < searched n budget .best .least) ⊎ ((least ≡ searched n budget .best .least) × (sum ≤ searched n budget .best .sum))
   unfolding rating ratingOver
   searched-best starts e r =
       let (l, s) = IsRating-unique valid r in
       rw (l, s) (below-of-not-isAbove (rating n starts) (searched n budget .best) refl searched-some (searched-none-above starts e))
-
--- ---- the walk by its outcome
-
--- What a finished search tells of its start row and its walk
-record Ended (n : Net) (row budget least sum : ℕ) : Type 0 where
-  fits : row ≡ length (n .periods)
-  ended : searched n budget .stopped ≡ false
-  its-least : searched n budget .best .least ≡ least
-  its-sum : searched n budget .best .sum ≡ sum
-
-ended-of-finished : (n : Net) (row budget : ℕ) {least sum tries : ℕ} → searchOutcome (accepted n) row budget ≡ finished least sum tries
-    → Ended n row budget least sum
-unfolding searchOutcome outcomeOf walkOutcome
-ended-of-finished n row budget {least} {sum} {tries} = go _ _ _ refl refl
-  where
-    go : (f a b : Bool) → eqb row (length (n .periods)) ≡ f → searched n budget .stopped ≡ a
-        → pick f (walkOutcome a b (searched n budget)) (refusal 16 0) ≡ finished least sum tries → Ended n row budget least sum
-    go false a b x y e = absurd (zero-ne-one (cc))
-    go true true false x y e = absurd (zero-ne-one (cc))
-    go true true true x y e = absurd (zero-ne-one (cc))
-    go true false b x y e = record { fits = eqb-true _ _ x; ended = y; its-least = cc; its-sum = cc }
-
-module _ {n : Net} (valid : Valid n) (row : List ℤ) (budget : ℕ) {least sum tries : ℕ}
-    (answered : searchOutcome (accepted n) (length row) budget ≡ finished least sum tries) where
-  told : Ended n (length row) budget least sum
-  told = ended-of-finished n (length row) budget answered
-
-  pub outcome-rated : IsRating n (startRowAfter (accepted n) budget row) least sum
-  unfolding startRowAfter
-  outcome-rated =
-      rw (eq-eqb _ _ (told .fits), searched-some valid budget (told .ended), ← told .its-least, ← told .its-sum)
-      (searched-rating valid budget (told .ended))
-
-  pub outcome-length : length (startRowAfter (accepted n) budget row) ≡ length (n .periods)
-  unfolding startRowAfter
-  outcome-length =
-      rw (eq-eqb _ _ (told .fits), searched-some valid budget (told .ended)) (searched-length valid budget (told .ended))
-
-  pub outcome-best : (starts : List ℤ) → length starts ≡ length (n .periods) → {least′ sum′ : ℕ} → IsRating n starts least′ sum′
-      → (least′ < least) ⊎ ((least′ ≡ least) × (sum′ ≤ sum))
-  outcome-best starts e r =
-      rw (← told .its-least, ← told .its-sum) (searched-best valid budget (told .ended) starts e r)
-
-pub outcome-finished : (n : Net) (row budget : ℕ) → row ≡ length (n .periods) → triesBound n ≤ budget
-    → (least : ℕ) × (sum : ℕ) × (tries : ℕ) × (searchOutcome (accepted n) row budget ≡ finished least sum tries)
-unfolding searchOutcome outcomeOf walkOutcome
-outcome-finished n row budget e h =
-    let s : State = searched n budget in
-    (s .best .least, s .best .sum, s .tries, rw (eq-eqb _ _ e, searched-finishes n budget h) refl)
-
--- ---- the tries
-
-pub outcome-tries-le : (n : Net) (row budget : ℕ) → triesOf (searchOutcome (accepted n) row budget) ≤ triesBound n
-unfolding searchOutcome outcomeOf walkOutcome
-outcome-tries-le n row budget = go (eqb row (length (n .periods))) (searched n budget .stopped) (searched n budget .best .some)
-  where
-    go : (f a b : Bool) → triesOf (pick f (walkOutcome a b (searched n budget)) (refusal 16 0)) ≤ triesBound n
-    go false a b = omega arith
-    go true true false = searched-tries-le n budget
-    go true true true = searched-tries-le n budget
-    go true false b = searched-tries-le n budget
 
 -- ---- the bound
 

@@ -204,7 +204,7 @@ pub none-left : (step : ℕ → State → State) (from count : ℕ) (s : State) 
 unfolding eachStart
 none-left step from count s e = rw e refl
 
-one-left : (step : ℕ → State → State) (from count : ℕ) (s : State) → count ≡ 1 → eachStart step from count s ≡ step from s
+pub one-left : (step : ℕ → State → State) (from count : ℕ) (s : State) → count ≡ 1 → eachStart step from count s ≡ step from s
 one-left step from count s e = ap (λ (k : ℕ). eachStart step from k s) e ∙ eachStart-one step from s
 
 pub halves : (step : ℕ → State → State) (from a count : ℕ) (s t u : State) → a ≤ count → t ≡ eachStart step from a s

@@ -18,7 +18,7 @@ order neither = 2
 
 -- What was chosen is what the definition says
 chosen : (c : tie.After-choose) → betterOf (readFile (c .before .before .args .file .now)) (c .before .before .args .first .now) (c .before .before .args .second .now) ≡ choiceOf (c .choose .result)
-chosen c = sym (c .choose .ensures)
+chosen c = sym (c .choose .ensures .0)
 
 -- A part from 0 on begins where the whole begins
 same-place : (s : tie.Start) → (s .args .first .ptr .0, 0 + s .args .first .ptr .1) ≡ s .args .first .ptr
@@ -49,19 +49,19 @@ returns : tie.Need-returns
 unfolding choiceOf order
 returns c =
     let is = chosen (c .before .before) ∙ ap choiceOf (c .enum-told .given .1) in
-    (λ e. refl, (λ e. absurd (omega (arith, ap order (sym is ∙ e))), λ e. absurd (omega (arith, ap order (sym is ∙ e)))))
+    (λ e. refl, (λ e. absurd (omega (arith, ap order (sym is ∙ e))), (λ e. absurd (omega (arith, ap order (sym is ∙ e))), c .before .before .choose .ensures .1)))
 
 returns-2 : tie.Need-returns-2
 unfolding choiceOf order
 returns-2 c =
     let is = chosen (c .before .before) ∙ ap choiceOf (c .enum-told2 .given .1) in
-    (λ e. absurd (omega (arith, ap order (sym is ∙ e))), (λ e. refl, λ e. absurd (omega (arith, ap order (sym is ∙ e)))))
+    (λ e. absurd (omega (arith, ap order (sym is ∙ e))), (λ e. refl, (λ e. absurd (omega (arith, ap order (sym is ∙ e))), c .before .before .choose .ensures .1)))
 
 returns-3 : tie.Need-returns-3
 unfolding choiceOf order
 returns-3 c =
     let is = chosen (c .before .before .before) ∙ ap choiceOf (c .before .enum-told3 .given .1) in
-    (λ e. absurd (omega (arith, ap order (sym is ∙ e))), (λ e. absurd (omega (arith, ap order (sym is ∙ e))), λ e. (same-place (c .before .before .before .before .before), refl)))
+    (λ e. absurd (omega (arith, ap order (sym is ∙ e))), (λ e. absurd (omega (arith, ap order (sym is ∙ e))), (λ e. (same-place (c .before .before .before .before .before), refl), c .before .before .before .choose .ensures .1)))
 
 pub better-spec : {M : Type 1} → statement M
 better-spec =

@@ -20,8 +20,8 @@ unfolding betterFrom
 by-ratings c =
     let s = c .before .before .before .before .before .before in
     let read = readFile (s .args .file .now) in
-    let one = c .before .before .before .rating-from .ensures ∙ ratingOn-of-rate read (s .args .first .now) _ (c .before .before .before .before .rate .ensures) in
-    let other = c .before .rating-from2 .ensures ∙ ratingOn-of-rate read (s .args .second .now) _ (c .before .before .rate2 .ensures) in
+    let one = c .before .before .before .rating-from .ensures ∙ ratingOn-of-rate read (s .args .first .now) _ (c .before .before .before .before .rate .ensures .0) in
+    let other = c .before .rating-from2 .ensures ∙ ratingOn-of-rate read (s .args .second .now) _ (c .before .before .rate2 .ensures .0) in
     betterOf-from read (s .args .first .now) (s .args .second .now)
     ∙ ap₂ betterFrom (sym one) (sym other)
     ∙ ap (λ (b : Bool). pick b second (pick (c .before .before .before .rating-from .result .some) first neither)) (sym (c .is-above .ensures))
@@ -43,24 +43,30 @@ is-above-requires c κs = search needs
 
 returns : tie.Need-returns
 unfolding choiceOf
-returns c =
-    sym
-    (by-ratings (c .before)
-    ∙ ap (λ (b : Bool). pick b second (pick (c .before .before .before .before .rating-from .result .some) first neither)) (c .if1 .taken))
+returns c = (
+  sym
+      (by-ratings (c .before)
+      ∙ ap (λ (b : Bool). pick b second (pick (c .before .before .before .before .rating-from .result .some) first neither)) (c .if1 .taken)),
+  c .before .before .before .before .before .rate .ensures .1,
+)
 
 returns-2 : tie.Need-returns-2
 unfolding choiceOf
-returns-2 c =
-    sym
-    (by-ratings (c .before .before)
-    ∙ ap₂ (λ (b d : Bool). pick b second (pick d first neither)) (c .before .if1 .left) (c .if2 .taken))
+returns-2 c = (
+  sym
+      (by-ratings (c .before .before)
+      ∙ ap₂ (λ (b d : Bool). pick b second (pick d first neither)) (c .before .if1 .left) (c .if2 .taken)),
+  c .before .before .before .before .before .before .rate .ensures .1,
+)
 
 returns-3 : tie.Need-returns-3
 unfolding choiceOf
-returns-3 c =
-    sym
-    (by-ratings (c .before .before)
-    ∙ ap₂ (λ (b d : Bool). pick b second (pick d first neither)) (c .before .if1 .left) (c .if2 .left))
+returns-3 c = (
+  sym
+      (by-ratings (c .before .before)
+      ∙ ap₂ (λ (b d : Bool). pick b second (pick d first neither)) (c .before .if1 .left) (c .if2 .left)),
+  c .before .before .before .before .before .before .rate .ensures .1,
+)
 
 pub choose-spec : {M : Type 1} → statement M
 choose-spec =

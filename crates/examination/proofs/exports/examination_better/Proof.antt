@@ -17,12 +17,12 @@ use Rattle.examination.proofs.exports.examination_better.Tie as tie
 
 -- What was chosen between the starts is due on the bytes
 chosen : (c : tie.After-choose) → choiceOf (c .choose .result) ≡ betterBytes (readFile (c .before .before .before .before .before .before .before .before .before .before .args .file .now)) (c .before .before .before .before .before .before .before .before .before .before .args .first .now) (c .before .before .before .before .before .before .before .before .before .before .args .second .now)
-unfolding held IsBytes
+unfolding held
 chosen c =
     let s = c .before .before .before .before .before .before .before .before .before .before in
-    c .choose .ensures
+    c .choose .ensures .0
     ∙ ap₂ (λ (one other : List ℤ). betterOf (readFile (s .args .file .now)) one other) (c .before .before .before .before .before .before .sheet-of .ensures .1) (c .before .before .before .before .sheet-of2 .ensures .1)
-    ∙ better-on-bytes (s .args .file .now) (λ i. c .before .before .before .before .before .before .before .before .before .shared-slice-known .given i .fits) (s .args .first .now) (s .args .second .now)
+    ∙ better-on-bytes (s .args .file .now) (c .choose .ensures .1) (s .args .first .now) (s .args .second .now)
 
 sheet-of-requires : tie.Need-sheet-of-requires
 sheet-of-requires c κs = search needs
@@ -60,15 +60,15 @@ enum-told-3 c = search needs
 
 returns : tie.Need-returns
 unfolding betterStatus choiceOf
-returns c = ap betterStatus (sym (ap choiceOf (c .enum-told .given .1)) ∙ chosen (c .before .before))
+returns c = (ap betterStatus (sym (ap choiceOf (c .enum-told .given .1)) ∙ chosen (c .before .before)), c .before .before .choose .ensures .1)
 
 returns-2 : tie.Need-returns-2
 unfolding betterStatus choiceOf
-returns-2 c = ap betterStatus (sym (ap choiceOf (c .enum-told2 .given .1)) ∙ chosen (c .before .before))
+returns-2 c = (ap betterStatus (sym (ap choiceOf (c .enum-told2 .given .1)) ∙ chosen (c .before .before)), c .before .before .choose .ensures .1)
 
 returns-3 : tie.Need-returns-3
 unfolding betterStatus choiceOf
-returns-3 c = ap betterStatus (sym (ap choiceOf (c .enum-told3 .given .1)) ∙ chosen (c .before .before))
+returns-3 c = (ap betterStatus (sym (ap choiceOf (c .enum-told3 .given .1)) ∙ chosen (c .before .before)), c .before .before .choose .ensures .1)
 
 pub examination-better-spec : {M : Type 1} → statement M
 examination-better-spec =

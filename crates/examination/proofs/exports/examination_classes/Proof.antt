@@ -5,8 +5,8 @@ use borrow.Author.Needs.{needs}
 use lib.ListN.{length}
 use Rattle.network.specs.ClassCall.{classAnswer, classOutcome}
 use Rattle.network.specs.Reading.{Outcome, refusal, readFile}
-use Rattle.examination.specs.Exports.{placeOf, status, rowAfter}
-use Rattle.examination.proofs.Laws.Places.{class-place}
+use Rattle.examination.specs.Exports.{status, rowAfter}
+use Rattle.examination.proofs.Laws.Refusals.{class-low}
 use Rattle.examination.proofs.exports.examination_classes.Statement.{statement}
 use Rattle.examination.proofs.exports.examination_classes.Tie as tie
 
@@ -25,10 +25,9 @@ enum-known-told : tie.Need-enum-known-told
 enum-known-told c = search needs
 
 refusal-code-requires : tie.Need-refusal-code-requires
-unfolding placeOf
 refusal-code-requires c κs =
     let s = c .before .before .before .before .before .before .before .before .before .before .before .before .before in
-    rw (ap placeOf (refused-here c)) (class-place (s .args .file .now) (length (s .args .class-row .now)) (length (s .args .weight-row .now)))
+    class-low (s .args .file .now) (s .args .class-row .now) (s .args .weight-row .now) (sym (refused-here c))
 
 enum-known-told-2 : tie.Need-enum-known-told-2
 enum-known-told-2 c = search needs

@@ -13,7 +13,7 @@ use Rattle.examination.specs.Exports.{markStatus, markRow}
 use Rattle.examination.specs.Sheets.{MarkOutcome, refusal, markAnswer, markOutcome}
 use Rattle.examination.specs.Taken.{held}
 use Rattle.examination.proofs.Laws.Bytes.{mark-on-bytes}
-use Rattle.examination.proofs.Laws.Places.{placeOfMark, mark-place}
+use Rattle.examination.proofs.Laws.Refusals.{mark-low}
 use Rattle.examination.proofs.exports.examination_mark.Statement.{statement}
 use Rattle.examination.proofs.exports.examination_mark.Tie as tie
 
@@ -23,12 +23,12 @@ due s = byBytes (λ (read : Reading) (sheet : List ℤ). markOutcome read sheet 
 
 -- What mark answers on the starts is due on the bytes
 answered : (c : tie.After-mark) → markAnswer (c .mark .result) ≡ due (c .before .before .before .before .before .before)
-unfolding held IsBytes
+unfolding held
 answered c =
     let s = c .before .before .before .before .before .before in
-    c .mark .ensures
+    c .mark .ensures .0
     ∙ ap (λ (sheet : List ℤ). markOutcome (readFile (s .args .file .now)) sheet (s .args .budget)) (c .before .before .before .sheet-of .ensures .1)
-    ∙ mark-on-bytes (s .args .budget) (s .args .file .now) (λ i. c .before .before .before .before .before .shared-slice-known .given i .fits) (s .args .sheet .now)
+    ∙ mark-on-bytes (s .args .budget) (s .args .file .now) (c .mark .ensures .1) (s .args .sheet .now)
 
 refused-here : (c : tie.After-known-told) → refusal (c .before .told .given .0 .0) (c .before .told .given .0 .1 .0) ≡ markAnswer (c .before .before .before .mark .result)
 unfolding markAnswer
@@ -50,9 +50,9 @@ enum-known-told : tie.Need-enum-known-told
 enum-known-told c = search needs
 
 refusal-code-requires : tie.Need-refusal-code-requires
-unfolding placeOfMark
 refusal-code-requires c κs =
-    rw (ap placeOfMark (refused-here c ∙ c .before .before .before .mark .ensures)) (mark-place (c .before .before .before .before .before .before .before .before .before .args .file .now) _ (c .before .before .before .before .before .before .before .before .before .args .budget))
+    let s = c .before .before .before .before .before .before .before .before .before in
+    mark-low (s .args .file .now) (c .before .before .before .mark .ensures .1) _ (s .args .budget) (sym (refused-here c ∙ c .before .before .before .mark .ensures .0))
 
 enum-known-told-2 : tie.Need-enum-known-told-2
 enum-known-told-2 c = search needs
@@ -68,14 +68,14 @@ unfolding markStatus markRow
 returns c =
     let s = c .before .before .before .before .before .before .before .before .before .before in
     let told = refused-here (c .before) ∙ answered (c .before .before .before .before) in
-    (c .refusal-code .ensures ∙ ap markStatus told, ap (λ (o : MarkOutcome). markRow o (s .args .answer .now)) told)
+    (c .refusal-code .ensures ∙ ap markStatus told, (ap (λ (o : MarkOutcome). markRow o (s .args .answer .now)) told, c .before .before .before .before .mark .ensures .1))
 
 returns-2 : tie.Need-returns-2
 unfolding markStatus markRow markAnswer
 returns-2 c =
     let s = c .before .before .before .before .before .before .before .before .before .before in
     let told = sym (ap markAnswer (c .before .before .told2 .given .1)) ∙ answered (c .before .before .before .before) in
-    (ap markStatus told, ap (λ (o : MarkOutcome). markRow o (s .args .answer .now)) told)
+    (ap markStatus told, (ap (λ (o : MarkOutcome). markRow o (s .args .answer .now)) told, c .before .before .before .before .mark .ensures .1))
 
 returns-3 : tie.Need-returns-3
 unfolding markStatus markRow markAnswer
@@ -84,8 +84,11 @@ returns-3 c =
     let g = c .before .before .before .told3 .given in
     let told = sym (ap markAnswer (g .1)) ∙ answered (c .before .before .before .before .before) in (
       ap markStatus told,
-      ap (λ (same : ℕ). g .0 .0 ∷ g .0 .1 .0 ∷ g .0 .1 .1 .0 ∷ g .0 .1 .1 .1 .0 ∷ same ∷ g .0 .1 .1 .1 .1 .1 .0 ∷ []) (c .before .one-if .ensures)
-          ∙ ap (λ (o : MarkOutcome). markRow o (s .args .answer .now)) told,
+      (
+        ap (λ (same : ℕ). g .0 .0 ∷ g .0 .1 .0 ∷ g .0 .1 .1 .0 ∷ g .0 .1 .1 .1 .0 ∷ same ∷ g .0 .1 .1 .1 .1 .1 .0 ∷ []) (c .before .one-if .ensures)
+            ∙ ap (λ (o : MarkOutcome). markRow o (s .args .answer .now)) told,
+        c .before .before .before .before .before .mark .ensures .1,
+      ),
     )
 
 pub examination-mark-spec : {M : Type 1} → statement M

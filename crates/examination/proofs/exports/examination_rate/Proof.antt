@@ -9,21 +9,21 @@ use Rattle.network.specs.Rate.{rateAnswer, onSheet, rateOutcome}
 use Rattle.network.specs.Reading.{Outcome, refusal, readFile}
 use Rattle.network.specs.Valid.{IsBytes}
 use Rattle.examination.specs.Bytes.{byBytes}
-use Rattle.examination.specs.Exports.{placeOf, status, rowAfter}
+use Rattle.examination.specs.Exports.{status, rowAfter}
 use Rattle.examination.specs.Taken.{held}
 use Rattle.examination.proofs.Laws.Bytes.{onSheet-on-bytes}
-use Rattle.examination.proofs.Laws.Places.{sheet-place}
+use Rattle.examination.proofs.Laws.Refusals.{sheet-low}
 use Rattle.examination.proofs.exports.examination_rate.Statement.{statement}
 use Rattle.examination.proofs.exports.examination_rate.Tie as tie
 
 -- What rate answers on the starts is due on the bytes
 answered : (c : tie.After-rate) → rateAnswer (c .rate .result) ≡ byBytes rateOutcome refusal (readFile (c .before .before .before .before .before .before .args .file .now)) (c .before .before .before .before .before .before .args .sheet .now)
-unfolding held rateOutcome IsBytes
+unfolding held rateOutcome
 answered c =
     let s = c .before .before .before .before .before .before in
-    c .rate .ensures
+    c .rate .ensures .0
     ∙ ap (λ (sheet : List ℤ). onSheet rating (readFile (s .args .file .now)) sheet) (c .before .before .before .sheet-of .ensures .1)
-    ∙ onSheet-on-bytes rating (s .args .file .now) (λ i. c .before .before .before .before .before .shared-slice-known .given i .fits) (s .args .sheet .now)
+    ∙ onSheet-on-bytes rating (s .args .file .now) (c .rate .ensures .1) (s .args .sheet .now)
 
 sheet-of-requires : tie.Need-sheet-of-requires
 sheet-of-requires c κs = search needs
@@ -41,12 +41,17 @@ rate-requires c κs = search needs
 
 put-rating-requires : tie.Need-put-rating-requires
 unfolding rateOutcome
-put-rating-requires c κs = rw (ap placeOf (c .before .rate .ensures)) (sheet-place (c .before .before .before .before .before .before .before .args .file .now) rating _)
+put-rating-requires c κs = λ number place e. sheet-low (c .before .before .before .before .before .before .before .args .file .now) rating _ (sym (c .before .rate .ensures .0) ∙ e)
 
 returns : tie.Need-returns
 returns c =
-    let told = answered (c .before .before) in
-    (c .put-rating .ensures .0 ∙ ap status told, c .put-rating .ensures .1 ∙ ap (λ (o : Outcome). rowAfter o (c .before .before .before .before .before .before .before .before .args .answer .now)) told)
+    let told = answered (c .before .before) in (
+      c .put-rating .ensures .0 ∙ ap status told,
+      (
+        c .put-rating .ensures .1 ∙ ap (λ (o : Outcome). rowAfter o (c .before .before .before .before .before .before .before .before .args .answer .now)) told,
+        c .before .before .rate .ensures .1,
+      ),
+    )
 
 pub examination-rate-spec : {M : Type 1} → statement M
 examination-rate-spec =

@@ -4,8 +4,8 @@ use mathlib.Core.Path.{_≡_, refl, sym, ap, _∙_}
 use mathlib.Core.List.{List}
 use borrow.Author.Needs.{needs}
 use Rattle.network.specs.Reading.{Outcome, values, refusal, readFile, readAnswer, readOutcome}
-use Rattle.examination.specs.Exports.{placeOf, status, rowAfter}
-use Rattle.examination.proofs.Laws.Places.{read-place}
+use Rattle.examination.specs.Exports.{status, rowAfter}
+use Rattle.examination.proofs.Laws.Refusals.{read-low}
 use Rattle.examination.proofs.exports.examination_read.Statement.{statement}
 use Rattle.examination.proofs.exports.examination_read.Tie as tie
 
@@ -18,11 +18,10 @@ enum-known-told c = search needs
 -- What the arm was told is what the definition says
 refused-here : (c : tie.After-known-told) → refusal (c .before .told .given .0 .0) (c .before .told .given .0 .1 .0) ≡ readOutcome (readFile (c .before .before .before .before .before .args .file .now))
 unfolding readAnswer
-refused-here c = sym (ap readAnswer (c .before .told .given .1)) ∙ c .before .before .before .read .ensures
+refused-here c = sym (ap readAnswer (c .before .told .given .1)) ∙ c .before .before .before .read .ensures .0
 
 refusal-code-requires : tie.Need-refusal-code-requires
-unfolding placeOf
-refusal-code-requires c κs = rw (ap placeOf (refused-here c)) (read-place (c .before .before .before .before .before .args .file .now))
+refusal-code-requires c κs = read-low (c .before .before .before .before .before .args .file .now) (sym (refused-here c))
 
 enum-known-told-2 : tie.Need-enum-known-told-2
 enum-known-told-2 c = search needs
@@ -32,15 +31,15 @@ unfolding status rowAfter
 returns c =
     let s = c .before .before .before .before .before .before in (
       c .refusal-code .ensures ∙ ap status (refused-here (c .before)),
-      ap (λ (o : Outcome). rowAfter o (s .args .answer .now)) (refused-here (c .before)),
+      (ap (λ (o : Outcome). rowAfter o (s .args .answer .now)) (refused-here (c .before)), c .before .before .before .before .read .ensures .1),
     )
 
 returns-2 : tie.Need-returns-2
 unfolding status rowAfter readAnswer
 returns-2 c =
     let s = c .before .before .before .before .before .before in
-    let told = sym (ap readAnswer (c .before .before .told2 .given .1)) ∙ c .before .before .before .before .read .ensures in
-    (ap status told, ap (λ (o : Outcome). rowAfter o (s .args .answer .now)) told)
+    let told = sym (ap readAnswer (c .before .before .told2 .given .1)) ∙ c .before .before .before .before .read .ensures .0 in
+    (ap status told, (ap (λ (o : Outcome). rowAfter o (s .args .answer .now)) told, c .before .before .before .before .read .ensures .1))
 
 pub examination-read-spec : {M : Type 1} → statement M
 examination-read-spec =

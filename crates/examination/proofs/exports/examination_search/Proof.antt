@@ -6,7 +6,7 @@ use lib.ListN.{length}
 use Rattle.network.specs.Reading.{readFile}
 use Rattle.search.specs.Search.{SearchOutcome, refusal, searchAnswer, searchOutcome}
 use Rattle.examination.specs.Exports.{searchStatus, searchRow}
-use Rattle.examination.proofs.Laws.Places.{placeOfSearch, search-place}
+use Rattle.examination.proofs.Laws.Refusals.{search-low}
 use Rattle.examination.proofs.exports.examination_search.Statement.{statement}
 use Rattle.examination.proofs.exports.examination_search.Tie as tie
 
@@ -25,10 +25,9 @@ enum-known-told : tie.Need-enum-known-told
 enum-known-told c = search needs
 
 refusal-code-requires : tie.Need-refusal-code-requires
-unfolding placeOfSearch
 refusal-code-requires c κs =
     let s = c .before .before .before .before .before .before .before in
-    rw (ap placeOfSearch (refused-here c)) (search-place (s .args .file .now) (length (s .args .start-row .now)) (s .args .budget))
+    search-low (s .args .file .now) (c .before .before .before .before .search .ensures .1 .1) (s .args .start-row .now) (s .args .budget) (sym (refused-here c))
 
 enum-known-told-2 : tie.Need-enum-known-told-2
 enum-known-told-2 c = search needs

@@ -9,21 +9,21 @@ use Rattle.network.specs.Rate.{rateAnswer, onSheet}
 use Rattle.network.specs.Reading.{Outcome, refusal, readFile}
 use Rattle.network.specs.Valid.{IsBytes}
 use Rattle.examination.specs.Bytes.{byBytes}
-use Rattle.examination.specs.Exports.{placeOf, status, rowAfter}
+use Rattle.examination.specs.Exports.{status, rowAfter}
 use Rattle.examination.specs.Taken.{held}
 use Rattle.examination.proofs.Laws.Bytes.{onSheet-on-bytes}
-use Rattle.examination.proofs.Laws.Places.{sheet-place}
+use Rattle.examination.proofs.Laws.Refusals.{sheet-low}
 use Rattle.examination.proofs.exports.examination_weighted.Statement.{statement}
 use Rattle.examination.proofs.exports.examination_weighted.Tie as tie
 
 -- What weighted answers on the starts is due on the bytes
 answered : (c : tie.After-weighted) → rateAnswer (c .weighted .result) ≡ byBytes weightedOutcome refusal (readFile (c .before .before .before .before .before .before .args .file .now)) (c .before .before .before .before .before .before .args .sheet .now)
-unfolding held weightedOutcome IsBytes
+unfolding held weightedOutcome
 answered c =
     let s = c .before .before .before .before .before .before in
-    c .weighted .ensures
+    c .weighted .ensures .0
     ∙ ap (λ (sheet : List ℤ). onSheet weightedRating (readFile (s .args .file .now)) sheet) (c .before .before .before .sheet-of .ensures .1)
-    ∙ onSheet-on-bytes weightedRating (s .args .file .now) (λ i. c .before .before .before .before .before .shared-slice-known .given i .fits) (s .args .sheet .now)
+    ∙ onSheet-on-bytes weightedRating (s .args .file .now) (c .weighted .ensures .1) (s .args .sheet .now)
 
 sheet-of-requires : tie.Need-sheet-of-requires
 sheet-of-requires c κs = search needs
@@ -41,12 +41,17 @@ weighted-requires c κs = search needs
 
 put-rating-requires : tie.Need-put-rating-requires
 unfolding weightedOutcome
-put-rating-requires c κs = rw (ap placeOf (c .before .weighted .ensures)) (sheet-place (c .before .before .before .before .before .before .before .args .file .now) weightedRating _)
+put-rating-requires c κs = λ number place e. sheet-low (c .before .before .before .before .before .before .before .args .file .now) weightedRating _ (sym (c .before .weighted .ensures .0) ∙ e)
 
 returns : tie.Need-returns
 returns c =
-    let told = answered (c .before .before) in
-    (c .put-rating .ensures .0 ∙ ap status told, c .put-rating .ensures .1 ∙ ap (λ (o : Outcome). rowAfter o (c .before .before .before .before .before .before .before .before .args .answer .now)) told)
+    let told = answered (c .before .before) in (
+      c .put-rating .ensures .0 ∙ ap status told,
+      (
+        c .put-rating .ensures .1 ∙ ap (λ (o : Outcome). rowAfter o (c .before .before .before .before .before .before .before .before .args .answer .now)) told,
+        c .before .before .weighted .ensures .1,
+      ),
+    )
 
 pub examination-weighted-spec : {M : Type 1} → statement M
 examination-weighted-spec =

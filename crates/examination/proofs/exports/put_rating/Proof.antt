@@ -4,7 +4,7 @@ use borrow.Author.Needs.{needs}
 use Rattle.network.specs.declared.RateAnswer.{RateAnswer}
 use Rattle.network.specs.Rate.{rateAnswer}
 use Rattle.network.specs.Reading.{Outcome}
-use Rattle.examination.specs.Exports.{placeOf, status, rowAfter}
+use Rattle.examination.specs.Exports.{status, rowAfter}
 use Rattle.examination.proofs.exports.put_rating.Statement.{statement}
 use Rattle.examination.proofs.exports.put_rating.Tie as tie
 
@@ -12,8 +12,8 @@ enum-known-told : tie.Need-enum-known-told
 enum-known-told c = search needs
 
 refusal-code-requires : tie.Need-refusal-code-requires
-unfolding placeOf rateAnswer
-refusal-code-requires c κs = rw (sym (ap (λ (r : RateAnswer). placeOf (rateAnswer r)) (c .before .told .given .1))) (c .before .before .before .pre)
+unfolding rateAnswer
+refusal-code-requires c κs = c .before .before .before .pre _ _ (ap rateAnswer (c .before .told .given .1))
 
 enum-known-told-2 : tie.Need-enum-known-told-2
 enum-known-told-2 c = search needs

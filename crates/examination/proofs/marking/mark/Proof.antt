@@ -22,14 +22,13 @@ use Rattle.examination.proofs.marking.mark.Tie as tie
 rated-here : (c : tie.After-known-told2)
     → RatedOn (readFile (c .before .before .before .before .before .args .file .now)) (c .before .before .before .before .before .args .sheet .now) (c .before .rated2 .given .0 .0) (c .before .rated2 .given .0 .1 .0)
 unfolding rateAnswer
-rated-here c = rated-on _ _ (sym (ap rateAnswer (c .before .rated2 .given .1)) ∙ c .before .before .before .rate .ensures)
+rated-here c = rated-on _ _ (sym (ap rateAnswer (c .before .rated2 .given .1)) ∙ c .before .before .before .rate .ensures .0)
 
 -- .. which has at most 16 lines
 few : (c : tie.After-known-told2) → length (c .before .before .before .before .before .args .sheet .now) ≤ 16
-unfolding IsBytes
 few c =
     let r = rated-here c in
-    let valid = accepted-valid (c .before .before .before .before .before .args .file .now) (r .net) (λ i. c .before .before .before .before .shared-slice-known .given i .fits) (r .reads) in
+    let valid = accepted-valid (c .before .before .before .before .before .args .file .now) (r .net) (c .before .before .before .rate .ensures .1) (r .reads) in
     omega (arith, r .fit, valid .lines)
 
 rate-requires : tie.Need-rate-requires
@@ -56,21 +55,25 @@ marked-requires c κs = search needs
 returns : tie.Need-returns
 unfolding sheets.markAnswer rateAnswer
 returns c =
-    let s = c .before .before .before .before .before in
-    mark-refused (readFile (s .args .file .now)) (s .args .sheet .now) (s .args .budget)
-    (sym (ap rateAnswer (c .before .rated .given .1)) ∙ c .before .before .before .rate .ensures)
+    let s = c .before .before .before .before .before in (
+      mark-refused (readFile (s .args .file .now)) (s .args .sheet .now) (s .args .budget)
+          (sym (ap rateAnswer (c .before .rated .given .1)) ∙ c .before .before .before .rate .ensures .0),
+      c .before .before .before .rate .ensures .1,
+    )
 
 returns-2 : tie.Need-returns-2
 returns-2 c =
     let t = c .before .before .before .before in
     let s = t .before .before .before .before .before in
-    let read = readFile (s .args .file .now) in
-    c .marked .ensures
-    ∙ ap (λ (o : SearchOutcome). sheets.marked (t .before .rated2 .given .0 .0) (t .before .rated2 .given .0 .1 .0) o)
-    (c .before .before .search .ensures .0
-    ∙ ap (λ (k : ℕ). searchOutcome read k (s .args .budget))
-    (length-take-le (length (s .args .sheet .now)) (replicate 16 (pos 0)) (few t)))
-    ∙ mark-rated read (s .args .sheet .now) (s .args .budget) (rated-here t)
+    let read = readFile (s .args .file .now) in (
+      c .marked .ensures
+          ∙ ap (λ (o : SearchOutcome). sheets.marked (t .before .rated2 .given .0 .0) (t .before .rated2 .given .0 .1 .0) o)
+          (c .before .before .search .ensures .0
+          ∙ ap (λ (k : ℕ). searchOutcome read k (s .args .budget))
+          (length-take-le (length (s .args .sheet .now)) (replicate 16 (pos 0)) (few t)))
+          ∙ mark-rated read (s .args .sheet .now) (s .args .budget) (rated-here t),
+      c .before .before .search .ensures .1 .1,
+    )
 
 pub mark-spec : {M : Type 1} → statement M
 mark-spec =

@@ -1,10 +1,8 @@
 -- `examination::marking::marked` meets its contract, case by case; both ratings are equal where both numbers are. Assumes nothing.
-use Prim.Native.Nat.{ℕ}
-use mathlib.Core.Path.{_≡_, refl, sym, ap, _∙_}
-use mathlib.Core.Bool.{Bool, true, false, _&&_}
+use mathlib.Core.Path.{sym, ap, _∙_}
+use mathlib.Core.Bool.{Bool}
 use borrow.Author.Needs.{needs}
-use borrow.Author.Tests.{eq-eqb, ne-eqb}
-use lib.Dec.{eqb}
+use Rattle.network.specs.Rating.{isEqual}
 use Rattle.search.specs.declared.SearchAnswer.{SearchAnswer}
 use Rattle.search.specs.Search.{searchAnswer}
 use Rattle.examination.specs.Sheets as sheets
@@ -13,6 +11,9 @@ use Rattle.examination.proofs.marking.marked.Tie as tie
 
 enum-known-answer : tie.Need-enum-known-answer
 enum-known-answer c = search needs
+
+is-equal-requires : tie.Need-is-equal-requires
+is-equal-requires c κs = search needs
 
 enum-known-answer-2 : tie.Need-enum-known-answer-2
 enum-known-answer-2 c = search needs
@@ -28,49 +29,35 @@ abbrev wanted : (s : tie.Start) → SearchAnswer → sheets.MarkOutcome
 wanted s answer = sheets.marked (s .args .least) (s .args .sum) (searchAnswer answer)
 
 returns : tie.Need-returns
-unfolding sheets.markAnswer sheets.marked searchAnswer
+unfolding sheets.markAnswer sheets.marked searchAnswer isEqual
 returns c =
     let s = c .before .before .before .before in
     let g = c .before .before .answer .given in
-    sym
-    (ap (wanted s) (g .1)
-    ∙ ap (λ (b : Bool). sheets.decided (s .args .least) (s .args .sum) (g .0 .0) (g .0 .1 .0) (b && eqb (s .args .sum) (g .0 .1 .0)) (g .0 .1 .1 .0))
-    (eq-eqb (s .args .least) (g .0 .0) (c .if1 .taken)))
+    ap (λ (b : Bool). sheets.decided (s .args .least) (s .args .sum) (g .0 .0) (g .0 .1 .0) b (g .0 .1 .1 .0)) (c .is-equal .ensures)
+    ∙ sym (ap (wanted s) (g .1))
 
 returns-2 : tie.Need-returns-2
 unfolding sheets.markAnswer sheets.marked searchAnswer
-returns-2 c =
-    let s = c .before .before .before .before in
-    let g = c .before .before .answer .given in
-    let differ = ne-eqb (s .args .least) (g .0 .0) (c .if1 .left) in
-    ap (λ (b : Bool). sheets.decided (s .args .least) (s .args .sum) (g .0 .0) (g .0 .1 .0) b (g .0 .1 .1 .0)) differ
-    ∙ sym
-    (ap (wanted s) (g .1)
-    ∙ ap (λ (b : Bool). sheets.decided (s .args .least) (s .args .sum) (g .0 .0) (g .0 .1 .0) (b && eqb (s .args .sum) (g .0 .1 .0)) (g .0 .1 .1 .0))
-    differ)
+returns-2 c = sym (ap (wanted (c .before .before .before)) (c .before .answer2 .given .1))
 
 returns-3 : tie.Need-returns-3
 unfolding sheets.markAnswer sheets.marked searchAnswer
-returns-3 c = sym (ap (wanted (c .before .before .before)) (c .before .answer2 .given .1))
+returns-3 c = sym (ap (wanted (c .before .before .before)) (c .before .answer3 .given .1))
 
 returns-4 : tie.Need-returns-4
 unfolding sheets.markAnswer sheets.marked searchAnswer
-returns-4 c = sym (ap (wanted (c .before .before .before)) (c .before .answer3 .given .1))
-
-returns-5 : tie.Need-returns-5
-unfolding sheets.markAnswer sheets.marked searchAnswer
-returns-5 c = sym (ap (wanted (c .before .before .before)) (c .before .answer4 .given .1))
+returns-4 c = sym (ap (wanted (c .before .before .before)) (c .before .answer4 .given .1))
 
 pub marked-spec : {M : Type 1} → statement M
 marked-spec =
     tie.close
     (tie.spec
     enum-known-answer
+    is-equal-requires
     enum-known-answer-2
     enum-known-answer-3
     enum-known-answer-4
     returns
     returns-2
     returns-3
-    returns-4
-    returns-5)
+    returns-4)

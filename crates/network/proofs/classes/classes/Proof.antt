@@ -15,6 +15,14 @@ use Rattle.network.proofs.Laws.Weighted.{answered-refused, answered-unf
 use Rattle.network.proofs.classes.classes.Statement.{statement}
 use Rattle.network.proofs.classes.classes.Tie as tie
 
+-- What was lent are bytes
+bytes-here : (c : tie.After-read-network) → IsBytes (c .before .before .before .before .args .file .now)
+unfolding IsBytes
+bytes-here c i = c .before .before .before .shared-slice-known .given i .fits
+
+and-bytes : {A B C D : Type 0} → A × (B × C) → D → A × (B × (C × D))
+and-bytes a d = (a .0, (a .1 .0, (a .1 .1, d)))
+
 -- In the arm of `Passes` the file is accepted, as a valid network
 module _ (c : tie.After-enum-told) where
   abbrev start : tie.Start
@@ -27,9 +35,7 @@ module _ (c : tie.After-enum-told) where
       ∙ ap (λ (k : Check). readingOf k (c .before .before .before .read-network .result .network)) (c .enum-told .given .1)
 
   valid-here : Valid (netOf (c .before .before .before .read-network .result .network))
-  unfolding IsBytes
-  valid-here =
-      accepted-valid (start .args .file .now) _ (λ i. c .before .before .before .before .before .before .shared-slice-known .given i .fits) accepted-here
+  valid-here = accepted-valid (start .args .file .now) _ (bytes-here (c .before .before .before)) accepted-here
 
 read-network-requires : tie.Need-read-network-requires
 read-network-requires c κs = search needs
@@ -59,34 +65,42 @@ returns c =
     let t = f .before .before .before in
     let e = t .before .before in
     let r = e .before .before .before .read-network .result .network in
-    answered-filled (readFile (start e .args .file .now)) (start e .args .class-row .now) (start e .args .weight-row .now) (netOf r)
+    and-bytes
+    (answered-filled (readFile (start e .args .file .now)) (start e .args .class-row .now) (start e .args .weight-row .now) (netOf r)
     (f .fill-rows .result) (f .fill-rows .last .1 .0) (f .fill-rows .last .1 .1 .0) (accepted-here e)
     (and-both _ _ (eq-eqb _ _ (t .before .if1 .taken)) (eq-eqb _ _ (t .if2 .taken)))
-    (f .fill-rows .ensures .0) (f .fill-rows .ensures .1 .0) (f .fill-rows .ensures .1 .1)
+    (f .fill-rows .ensures .0) (f .fill-rows .ensures .1 .0) (f .fill-rows .ensures .1 .1))
+    (bytes-here (e .before .before .before))
 
 returns-2 : tie.Need-returns-2
 unfolding classAnswer readingOf
 returns-2 c =
     let r = c .before .before .before .before .read-network in
     let s = c .before .before .before .before .before .before .before .before in
-    answered-refused (readFile (s .args .file .now)) (s .args .class-row .now) (s .args .weight-row .now) _ _
-    (sym (r .ensures .1) ∙ ap (λ (k : Check). readingOf k (r .result .network)) (c .before .check .given .1))
+    and-bytes
+    (answered-refused (readFile (s .args .file .now)) (s .args .class-row .now) (s .args .weight-row .now) _ _
+    (sym (r .ensures .1) ∙ ap (λ (k : Check). readingOf k (r .result .network)) (c .before .check .given .1)))
+    (bytes-here (c .before .before .before .before))
 
 returns-3 : tie.Need-returns-3
 unfolding classAnswer rowsFit
 returns-3 c =
     let e = c .before .before in
     let r = e .before .before .before .read-network .result .network in
-    answered-unfit (readFile (start e .args .file .now)) (start e .args .class-row .now) (start e .args .weight-row .now) (netOf r) (accepted-here e)
-    (and-not-right (eqb (length (start e .args .class-row .now)) 64) _ (ne-eqb _ _ (c .if2 .left)))
+    and-bytes
+    (answered-unfit (readFile (start e .args .file .now)) (start e .args .class-row .now) (start e .args .weight-row .now) (netOf r) (accepted-here e)
+    (and-not-right (eqb (length (start e .args .class-row .now)) 64) _ (ne-eqb _ _ (c .if2 .left))))
+    (bytes-here (e .before .before .before))
 
 returns-4 : tie.Need-returns-4
 unfolding classAnswer rowsFit
 returns-4 c =
     let e = c .before in
     let r = e .before .before .before .read-network .result .network in
-    answered-unfit (readFile (start e .args .file .now)) (start e .args .class-row .now) (start e .args .weight-row .now) (netOf r) (accepted-here e)
-    (and-not-left _ _ (ne-eqb _ _ (c .if1 .left)))
+    and-bytes
+    (answered-unfit (readFile (start e .args .file .now)) (start e .args .class-row .now) (start e .args .weight-row .now) (netOf r) (accepted-here e)
+    (and-not-left _ _ (ne-eqb _ _ (c .if1 .left))))
+    (bytes-here (e .before .before .before))
 
 pub classes-spec : {M : Type 1} → statement M
 classes-spec =

@@ -20,6 +20,11 @@ use Rattle.network.proofs.Laws.Stored.{held-lines}
 use Rattle.network.proofs.rate.rate.Statement.{statement}
 use Rattle.network.proofs.rate.rate.Tie as tie
 
+-- What was lent are bytes
+bytes-here : (c : tie.After-read-network) → IsBytes (c .before .before .args .file .now)
+unfolding IsBytes
+bytes-here c i = c .before .shared-slice-known .given i .fits
+
 -- In the arm of `Passes` the file is accepted, as a valid network
 accepted-here : (c : tie.After-enum-told) → readFile (c .before .before .before .before .before .args .file .now) ≡ accepted (netOf (c .before .before .before .read-network .result .network))
 unfolding readingOf
@@ -27,8 +32,7 @@ accepted-here c =
     sym (c .before .before .before .read-network .ensures .1) ∙ ap (λ (k : Check). readingOf k (c .before .before .before .read-network .result .network)) (c .enum-told .given .1)
 
 valid-here : (c : tie.After-enum-told) → Valid (netOf (c .before .before .before .read-network .result .network))
-unfolding IsBytes
-valid-here c = accepted-valid (c .before .before .before .before .before .args .file .now) _ (λ i. c .before .before .before .before .shared-slice-known .given i .fits) (accepted-here c)
+valid-here c = accepted-valid (c .before .before .before .before .before .args .file .now) _ (bytes-here (c .before .before .before)) (accepted-here c)
 
 read-network-requires : tie.Need-read-network-requires
 read-network-requires c κs = search needs
@@ -52,17 +56,21 @@ returns c =
     let r = c .before .before .before .before .before .before .read-network in
     let n = netOf (r .result .network) in
     let sheet = c .before .before .before .before .before .before .before .before .args .sheet .now in
-    let fits : eqb (length sheet) (length (n .periods)) ≡ true = eq-eqb _ _ (c .before .if1 .taken ∙ sym (held-lines (r .result .network) (r .ensures .0))) in
-    ap ratingValues (c .sheet-rating .ensures)
-    ∙ sym (ap (λ (k : Reading). onSheet rating k sheet) (accepted-here t) ∙ ap (λ b. pick b (ratingValues (rating n sheet)) (refusal 15 0)) fits)
+    let fits : eqb (length sheet) (length (n .periods)) ≡ true = eq-eqb _ _ (c .before .if1 .taken ∙ sym (held-lines (r .result .network) (r .ensures .0))) in (
+      ap ratingValues (c .sheet-rating .ensures)
+          ∙ sym (ap (λ (k : Reading). onSheet rating k sheet) (accepted-here t) ∙ ap (λ b. pick b (ratingValues (rating n sheet)) (refusal 15 0)) fits),
+      bytes-here (t .before .before .before),
+    )
 
 returns-2 : tie.Need-returns-2
 unfolding rateAnswer rateOutcome onSheet readingOf
 returns-2 c =
-    let r = c .before .before .before .before .read-network in
-    sym
-    (ap (λ (k : Reading). onSheet rating k (c .before .before .before .before .before .before .args .sheet .now))
-    (sym (r .ensures .1) ∙ ap (λ (k : Check). readingOf k (r .result .network)) (c .before .check .given .1)))
+    let r = c .before .before .before .before .read-network in (
+      sym
+          (ap (λ (k : Reading). onSheet rating k (c .before .before .before .before .before .before .args .sheet .now))
+          (sym (r .ensures .1) ∙ ap (λ (k : Check). readingOf k (r .result .network)) (c .before .check .given .1))),
+      bytes-here (c .before .before .before .before),
+    )
 
 returns-3 : tie.Need-returns-3
 unfolding rateAnswer rateOutcome onSheet
@@ -72,8 +80,10 @@ returns-3 c =
     let n = netOf (r .result .network) in
     let sheet = c .before .before .before .before .before .before .before .args .sheet .now in
     let unfit : eqb (length sheet) (length (n .periods)) ≡ false =
-    ne-eqb _ _ (λ e. c .if1 .left (e ∙ held-lines (r .result .network) (r .ensures .0))) in
-    sym (ap (λ (k : Reading). onSheet rating k sheet) (accepted-here t) ∙ ap (λ b. pick b (ratingValues (rating n sheet)) (refusal 15 0)) unfit)
+    ne-eqb _ _ (λ e. c .if1 .left (e ∙ held-lines (r .result .network) (r .ensures .0))) in (
+      sym (ap (λ (k : Reading). onSheet rating k sheet) (accepted-here t) ∙ ap (λ b. pick b (ratingValues (rating n sheet)) (refusal 15 0)) unfit),
+      bytes-here (t .before .before .before),
+    )
 
 pub rate-spec : {M : Type 1} → statement M
 rate-spec =

@@ -23,12 +23,17 @@ values-are :
     ≡ values (length (netOf n .periods) ∷ servedStops (netOf n) ∷ length (netOf n .calls) ∷ cycle (netOf n) ∷ [])
 values-are n stops s e = cc (held-lines n s, held-calls n s, s .cycle-is)
 
+-- What was lent are bytes
+bytes-here : (c : tie.After-read-network) → IsBytes (c .before .before .args .file .now)
+unfolding IsBytes
+bytes-here c i = c .before .shared-slice-known .given i .fits
+
 -- In the arm of `Passes` the file is accepted, as a valid network
 valid-here : (c : tie.After-enum-told) → Valid (netOf (c .before .before .before .read-network .result .network))
-unfolding IsBytes readingOf
+unfolding readingOf
 valid-here c =
     let r = c .before .before .before .read-network in
-    accepted-valid (c .before .before .before .before .before .args .file .now) _ (λ i. c .before .before .before .before .shared-slice-known .given i .fits)
+    accepted-valid (c .before .before .before .before .before .args .file .now) _ (bytes-here (c .before .before .before))
     (sym (r .ensures .1) ∙ ap (λ (k : Check). readingOf k (r .result .network)) (c .enum-told .given .1))
 
 read-network-requires : tie.Need-read-network-requires
@@ -52,16 +57,20 @@ cast-t10 c = search needs
 returns : tie.Need-returns
 unfolding readAnswer readOutcome readingOf
 returns c =
-    let r = c .before .before .before .before .read-network in
-    sym (ap readOutcome (sym (r .ensures .1) ∙ ap (λ (k : Check). readingOf k (r .result .network)) (c .before .check .given .1)))
+    let r = c .before .before .before .before .read-network in (
+      sym (ap readOutcome (sym (r .ensures .1) ∙ ap (λ (k : Check). readingOf k (r .result .network)) (c .before .check .given .1))),
+      bytes-here (c .before .before .before .before),
+    )
 
 returns-2 : tie.Need-returns-2
 unfolding readAnswer readOutcome readingOf
 returns-2 c =
     let r = c .before .before .before .before .before .before .read-network in
-    let n = r .result .network in
-    values-are n (c .before .served-stops .result) (r .ensures .0) (c .before .served-stops .ensures)
-    ∙ sym (ap readOutcome (sym (r .ensures .1) ∙ ap (λ (k : Check). readingOf k n) (c .before .before .before .enum-told .given .1)))
+    let n = r .result .network in (
+      values-are n (c .before .served-stops .result) (r .ensures .0) (c .before .served-stops .ensures)
+          ∙ sym (ap readOutcome (sym (r .ensures .1) ∙ ap (λ (k : Check). readingOf k n) (c .before .before .before .enum-told .given .1))),
+      bytes-here (c .before .before .before .before .before .before),
+    )
 
 pub read-spec : {M : Type 1} → statement M
 read-spec =

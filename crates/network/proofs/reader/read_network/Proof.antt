@@ -22,10 +22,9 @@ use Rattle.network.proofs.Laws.Lists.{take-rest}
 use Rattle.network.proofs.Laws.Kept.{Kept, kept-line, kept-call}
 use Rattle.network.proofs.Laws.Latest.{latest-none}
 use Rattle.network.proofs.Laws.Offsets.{marks-none}
-use Rattle.network.proofs.Laws.Reading.{passes-operands}
+use Rattle.network.proofs.Laws.Reading.{passes-operands, read-refused, read-ended, read-onward}
 use Rattle.network.proofs.Laws.Scan.{getD-zeros}
 use Rattle.network.proofs.Laws.Stored.{LineTold, CallTold, held-lines, held-calls, has-size, line-added, call-added, tells-line, tells-call}
-use Rattle.network.proofs.Laws.Stored.{read-refused, read-ended, read-onward}
 use Rattle.network.proofs.reader.read_network.Statement.{statement}
 use Rattle.network.proofs.reader.read_network.Tie as tie
 

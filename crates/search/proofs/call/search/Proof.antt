@@ -22,6 +22,11 @@ use Rattle.search.proofs.Laws.Called.{outcome-fit, row-fit, outcome-unf
 use Rattle.search.proofs.call.search.Statement.{statement}
 use Rattle.search.proofs.call.search.Tie as tie
 
+-- What was lent are bytes
+bytes-here : (c : tie.After-read-network) → IsBytes (c .before .before .args .file .now)
+unfolding IsBytes
+bytes-here c i = c .before .shared-slice-known .given i .fits
+
 -- In the arm of `Passes` the file is accepted, as a valid network
 accepted-here : (c : tie.After-enum-told) → readFile (c .before .before .before .before .before .args .file .now) ≡ accepted (netOf (c .before .before .before .read-network .result .network))
 unfolding readingOf
@@ -29,8 +34,7 @@ accepted-here c =
     sym (c .before .before .before .read-network .ensures .1) ∙ ap (λ (k : Check). readingOf k (c .before .before .before .read-network .result .network)) (c .enum-told .given .1)
 
 valid-here : (c : tie.After-enum-told) → Valid (netOf (c .before .before .before .read-network .result .network))
-unfolding IsBytes
-valid-here c = accepted-valid (c .before .before .before .before .before .args .file .now) _ (λ i. c .before .before .before .before .shared-slice-known .given i .fits) (accepted-here c)
+valid-here c = accepted-valid (c .before .before .before .before .before .args .file .now) _ (bytes-here (c .before .before .before)) (accepted-here c)
 
 -- There the row has one place for each line
 fits-here : (c : tie.Then1) → length (c .before .before .before .before .before .before .before .args .row .now) ≡ length (netOf (c .before .before .before .before .before .read-network .result .network) .periods)
@@ -80,10 +84,13 @@ returns c =
           ∙ sym
           (ap (λ (k : Reading). searchOutcome k (length (s .args .row .now)) (s .args .budget)) (accepted-here (t .before .before))
           ∙ outcome-fit n (s .args .budget) (s .args .row .now) (fits-here t) (walk .result) (walk .ensures)),
-      row-here (c .before)
-          ∙ sym
-          (ap (λ (k : Reading). startRowAfter k (s .args .budget) (s .args .row .now)) (accepted-here (t .before .before))
-          ∙ row-fit n (s .args .budget) (s .args .row .now) (fits-here t) (walk .result) (walk .ensures)),
+      (
+        row-here (c .before)
+            ∙ sym
+            (ap (λ (k : Reading). startRowAfter k (s .args .budget) (s .args .row .now)) (accepted-here (t .before .before))
+            ∙ row-fit n (s .args .budget) (s .args .row .now) (fits-here t) (walk .result) (walk .ensures)),
+        bytes-here (t .before .before .before .before .before),
+      ),
     )
 
 returns-2 : tie.Need-returns-2
@@ -93,7 +100,7 @@ returns-2 c =
     let r = c .before .before .before .before .read-network in
     let refused-here = sym (r .ensures .1) ∙ ap (λ (k : Check). readingOf k (r .result .network)) (c .before .check .given .1) in (
       sym (ap (λ (k : Reading). searchOutcome k (length (s .args .row .now)) (s .args .budget)) refused-here),
-      sym (ap (λ (k : Reading). startRowAfter k (s .args .budget) (s .args .row .now)) refused-here),
+      (sym (ap (λ (k : Reading). startRowAfter k (s .args .budget) (s .args .row .now)) refused-here), bytes-here (c .before .before .before .before)),
     )
 
 returns-3 : tie.Need-returns-3
@@ -107,7 +114,10 @@ returns-3 c =
       sym
           (ap (λ (k : Reading). searchOutcome k (length (s .args .row .now)) (s .args .budget)) (accepted-here t)
           ∙ outcome-unfit n (s .args .budget) (s .args .row .now) unfit),
-      sym (ap (λ (k : Reading). startRowAfter k (s .args .budget) (s .args .row .now)) (accepted-here t) ∙ row-unfit n (s .args .budget) (s .args .row .now) unfit),
+      (
+        sym (ap (λ (k : Reading). startRowAfter k (s .args .budget) (s .args .row .now)) (accepted-here t) ∙ row-unfit n (s .args .budget) (s .args .row .now) unfit),
+        bytes-here (t .before .before .before),
+      ),
     )
 
 pub search-spec : {M : Type 1} → statement M

@@ -14,7 +14,7 @@ use Rattle.search.proofs.Laws.Tries.{
   halves,
   next-few,
   none-left,
-  one-more,
+  one-left,
 }
 use mathlib.Core.Path.{_≡_, sym, ap, _∙_}
 use native.Mathlib.Omega.{arith}
@@ -213,115 +213,52 @@ judge-returns-5 t c = let s = c .before .before .before .before .before .before 
       (sym (c .before .is-above .ensures) ∙ c .if3 .left),
 )
 
--- the loop over a few starts: those passed are tried
-abbrev Inv-loop : try-starts-lts.InvT-loop
-Inv-loop stops lines offsets previous divisors first counts last budget line from count placed next₀ end start₀ next start =
-    (from ≤ start)
-    × (start ≤ from + count)
-    × (next .tries ≤ budget)
-    × ((l : Laid stops lines offsets previous divisors first)
-    → CanTry (l .linked .net) counts last line placed
-    → stateOf (l .linked .net) next
-    ≡ eachStart (tryAt (l .linked .net) budget line (startsOf line (placed .starts))) from (start - from) (stateOf (l .linked .net) next₀))
-
-abbrev μ-loop : try-starts-lts.MeasureT-loop
-μ-loop stops lines offsets previous divisors first counts last budget line from count placed next₀ end start₀ next start = from + count - start
-
-try-starts-add-start-end : (t : ℕ) → try-starts-lts.Need-add-start-end (
+try-starts-returns : (t : ℕ) → try-starts-lts.Need-returns (
   judge-below t,
   judge.Post,
   try-starts-below t,
   try-starts.Post,
-) (try-starts-at t) try-starts.Post Inv-loop μ-loop
-try-starts-add-start-end t c = let s = c .before in omega (arith, s .pre .1 .1 .0)
-
-try-starts-loop-holds : (t : ℕ) → try-starts-lts.Need-loop-holds (
-  judge-below t,
-  judge.Post,
-  try-starts-below t,
-  try-starts.Post,
-) (try-starts-at t) try-starts.Post Inv-loop μ-loop
-try-starts-loop-holds t c = let s = c .before in
-    (omega arith, omega arith, s .pre .1 .1 .1, λ l can. sym (none-left _ (s .args .from) (s .args .from - s .args .from) _ (omega arith)))
+) (try-starts-at t) try-starts.Post
+try-starts-returns t c = let s = c .before in (s .pre .1 .1 .1, λ l can. sym (none-left _ (s .args .from) (s .args .count) _ (c .if1 .taken)))
 
 try-starts-judge-requires : (t : ℕ) → try-starts-lts.Need-judge-requires (
   judge-below t,
   judge.Post,
   try-starts-below t,
   try-starts.Post,
-) (try-starts-at t) try-starts.Post Inv-loop μ-loop
-try-starts-judge-requires t c κs = let s = c .before .before .before in (
-  omega (arith, s .pre .0),
-  (s .pre .1 .0, (omega (arith, s .pre .1 .1 .0, c .loop-test .taken), c .before .loop .inv .2)),
-)
+) (try-starts-at t) try-starts.Post
+try-starts-judge-requires t c κs = let s = c .before .before in (omega (arith, s .pre .0, c .if2 .taken), (s .pre .1 .0, (omega (arith, s .pre .1 .1 .0, c .if2 .taken), s .pre .1 .1 .1)))
 
-try-starts-add-start : (t : ℕ) → try-starts-lts.Need-add-start (
+try-starts-returns-2 : (t : ℕ) → try-starts-lts.Need-returns-2 (
   judge-below t,
   judge.Post,
   try-starts-below t,
   try-starts.Post,
-) (try-starts-at t) try-starts.Post Inv-loop μ-loop
-try-starts-add-start t c = let s = c .before .before .before .before in omega (arith, s .pre .1 .1 .0, c .before .loop-test .taken)
-
-try-starts-loop-less : (t : ℕ) → try-starts-lts.Need-loop-less (
-  judge-below t,
-  judge.Post,
-  try-starts-below t,
-  try-starts.Post,
-) (try-starts-at t) try-starts.Post Inv-loop μ-loop
-try-starts-loop-less t c = omega (arith, c .before .loop-test .taken)
-
-try-starts-loop-again : (t : ℕ) → try-starts-lts.Need-loop-again (
-  judge-below t,
-  judge.Post,
-  try-starts-below t,
-  try-starts.Post,
-) (try-starts-at t) try-starts.Post Inv-loop μ-loop
-try-starts-loop-again t c = let p = c .before .before .loop in (
-  omega (arith, p .inv .0),
-  omega (arith, c .before .loop-test .taken),
-  c .judge .ensures .0,
-  λ l can. one-more _ _ (p .start) _ _ _ (p .inv .0) (p .inv .3 l can) (c .judge .ensures .1 l can),
-)
-
-try-starts-returns : (t : ℕ) → try-starts-lts.Need-returns (
-  judge-below t,
-  judge.Post,
-  try-starts-below t,
-  try-starts.Post,
-) (try-starts-at t) try-starts.Post Inv-loop μ-loop
-try-starts-returns t c = let s = c .before .before .before in
-    let p = c .before .loop in (
-      p .inv .2,
-      λ l can.
-          p .inv .3 l can
-          ∙ ap (λ (k : ℕ). eachStart (tryAt (l .linked .net) (s .args .budget) (s .args .line) (startsOf (s .args .line) (s .args .placed .starts))) (s .args .from) k
-          (stateOf (l .linked .net) (s .args .walk)))
-          (omega (arith, p .inv .0, p .inv .1, c .loop-test .left)),
-    )
+) (try-starts-at t) try-starts.Post
+try-starts-returns-2 t c = let s = c .before .before .before in (c .judge .ensures .0, λ l can. c .judge .ensures .1 l can ∙ sym (one-left _ (s .args .from) (s .args .count) _ (c .before .if2 .taken)))
 
 try-starts-try-starts-requires : (t : ℕ) → try-starts-lts.Need-try-starts-requires (
   judge-below t,
   judge.Post,
   try-starts-below t,
   try-starts.Post,
-) (try-starts-at t) try-starts.Post Inv-loop μ-loop
-try-starts-try-starts-requires t c κs = let s = c .before in (omega (arith, s .pre .0, c .if1 .left), (s .pre .1 .0, (omega (arith, s .pre .1 .1 .0), s .pre .1 .1 .1)))
+) (try-starts-at t) try-starts.Post
+try-starts-try-starts-requires t c κs = let s = c .before .before in (omega (arith, s .pre .0, c .before .if1 .left, c .if2 .left), (s .pre .1 .0, (omega (arith, s .pre .1 .1 .0), s .pre .1 .1 .1)))
 
 try-starts-add-try-starts : (t : ℕ) → try-starts-lts.Need-add-try-starts (
   judge-below t,
   judge.Post,
   try-starts-below t,
   try-starts.Post,
-) (try-starts-at t) try-starts.Post Inv-loop μ-loop
-try-starts-add-try-starts t c = let s = c .before .before in omega (arith, s .pre .1 .1 .0)
+) (try-starts-at t) try-starts.Post
+try-starts-add-try-starts t c = let s = c .before .before .before in omega (arith, s .pre .1 .1 .0)
 
 try-starts-sub-try-starts : (t : ℕ) → try-starts-lts.Need-sub-try-starts (
   judge-below t,
   judge.Post,
   try-starts-below t,
   try-starts.Post,
-) (try-starts-at t) try-starts.Post Inv-loop μ-loop
+) (try-starts-at t) try-starts.Post
 try-starts-sub-try-starts t c = omega (arith)
 
 try-starts-try-starts-requires-2 : (t : ℕ) → try-starts-lts.Need-try-starts-requires-2 (
@@ -329,17 +266,17 @@ try-starts-try-starts-requires-2 : (t : ℕ) → try-starts-lts.Need-try-starts-
   judge.Post,
   try-starts-below t,
   try-starts.Post,
-) (try-starts-at t) try-starts.Post Inv-loop μ-loop
-try-starts-try-starts-requires-2 t c κs = let s = c .before .before in
-    (omega (arith, s .pre .0, c .before .if1 .left), (s .pre .1 .0, (omega (arith, s .pre .1 .1 .0), c .try-starts .ensures .0)))
+) (try-starts-at t) try-starts.Post
+try-starts-try-starts-requires-2 t c κs = let s = c .before .before .before in
+    (omega (arith, s .pre .0, c .before .before .if1 .left, c .before .if2 .left), (s .pre .1 .0, (omega (arith, s .pre .1 .1 .0), c .try-starts .ensures .0)))
 
-try-starts-returns-2 : (t : ℕ) → try-starts-lts.Need-returns-2 (
+try-starts-returns-3 : (t : ℕ) → try-starts-lts.Need-returns-3 (
   judge-below t,
   judge.Post,
   try-starts-below t,
   try-starts.Post,
-) (try-starts-at t) try-starts.Post Inv-loop μ-loop
-try-starts-returns-2 t c = let s = c .before .before .before in (
+) (try-starts-at t) try-starts.Post
+try-starts-returns-3 t c = let s = c .before .before .before .before in (
   c .try-starts2 .ensures .0,
   λ l can.
       halves _ (s .args .from) (s .args .count / 2) (s .args .count) _ _ _ (omega (arith)) (c .before .try-starts .ensures .1 l can) (c .try-starts2 .ensures .1 l can),
@@ -373,17 +310,11 @@ pub +judge+try-starts-spec : {M : Type 1} → statement M
     (judge-below t, judge.Post, try-starts-below t, try-starts.Post)
     (try-starts-at t)
     try-starts.Post
-    Inv-loop
-    μ-loop
-    (try-starts-add-start-end t)
-    (try-starts-loop-holds t)
-    (try-starts-judge-requires t)
-    (try-starts-add-start t)
-    (try-starts-loop-less t)
-    (try-starts-loop-again t)
     (try-starts-returns t)
+    (try-starts-judge-requires t)
+    (try-starts-returns-2 t)
     (try-starts-try-starts-requires t)
     (try-starts-add-try-starts t)
     (try-starts-sub-try-starts t)
     (try-starts-try-starts-requires-2 t)
-    (try-starts-returns-2 t)
+    (try-starts-returns-3 t)

@@ -1,0 +1,57 @@
+-- The order, clause by clause: each line names the theorems that show the clause. They stand on the pages of the three crates, and are about every
+-- call that keeps the contract in src/, which every call does, since every function is proved to meet its contract and to return. Assumes nothing.
+
+-- ---- Demand 1
+
+-- "Every file, sheet and row lent to a call may hold any content and have any length: the call returns"
+pub use Rattle.network.proofs.Demands.{read-asks-nothing, rate-asks-nothing, weighted-asks-nothing, classes-asks-nothing}
+pub use Rattle.search.proofs.Demands.{search-asks-nothing}
+pub use Rattle.examination.proofs.Demands.{better-asks-nothing, mark-asks-nothing}
+pub use Rattle.examination.proofs.ExportDemands.{read-export-asks-nothing, rate-export-asks-nothing, weighted-export-asks-nothing}
+pub use Rattle.examination.proofs.ExportDemands.{classes-export-asks-nothing, search-export-asks-nothing, better-export-asks-nothing}
+pub use Rattle.examination.proofs.ExportDemands.{mark-export-asks-nothing}
+-- "faulty input and no other gets the refusal number and place that document 01 sets ..., and a refused call leaves each lent row exactly as it
+-- found it"
+pub use Rattle.network.proofs.Demands.{read-demand-1, file-gives, rate-demand-1, weighted-demand-1, classes-demand-1}
+pub use Rattle.search.proofs.Demands.{search-demand-1}
+pub use Rattle.examination.proofs.Demands.{mark-demand-1}
+pub use Rattle.examination.proofs.ExportDemands.{read-export-demand-1, rate-export-demand-1, weighted-export-demand-1}
+pub use Rattle.examination.proofs.ExportDemands.{classes-export-demand-1, search-export-demand-1, mark-export-demand-1}
+-- "(better-of-two answers by its part alone)"
+pub use Rattle.examination.proofs.Demands.{better-file-refused, better-neither-fits, better-only-first-fits, better-only-second-fits}
+pub use Rattle.examination.proofs.Demands.{better-both-fit}
+pub use Rattle.examination.proofs.ExportDemands.{better-export-file-refused, better-export-neither-fits, better-export-only-first-fits}
+pub use Rattle.examination.proofs.ExportDemands.{better-export-only-second-fits, better-export-both-fit}
+-- Document 01, "The read call returns the numbers of lines, served stops and calls, and the common cycle"
+pub use Rattle.network.proofs.Demands.{read-answers}
+pub use Rattle.examination.proofs.ExportDemands.{read-export-answers}
+-- ---- Demand 2
+
+-- "The rating of a timetable is the one defined over all trips of all lines, past and future, in source document 000, for every accepted network
+-- and every sheet of whole-number start times"
+pub use Rattle.network.proofs.Demands.{rate-demand-2}
+pub use Rattle.examination.proofs.ExportDemands.{rate-export-demand-2}
+-- "the search's answer, starts and number of tries are those of the walk in document 01"
+pub use Rattle.search.proofs.Demands.{search-demand-2, search-answers}
+pub use Rattle.search.proofs.Cases.{P1-to-P9}
+-- ---- Demand 3
+
+-- "Whenever the search finishes, with whichever budget, the starts it wrote have the rating it reports, and every other choice of one whole-number
+-- start for each line, negative or large, has a smaller least gap, or the same least gap and a sum no larger. Whether it finished or stopped, the
+-- tries it reports are at most 1 + T1 + T1×T2 + .. over the periods after the first. It finishes under every 32-bit budget of at least that sum,
+-- where one exists"
+pub use Rattle.search.proofs.Demands.{search-demand-3}
+pub use Rattle.examination.proofs.ExportDemands.{search-export-demand-3}
+-- "Every choice of whole-number starts rates the same over the lowest stops alone, with their weights, as over all stops, lowest stops and weights
+-- being those in the rows that the class call fills by document 01"
+pub use Rattle.network.proofs.Demands.{classes-demand-3}
+pub use Rattle.examination.proofs.ExportDemands.{classes-export-demand-3}
+-- "And on every file and sheet, accepted or refused, the weighted rating and rate answer alike, with the same least gap and sum or the same refusal"
+pub use Rattle.network.proofs.Demands.{weighted-answers-as-rate}
+pub use Rattle.examination.proofs.ExportDemands.{weighted-export-as-rate}
+-- ---- The marking of a candidate's sheet
+
+-- What a mark means: decided and equal, no whole-number starts rate above the sheet; decided and not equal, some do; undecided, only where the
+-- budget was too small
+pub use Rattle.examination.proofs.Demands.{mark-means-what-it-says}
+pub use Rattle.examination.proofs.ExportDemands.{mark-export-means}

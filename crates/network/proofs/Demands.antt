@@ -1,0 +1,235 @@
+-- The order's demands on read, rate, the weighted rating and the class call. Each theorem holds of every call that has returned: of what was
+-- lent, `a`, its answer, `r`, and the rows at its exit, `s`, where they keep the contract in src/, which every call does. Assumes nothing.
+use Prim.Native.Nat.{ℕ, _≤_, _<_}
+use mathlib.Core.Path.{_≡_, refl, sym, ap, ap₂, _∙_}
+use mathlib.Core.Bool.{true, false}
+use mathlib.Core.List.{List, [], _∷_}
+use borrow.Fn.World.{ArgsD, ResD}
+use borrow.Fn.Kinds.{endedOf}
+use contract.Lifetimes.{Lfts}
+use denote.Triple.Clauses.{AtExit}
+use lib.Dec.{eqb}
+use lib.IntN.{ℤ}
+use lib.ListN.{length, getD}
+use Rattle.network.specs.Lists.{countBelow}
+use Rattle.network.specs.Divisor.{Divides}
+use Rattle.network.specs.Network.{Net, maxLines, maxPeriod, maxCycle, maxStop, stopCount, maxCalls, isServed, servedStops, cycle}
+use Rattle.network.specs.Reading.{Outcome, values, refusal, readFile, accepted, refused, readAnswer, readOutcome}
+use Rattle.network.specs.Gives.{Gives}
+use Rattle.network.specs.Refusals.{Refuses, Unfit, Not64, Demand1}
+use Rattle.network.specs.Valid.{IsBytes, Valid}
+use Rattle.network.specs.Rating.{IsRating, rating, ratingOver}
+use Rattle.network.specs.Rate.{rateAnswer, rateOutcome}
+use Rattle.network.specs.Classes.{Alike, unserved, classRow, weightRow, classCount, lowestStops}
+use Rattle.network.specs.ClassCall.{classAnswer, weightedRating, weightedOutcome}
+use Rattle.network.proofs.Laws.Valid.{accepted-valid, cycle-multiple, cycle-least, cycle-pos}
+use Rattle.network.proofs.Laws.Reading.{gives-what-is-read, readFile-gives}
+use Rattle.network.proofs.Laws.Refusals.{read-refuses, read-refuses-only, sheet-refuses, sheet-refuses-only, sheet-answers}
+use Rattle.network.proofs.Laws.Refusals.{class-refuses, class-refuses-only, classes-as-found, weights-as-found, class-answers}
+use Rattle.network.proofs.Laws.Rating.{rating-is-rating, IsRating-unique}
+use Rattle.network.proofs.Laws.Ranges.{served-range, class-range, calls-some, least-range, sum-range}
+use Rattle.network.proofs.Laws.Classes.{length-classRow, length-weightRow, lowest-rating}
+use Rattle.network.proofs.Laws.Classified.{entry-alike, entry-least, entry-unserved, weight-counts, classes-count}
+use Rattle.network.proofs.Laws.Weighted.{weighted-is-rate}
+use Rattle.network.proofs.reader.read as read
+use Rattle.network.proofs.reader.read.Kinds as read-kinds
+use Rattle.network.proofs.reader.read.Reads as read-contract
+use Rattle.network.proofs.rate.rate as rate
+use Rattle.network.proofs.rate.rate.Kinds as rate-kinds
+use Rattle.network.proofs.rate.rate.Reads as rate-contract
+use Rattle.network.proofs.classes.weighted as weighted
+use Rattle.network.proofs.classes.weighted.Kinds as weighted-kinds
+use Rattle.network.proofs.classes.weighted.Reads as weighted-contract
+use Rattle.network.proofs.classes.classes as classes
+use Rattle.network.proofs.classes.classes.Kinds as classes-kinds
+use Rattle.network.proofs.classes.classes.Reads as classes-contract
+
+-- ---- Every call may be made: none asks anything of what is lent
+
+pub read-asks-nothing : (κs : Lfts 1) (a : ArgsD read.signature κs) → read-contract.Pre κs a
+read-asks-nothing κs a = tt
+
+pub rate-asks-nothing : (κs : Lfts 2) (a : ArgsD rate.signature κs) → rate-contract.Pre κs a
+rate-asks-nothing κs a = tt
+
+pub weighted-asks-nothing : (κs : Lfts 2) (a : ArgsD weighted.signature κs) → weighted-contract.Pre κs a
+weighted-asks-nothing κs a = tt
+
+pub classes-asks-nothing : (κs : Lfts 3) (a : ArgsD classes.signature κs) → classes-contract.Pre κs a
+classes-asks-nothing κs a = tt
+
+-- ---- What an accepted file's read call answers: the numbers of lines, served stops and calls, and the common cycle
+
+pub record ReadValues (n : Net) (answer : Outcome) : Type 0 where
+  pub lines : ℕ
+  pub stops : ℕ
+  pub calls : ℕ
+  pub common : ℕ
+  pub answered : answer ≡ values (lines ∷ stops ∷ calls ∷ common ∷ [])
+  pub lines-are : (lines ≡ length (n .periods)) × (1 ≤ lines) × (lines ≤ maxLines)
+  pub stops-are : (stops ≡ countBelow (λ stop. isServed stop (n .calls)) stopCount) × (1 ≤ stops) × (stops ≤ stopCount)
+  pub calls-are : (calls ≡ length (n .calls)) × (1 ≤ calls) × (calls ≤ maxCalls)
+  -- the least common multiple of all periods: a multiple of each, and a divisor of every multiple of each
+  pub common-multiple : (i : ℕ) → i < length (n .periods) → Divides (getD (n .periods) i 0) common
+  pub common-least : (m : ℕ) → ((i : ℕ) → i < length (n .periods) → Divides (getD (n .periods) i 0) m) → Divides common m
+  pub common-range : (1 ≤ common) × (common ≤ maxCycle)
+
+pub read-values-of : {n : Net} → Valid n → ReadValues n (readOutcome (accepted n))
+unfolding readOutcome servedStops
+read-values-of {n} valid =
+    record {
+      lines = length (n .periods);
+      stops = servedStops n;
+      calls = length (n .calls);
+      common = cycle n;
+      answered = refl;
+      lines-are = (refl, valid .some-line, valid .lines);
+      stops-are = (refl, served-range valid .0, served-range valid .1);
+      calls-are = (refl, calls-some valid, valid .calls);
+      common-multiple = cycle-multiple n;
+      common-least = cycle-least n;
+      common-range = (cycle-pos valid, valid .cycle-max);
+    }
+
+-- ---- The read call
+
+module _ (κs : Lfts 1) (a : ArgsD read.signature κs) (r : ResD read.signature κs) (s : AtExit (endedOf 1 read-kinds.ps read-kinds.r) κs)
+    (kept : read-contract.Post κs a r s) where
+  pub read-demand-1 : Demand1 (λ number place. readAnswer r ≡ refusal number place) (λ number place. Gives (a .0 .now) (refused number place)) Unit
+  read-demand-1 =
+      record {
+        faulty-is-refused = λ number place g. kept .0 ∙ read-refuses (a .0 .now) g;
+        no-other-is-refused = λ number place e. read-refuses-only (a .0 .now) (sym (kept .0) ∙ e);
+        rows-as-found = λ number place e. tt;
+      }
+
+  -- A file is accepted when no ground of its author applies
+  pub read-answers : {n : Net} → Gives (a .0 .now) (accepted n) → ReadValues n (readAnswer r)
+  read-answers {n} g =
+      let reads = gives-what-is-read g in
+      rw (kept .0, reads) (read-values-of (accepted-valid (a .0 .now) n (kept .1) reads))
+
+-- Every file gives one of the two, and no other: what `readFile` computes, in which the other theorems speak of a file
+pub file-gives : (file : List ℕ) → Gives file (readFile file)
+file-gives = readFile-gives
+
+-- ---- Demand 2, its first half: an accepted file and a sheet with one start for each line
+
+-- The answer is the rating defined over all trips of all lines, past and future, and no other numbers
+pub record RatedAs (n : Net) (sheet : List ℤ) (answer : Outcome) : Type 0 where
+  pub least : ℕ
+  pub sum : ℕ
+  pub answered : answer ≡ values (least ∷ sum ∷ [])
+  pub is-rating : IsRating n sheet least sum
+  pub only-rating : (l s : ℕ) → IsRating n sheet l s → answer ≡ values (l ∷ s ∷ [])
+  pub ranges : (least ≤ maxPeriod) × (sum ≤ 92160)
+
+pub rated-as : {n : Net} → Valid n → (sheet : List ℤ) → RatedAs n sheet (values (rating n sheet .least ∷ rating n sheet .sum ∷ []))
+rated-as {n} valid sheet =
+    record {
+      least = rating n sheet .least;
+      sum = rating n sheet .sum;
+      answered = refl;
+      is-rating = rating-is-rating n valid sheet;
+      only-rating = λ l s q.
+          let (e, f) = IsRating-unique valid q in ap₂ (λ (x y : ℕ). values (x ∷ y ∷ [])) (sym e) (sym f);
+      ranges = (least-range valid sheet, sum-range valid sheet);
+    }
+
+-- ---- Rate
+
+module _ (κs : Lfts 2) (a : ArgsD rate.signature κs) (r : ResD rate.signature κs) (s : AtExit (endedOf 2 rate-kinds.ps rate-kinds.r) κs)
+    (kept : rate-contract.Post κs a r s) where
+  pub rate-demand-1 : Demand1 (λ number place. rateAnswer r ≡ refusal number place) (Refuses (a .0 .now) 15 (Unfit (a .1 .0 .now))) Unit
+  unfolding rateOutcome
+  rate-demand-1 =
+      record {
+        faulty-is-refused = λ number place f. kept .0 ∙ sheet-refuses rating (a .0 .now) (a .1 .0 .now) f;
+        no-other-is-refused = λ number place e. sheet-refuses-only rating (a .0 .now) (a .1 .0 .now) (sym (kept .0) ∙ e);
+        rows-as-found = λ number place e. tt;
+      }
+
+  pub rate-demand-2 : {n : Net} → readFile (a .0 .now) ≡ accepted n → length (a .1 .0 .now) ≡ length (n .periods)
+      → RatedAs n (a .1 .0 .now) (rateAnswer r)
+  unfolding rateOutcome
+  rate-demand-2 {n} reads fits =
+      rw (kept .0 ∙ sheet-answers rating (a .0 .now) (a .1 .0 .now) reads fits)
+      (rated-as (accepted-valid (a .0 .now) n (kept .1) reads) (a .1 .0 .now))
+
+-- ---- The weighted rating
+
+module _ (κs : Lfts 2) (a : ArgsD weighted.signature κs) (r : ResD weighted.signature κs)
+    (s : AtExit (endedOf 2 weighted-kinds.ps weighted-kinds.r) κs) (kept : weighted-contract.Post κs a r s) where
+  -- It refuses as rate does
+  pub weighted-demand-1 : Demand1 (λ number place. rateAnswer r ≡ refusal number place) (Refuses (a .0 .now) 15 (Unfit (a .1 .0 .now))) Unit
+  unfolding weightedOutcome
+  weighted-demand-1 =
+      record {
+        faulty-is-refused = λ number place f. kept .0 ∙ sheet-refuses weightedRating (a .0 .now) (a .1 .0 .now) f;
+        no-other-is-refused = λ number place e. sheet-refuses-only weightedRating (a .0 .now) (a .1 .0 .now) (sym (kept .0) ∙ e);
+        rows-as-found = λ number place e. tt;
+      }
+
+  -- Demand 3, (6): on every file and sheet, accepted or refused, the weighted rating and rate answer alike, with the same least gap and sum
+  -- or the same refusal
+  pub weighted-answers-as-rate : (κs′ : Lfts 2) (a′ : ArgsD rate.signature κs′) (r′ : ResD rate.signature κs′)
+      (s′ : AtExit (endedOf 2 rate-kinds.ps rate-kinds.r) κs′) → rate-contract.Post κs′ a′ r′ s′
+      → a .0 .now ≡ a′ .0 .now → a .1 .0 .now ≡ a′ .1 .0 .now → rateAnswer r ≡ rateAnswer r′
+  weighted-answers-as-rate κs′ a′ r′ s′ kept′ file sheet =
+      kept .0
+      ∙ weighted-is-rate (a .0 .now) (kept .1) (a .1 .0 .now)
+      ∙ ap₂ (λ (f : List ℕ) (starts : List ℤ). rateOutcome (readFile f) starts) file sheet
+      ∙ sym (kept′ .0)
+
+-- ---- The class call: both rows 64 long
+
+-- What it answers and leaves in the rows, as document 01 says it
+pub record Classified (n : Net) (answer : Outcome) (classes weights : List ℕ) : Type 0 where
+  pub lengths : (length classes ≡ stopCount) × (length weights ≡ stopCount)
+  -- the class row holds for each served stop the lowest stop alike to it ..
+  pub alike : (s : ℕ) → s ≤ maxStop → isServed s (n .calls) ≡ true → Alike n (getD classes s 0) s
+  pub lowest : (s t : ℕ) → s ≤ maxStop → Alike n t s → getD classes s 0 ≤ t
+  -- .. and 255 if unserved
+  pub unserved-is-255 : (s : ℕ) → s ≤ maxStop → isServed s (n .calls) ≡ false → getD classes s 0 ≡ unserved
+  -- the weight row the size of the class at its lowest stop, 0 elsewhere: how many stops have it for their lowest
+  pub weight : (s : ℕ) → s ≤ maxStop → getD weights s 0 ≡ countBelow (λ t. eqb (getD classes t 0) s) stopCount
+  -- the number of classes: how many stops are their own lowest
+  pub count : ℕ
+  pub answered : answer ≡ values (count ∷ [])
+  pub count-is : (count ≡ countBelow (λ s. eqb (getD classes s 0) s) stopCount) × (1 ≤ count) × (count ≤ stopCount)
+  -- Demand 3, (5): every choice of whole-number starts rates the same over the lowest stops alone, with their weights, as over all stops
+  pub rates-alike : (starts : List ℤ) → ratingOver n starts (lowestStops classes weights) ≡ rating n starts
+
+pub classified : {n : Net} → Valid n → Classified n (values (classCount n ∷ [])) (classRow n) (weightRow n)
+classified {n} valid =
+    record {
+      lengths = (length-classRow n, length-weightRow n);
+      alike = λ s low. entry-alike valid s low;
+      lowest = λ s t low. entry-least valid s low;
+      unserved-is-255 = λ s low. entry-unserved n s low;
+      weight = λ s low. weight-counts valid s low;
+      count = classCount n;
+      answered = refl;
+      count-is = (classes-count n, class-range valid .0, class-range valid .1);
+      rates-alike = lowest-rating n valid;
+    }
+
+module _ (κs : Lfts 3) (a : ArgsD classes.signature κs) (r : ResD classes.signature κs)
+    (s : AtExit (endedOf 3 classes-kinds.ps classes-kinds.r) κs) (kept : classes-contract.Post κs a r s) where
+  pub classes-demand-1 : Demand1 (λ number place. classAnswer r ≡ refusal number place) (Refuses (a .0 .now) 17 (Not64 (a .1 .0 .now) (a .1 .1 .0 .now)))
+      ((s .1 .0 .now ≡ a .1 .0 .now) × (s .1 .1 .0 .now ≡ a .1 .1 .0 .now))
+  classes-demand-1 =
+      record {
+        faulty-is-refused = λ number place f. kept .0 ∙ class-refuses (a .0 .now) (a .1 .0 .now) (a .1 .1 .0 .now) f;
+        no-other-is-refused = λ number place e. class-refuses-only (a .0 .now) (a .1 .0 .now) (a .1 .1 .0 .now) (sym (kept .0) ∙ e);
+        rows-as-found = λ number place e. (
+          kept .1 .0 ∙ classes-as-found (a .0 .now) (a .1 .0 .now) (a .1 .1 .0 .now) (sym (kept .0) ∙ e),
+          kept .1 .1 .0 ∙ weights-as-found (a .0 .now) (a .1 .0 .now) (a .1 .1 .0 .now) (sym (kept .0) ∙ e),
+        );
+      }
+
+  pub classes-demand-3 : {n : Net} → readFile (a .0 .now) ≡ accepted n → length (a .1 .0 .now) ≡ stopCount → length (a .1 .1 .0 .now) ≡ stopCount
+      → Classified n (classAnswer r) (s .1 .0 .now) (s .1 .1 .0 .now)
+  classes-demand-3 {n} reads c w =
+      let e = class-answers (a .0 .now) (a .1 .0 .now) (a .1 .1 .0 .now) reads c w in
+      rw (kept .0 ∙ e .0, kept .1 .0 ∙ e .1, kept .1 .1 .0 ∙ e .2) (classified (accepted-valid (a .0 .now) n (kept .1 .1 .1) reads))

@@ -1,0 +1,33 @@
+-- Document 01, "Grounds for refusing, by their origin": when a call refuses, with which number and place; and what the order's first demand
+-- asks of a call.
+use Prim.Native.Nat.{ℕ}
+use mathlib.Core.Path.{_≡_}
+use mathlib.Core.List.{List}
+use mathlib.Core.Logic.{_⊎_}
+use lib.IntN.{ℤ}
+use lib.ListN.{length}
+use Rattle.network.specs.Network.{Net, stopCount}
+use Rattle.network.specs.Reading.{readFile, accepted, refused}
+
+-- A call on a file and what else is lent to it refuses by the file's own ground, at its place; or, after the file, at place 0, by the call's own
+-- ground (15, 16 or 17) where what is lent doesn't fit the file's network
+pub data Refuses (file : List ℕ) (ground : ℕ) (unfit : Net → Type 0) : ℕ → ℕ → Type 0 where
+  by-file : {number place : ℕ} → readFile file ≡ refused number place → Refuses file ground unfit number place
+  after-file : {n : Net} → readFile file ≡ accepted n → unfit n → Refuses file ground unfit ground 0
+
+-- 15 and 16: the sheet, or the start row, hasn't one place for each line
+abbrev pub Unfit : List ℤ → Net → Type 0
+Unfit row n = length row ≡ length (n .periods) → ⊥
+
+-- 17: class or weight row isn't 64 long
+abbrev pub Not64 : List ℕ → List ℕ → Net → Type 0
+Not64 classes weights n = (length classes ≡ stopCount → ⊥) ⊎ (length weights ≡ stopCount → ⊥)
+
+-- Demand 1 of a call that answers so, given when it is to refuse, and with what, and what it is for each lent row to be as it was
+pub record Demand1 (answers refuses : ℕ → ℕ → Type 0) (untouched : Type 0) : Type 0 where
+  -- faulty input ..
+  pub faulty-is-refused : (number place : ℕ) → refuses number place → answers number place
+  -- .. and no other gets the refusal number and place that document 01 sets
+  pub no-other-is-refused : (number place : ℕ) → answers number place → refuses number place
+  -- a refused call leaves each lent row exactly as it found it
+  pub rows-as-found : (number place : ℕ) → answers number place → untouched

@@ -1,0 +1,191 @@
+-- The order's demands on the search call: when it refuses, that it answers what document 01's walk does, and that a finished search can't be
+-- beaten. Each theorem at the end holds of every call that has returned: of what was lent, `a`, its answer, `r`, and the row at its exit, `s`,
+-- where they keep the contract in src/, which every call does. Assumes nothing.
+use Prim.Native.Nat.{ℕ, _+_, _≤_, _<_}
+use mathlib.Core.Path.{_≡_, refl, sym, ap, _∙_}
+use mathlib.Core.Bool.{Bool, true, false}
+use mathlib.Core.List.{List}
+use mathlib.Core.Logic.{_⊎_}
+use native.Mathlib.Omega.{arith}
+use borrow.Fn.World.{ArgsD, ResD}
+use borrow.Fn.Kinds.{endedOf}
+use contract.Lifetimes.{Lfts}
+use denote.Triple.Clauses.{AtExit}
+use lib.IntN.{ℤ}
+use lib.ListN.{length, drop}
+use Rattle.network.specs.Lists.{pick}
+use Rattle.network.specs.Network.{Net, maxPeriod}
+use Rattle.network.specs.Reading.{Reading, readFile, accepted}
+use Rattle.network.specs.Refusals.{Refuses, Unfit, Demand1}
+use Rattle.network.specs.Valid.{IsBytes, Valid}
+use Rattle.network.specs.Rating.{IsRating, rating}
+use Rattle.network.proofs.Laws.Gaps.{accepted-valid, rating-is-rating, IsRating-unique, least-range, sum-range}
+use Rattle.search.specs.Walk.{State}
+use Rattle.search.specs.Search.{SearchOutcome, finished, stopped, stoppedWithNone, refusal, searchAnswer, triesOf, productsFrom}
+use Rattle.search.specs.Search.{searched, outcomeOf, searchOutcome, startRowAfter, triesBound}
+use Rattle.search.proofs.Laws.Optimal.{searched-some, searched-length, searched-rating, searched-best, searched-stopped, triesBound-products}
+use Rattle.search.proofs.Laws.Outcome.{fit-outcome, fit-row, Told, told-of-finished, told-of-stopped, told-of-none}
+use Rattle.search.proofs.Laws.Outcome.{outcome-tries-le, outcome-tries-le-budget, outcome-finished}
+use Rattle.search.proofs.Laws.Outcome.{search-refuses, search-refuses-only, row-as-found}
+use Rattle.search.proofs.call.search as search
+use Rattle.search.proofs.call.search.Kinds as search-kinds
+use Rattle.search.proofs.call.search.Reads as search-contract
+
+-- ---- What is demanded, of an accepted network, the start row and the budget as lent, the answer, and the row afterwards
+
+-- 1 + T1 + T1×T2 + .. over the periods after the first
+abbrev pub demandedBound : Net → ℕ
+demandedBound n = 1 + productsFrom 1 (drop 1 (n .periods))
+
+-- Demand 2, its second half, of a start row with one place for each line: the search's answer, starts and number of tries are those of the walk
+pub record Demand2 (n : Net) (row : List ℤ) (budget : ℕ) (answer : SearchOutcome) (exit : List ℤ) : Type 0 where
+  pub answers-the-walk : answer ≡ outcomeOf (searched n budget)
+  -- the best starts are written; without a best the row is untouched
+  pub writes-the-best : exit ≡ pick (searched n budget .best .some) (searched n budget .starts) row
+
+-- Demand 3
+pub record Demand3 (n : Net) (row : List ℤ) (budget : ℕ) (answer : SearchOutcome) (exit : List ℤ) : Type 0 where
+  -- (1) Whenever the search finishes, with whichever budget, the starts it wrote, one for each line, have the rating it reports
+  pub finished-has-its-rating : {least sum tries : ℕ} → answer ≡ finished least sum tries
+      → (length exit ≡ length (n .periods)) × IsRating n exit least sum
+  -- (2) .. and every other choice of one whole-number start for each line has a rating, with a smaller least gap, or the same least gap and a
+  -- sum no larger
+  pub choice-has-a-rating : (starts : List ℤ) → length starts ≡ length (n .periods) → (least : ℕ) × (sum : ℕ) × IsRating n starts least sum
+  pub finished-is-best : {least sum tries : ℕ} → answer ≡ finished least sum tries
+      → (starts : List ℤ) → length starts ≡ length (n .periods) → {least′ sum′ : ℕ} → IsRating n starts least′ sum′
+      → (least′ < least) ⊎ ((least′ ≡ least) × (sum′ ≤ sum))
+  -- (3) Whether it finished or stopped, the tries it reports are at most the bound
+  pub tries-at-most : triesOf answer ≤ demandedBound n
+  -- (4) It finishes under every budget of at least the bound, the start row having one place for each line
+  pub finishes : length row ≡ length (n .periods) → demandedBound n ≤ budget
+      → (least : ℕ) × (sum : ℕ) × (tries : ℕ) × (answer ≡ finished least sum tries)
+
+-- What else document 01, "The walk", says of the answers
+pub record Answers (n : Net) (row : List ℤ) (budget : ℕ) (answer : SearchOutcome) (exit : List ℤ) : Type 0 where
+  -- it stops only where a try is due and the tries made equal the budget
+  pub stopped-at-budget : {least sum tries : ℕ} → answer ≡ stopped least sum tries → tries ≡ budget
+  pub none-at-budget : {tries : ℕ} → answer ≡ stoppedWithNone tries → (tries ≡ budget) × (exit ≡ row)
+  pub tries-within : triesOf answer ≤ budget
+  -- stopped with a best: the starts it wrote have the rating it reports
+  pub stopped-has-its-rating : {least sum tries : ℕ} → answer ≡ stopped least sum tries
+      → (length exit ≡ length (n .periods)) × IsRating n exit least sum
+  -- a best rating's numbers
+  pub finished-range : {least sum tries : ℕ} → answer ≡ finished least sum tries → (least ≤ maxPeriod) × (sum ≤ 92160)
+  pub stopped-range : {least sum tries : ℕ} → answer ≡ stopped least sum tries → (least ≤ maxPeriod) × (sum ≤ 92160)
+
+-- ---- A search by its definition
+
+-- What the contract in src/call.rt says
+pub record Searches (file : List ℕ) (row : List ℤ) (budget : ℕ) (answer : SearchOutcome) (exit : List ℤ) : Type 0 where
+  pub bytes : IsBytes file
+  pub answered : answer ≡ searchOutcome (readFile file) (length row) budget
+  pub left : exit ≡ startRowAfter (readFile file) budget row
+
+rating-range : {n : Net} {starts : List ℤ} {least sum : ℕ} → Valid n → IsRating n starts least sum → (least ≤ maxPeriod) × (sum ≤ 92160)
+rating-range {starts = starts} valid q =
+    let (l, s) = IsRating-unique valid q in (rw l (least-range valid starts), rw s (sum-range valid starts))
+
+module _ {file : List ℕ} {row : List ℤ} {budget : ℕ} {answer : SearchOutcome} {exit : List ℤ} (call : Searches file row budget answer exit) where
+  pub demand-1 : Demand1 (λ number place. answer ≡ refusal number place) (Refuses file 16 (Unfit row)) (exit ≡ row)
+  demand-1 =
+      record {
+        faulty-is-refused = λ number place f. call .answered ∙ search-refuses file row budget f;
+        no-other-is-refused = λ number place e. search-refuses-only file row budget (sym (call .answered) ∙ e);
+        rows-as-found = λ number place e. call .left ∙ row-as-found file row budget (sym (call .answered) ∙ e);
+      }
+
+  module _ {n : Net} (reads : readFile file ≡ accepted n) where
+    valid : Valid n
+    valid = accepted-valid file n (call .bytes) reads
+
+    answer-is : {o : SearchOutcome} → answer ≡ o → searchOutcome (accepted n) (length row) budget ≡ o
+    answer-is e = sym (ap (λ (k : Reading). searchOutcome k (length row) budget) reads) ∙ sym (call .answered) ∙ e
+
+    -- An answer with a best: its starts are in the row, and have its rating
+    has-its-rating : {least sum tries : ℕ} {ends : Bool} → Told n (length row) budget least sum tries ends → searched n budget .best .some ≡ true
+        → (length exit ≡ length (n .periods)) × IsRating n exit least sum
+    has-its-rating t some =
+        let written : exit ≡ searched n budget .starts =
+        call .left
+        ∙ ap (λ (k : Reading). startRowAfter k budget row) reads
+        ∙ fit-row n row budget (t .fits)
+        ∙ ap (λ (b : Bool). pick b (searched n budget .starts) row) some in (
+          rw written (searched-length valid budget some),
+          rw (written, ← t .its-least, ← t .its-sum) (searched-rating valid budget some),
+        )
+
+    finished-rated : {least sum tries : ℕ} → answer ≡ finished least sum tries
+        → (length exit ≡ length (n .periods)) × IsRating n exit least sum
+    finished-rated e =
+        let t = told-of-finished n (length row) budget (answer-is e) in
+        has-its-rating t (searched-some valid budget (t .stops))
+
+    stopped-rated : {least sum tries : ℕ} → answer ≡ stopped least sum tries → (length exit ≡ length (n .periods)) × IsRating n exit least sum
+    stopped-rated e = let t = told-of-stopped n (length row) budget (answer-is e) in has-its-rating (t .0) (t .1)
+
+    pub demand-2 : length row ≡ length (n .periods) → Demand2 n row budget answer exit
+    demand-2 fits =
+        record {
+          answers-the-walk = call .answered ∙ ap (λ (k : Reading). searchOutcome k (length row) budget) reads ∙ fit-outcome n row budget fits;
+          writes-the-best = call .left ∙ ap (λ (k : Reading). startRowAfter k budget row) reads ∙ fit-row n row budget fits;
+        }
+
+    pub demand-3 : Demand3 n row budget answer exit
+    demand-3 =
+        record {
+          finished-has-its-rating = finished-rated;
+          choice-has-a-rating = λ starts f. (rating n starts .least, rating n starts .sum, rating-is-rating n valid starts);
+          finished-is-best = λ e starts f q.
+              let t = told-of-finished n (length row) budget (answer-is e) in
+              rw (← t .its-least, ← t .its-sum) (searched-best valid budget (t .stops) starts f q);
+          tries-at-most = rw (call .answered, reads, ← triesBound-products n (valid .some-line)) (outcome-tries-le n (length row) budget);
+          finishes = λ fits enough.
+              rw (call .answered, reads)
+              (outcome-finished n (length row) budget fits (rw (triesBound-products n (valid .some-line)) enough));
+        }
+
+    pub answers : Answers n row budget answer exit
+    answers =
+        record {
+          stopped-at-budget = λ e.
+              let t = told-of-stopped n (length row) budget (answer-is e) .0 in
+              sym (t .its-tries) ∙ searched-stopped n budget (t .stops);
+          none-at-budget = λ e.
+              let (fits, stops, none, tries) = told-of-none n (length row) budget (answer-is e) in (
+                sym tries ∙ searched-stopped n budget stops,
+                call .left
+                    ∙ ap (λ (k : Reading). startRowAfter k budget row) reads
+                    ∙ fit-row n row budget fits
+                    ∙ ap (λ (b : Bool). pick b (searched n budget .starts) row) none,
+              );
+          tries-within = rw (call .answered, reads) (outcome-tries-le-budget n (length row) budget);
+          stopped-has-its-rating = stopped-rated;
+          finished-range = λ e. rating-range valid (finished-rated e .1);
+          stopped-range = λ e. rating-range valid (stopped-rated e .1);
+        }
+
+-- ---- Every search call
+
+-- It asks nothing of what is lent
+pub search-asks-nothing : (κs : Lfts 2) (a : ArgsD search.signature κs) → search-contract.Pre κs a
+search-asks-nothing κs a = tt
+
+module _ (κs : Lfts 2) (a : ArgsD search.signature κs) (r : ResD search.signature κs)
+    (s : AtExit (endedOf 2 search-kinds.ps search-kinds.r) κs) (kept : search-contract.Post κs a r s) where
+  searches : Searches (a .0 .now) (a .1 .0 .now) (a .1 .1 .0) (searchAnswer r) (s .1 .0 .now)
+  searches = record { bytes = kept .1 .1; answered = kept .0; left = kept .1 .0 }
+
+  pub search-demand-1 : Demand1 (λ number place. searchAnswer r ≡ refusal number place) (Refuses (a .0 .now) 16 (Unfit (a .1 .0 .now)))
+      (s .1 .0 .now ≡ a .1 .0 .now)
+  search-demand-1 = demand-1 searches
+
+  module _ {n : Net} (reads : readFile (a .0 .now) ≡ accepted n) where
+    pub search-demand-2 : length (a .1 .0 .now) ≡ length (n .periods)
+        → Demand2 n (a .1 .0 .now) (a .1 .1 .0) (searchAnswer r) (s .1 .0 .now)
+    search-demand-2 = demand-2 searches reads
+
+    pub search-demand-3 : Demand3 n (a .1 .0 .now) (a .1 .1 .0) (searchAnswer r) (s .1 .0 .now)
+    search-demand-3 = demand-3 searches reads
+
+    pub search-answers : Answers n (a .1 .0 .now) (a .1 .1 .0) (searchAnswer r) (s .1 .0 .now)
+    search-answers = answers searches reads
