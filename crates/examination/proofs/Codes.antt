@@ -1,9 +1,7 @@
 -- The return value of an export tells a refusal from an answer, and gives back its number and place: a number is at least 1, a place below
 -- 65,536, and every other return value is below 65,536. Assumes nothing.
-use Prim.Native.Nat.{ℕ, _/_, _%_, _<_, _≤_}
+use Prim.Native.Nat.{ℕ, _<_, _≤_}
 use mathlib.Core.Path.{_≡_, refl, sym, _∙_, subst}
-use mathlib.Core.Bool.{Bool}
-use mathlib.Core.List.{List}
 use mathlib.Core.Logic.{_⊎_, inl, inr}
 use native.Mathlib.Omega.{arith}
 use Rattle.network.specs.Reading.{Outcome, values, refusal}

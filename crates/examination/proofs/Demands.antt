@@ -2,13 +2,12 @@
 -- the rows at its exit, `s`, where they keep the contract in src/, which every call does. Assumes nothing.
 use Prim.Native.Nat.{ℕ, _<_, _≤_}
 use mathlib.Core.Path.{_≡_, refl, sym, _∙_}
-use mathlib.Core.List.{List, []}
+use mathlib.Core.List.{[]}
 use mathlib.Core.Logic.{_⊎_, inl, inr}
 use borrow.Fn.World.{ArgsD, ResD}
 use borrow.Fn.Kinds.{endedOf}
 use contract.Lifetimes.{Lfts}
 use denote.Triple.Clauses.{AtExit}
-use lib.IntN.{ℤ}
 use lib.ListN.{length}
 use Rattle.network.specs.Network.{Net}
 use Rattle.network.specs.Rating.{IsRating}

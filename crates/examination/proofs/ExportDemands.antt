@@ -4,7 +4,7 @@
 use Prim.Native.Nat.{ℕ, _*_, _<_, _≤_}
 use mathlib.Core.Path.{_≡_, refl, sym, ap, ap₂, _∙_}
 use mathlib.Core.Bool.{Bool, true, false}
-use mathlib.Core.List.{List, [], _∷_}
+use mathlib.Core.List.{List}
 use mathlib.Core.Logic.{_⊎_, inl, inr}
 use native.Mathlib.Omega.{arith}
 use borrow.Author.Tests.{eq-eqb, ne-eqb}
@@ -15,16 +15,14 @@ use denote.Triple.Clauses.{AtExit}
 use lib.IntN.{ℤ}
 use lib.ListN.{length, getD}
 use Rattle.network.specs.declared.Rating.{Rating}
-use Rattle.network.specs.Lists.{pick}
 use Rattle.network.specs.Network.{Net, maxPeriod, stopCount}
 use Rattle.network.specs.Gives.{Gives}
 use Rattle.network.specs.Reading.{Reading, Outcome, values, refusal, accepted, refused, readFile, readOutcome}
 use Rattle.network.specs.Refusals.{Refuses, by-file, after-file, Unfit, Not64, Demand1}
 use Rattle.network.specs.Rating.{IsRating, rating}
 use Rattle.network.specs.Rate.{onSheet, rateOutcome}
-use Rattle.network.specs.ClassCall.{classOutcome, classRowAfter, weightRowAfter, weightedRating, weightedOutcome}
-use Rattle.network.specs.Classes.{classCount, classRow, weightRow}
-use Rattle.network.specs.Valid.{IsBytes, Valid}
+use Rattle.network.specs.ClassCall.{weightedRating, weightedOutcome}
+use Rattle.network.specs.Valid.{IsBytes}
 use Rattle.network.proofs.Demands.{ReadValues, read-values-of, RatedAs, rated-as, Classified, classified}
 use Rattle.network.proofs.Laws.Gaps.{accepted-valid}
 use Rattle.network.proofs.Laws.Lists.{zero-ne-one}
@@ -32,11 +30,11 @@ use Rattle.network.proofs.Laws.Reading.{gives-what-is-read, refused-number, ref
 use Rattle.network.proofs.Laws.Refusals.{read-refuses, read-refuses-only, sheet-answers, class-refuses, class-refuses-only}
 use Rattle.network.proofs.Laws.Refusals.{classes-as-found, weights-as-found, class-answers}
 use Rattle.network.proofs.Laws.Weighted.{weighted-is-rate}
-use Rattle.search.specs.Search.{SearchOutcome, finished, stopped, stoppedWithNone, triesOf, searchOutcome, startRowAfter}
+use Rattle.search.specs.Search.{SearchOutcome, finished, stopped, stoppedWithNone, searchOutcome}
 use Rattle.search.specs.Search as search
 use Rattle.search.proofs.Demands.{Searches, demandedBound, Demand3, Answers, demand-1, demand-3, answers}
 use Rattle.examination.specs.Bytes.{starts, bytesFit, byBytes, betterBytes, BytesUnfit}
-use Rattle.examination.specs.Exports.{placeLimit, refusalCode, TellsRefusal, status, rowAfter, searchStatus, searchRow, betterStatus, oneIf, markStatus, markRow}
+use Rattle.examination.specs.Exports.{placeLimit, TellsRefusal, status, rowAfter, searchStatus, searchRow, betterStatus, oneIf, markStatus, markRow}
 use Rattle.examination.specs.Sheets.{Better, first, second, fits, betterBy, betterOf, MarkOutcome, decided, undecided, markOutcome}
 use Rattle.examination.specs.Sheets as sheets
 use Rattle.examination.proofs.BetterSheet.{Chosen, first-not-below, second-above, both-fit}

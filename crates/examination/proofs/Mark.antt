@@ -12,7 +12,7 @@ use lib.Dec.{eqb}
 use lib.IntN.{ℤ}
 use lib.ListN.{length}
 use Rattle.network.specs.Lists.{pick}
-use Rattle.network.specs.Network.{Net, maxPeriod}
+use Rattle.network.specs.Network.{Net}
 use Rattle.network.specs.Rating.{IsRating, rating}
 use Rattle.network.specs.Reading.{Reading, accepted, readFile}
 use Rattle.network.specs.Valid.{IsBytes}

@@ -1,5 +1,5 @@
 -- How the engine chooses between two sheets: by what rate answers of each, a refused sheet having no rating.
-use mathlib.Core.Bool.{Bool, true, false}
+use mathlib.Core.Bool.{true}
 use mathlib.Core.List.{List}
 use lib.IntN.{ℤ}
 use Rattle.network.specs.declared.Rating.{Rating}

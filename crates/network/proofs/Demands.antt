@@ -1,7 +1,7 @@
 -- The order's demands on read, rate, the weighted rating and the class call. Each theorem holds of every call that has returned: of what was
 -- lent, `a`, its answer, `r`, and the rows at its exit, `s`, where they keep the contract in src/, which every call does. Assumes nothing.
 use Prim.Native.Nat.{ℕ, _≤_, _<_}
-use mathlib.Core.Path.{_≡_, refl, sym, ap, ap₂, _∙_}
+use mathlib.Core.Path.{_≡_, refl, sym, ap₂, _∙_}
 use mathlib.Core.Bool.{true, false}
 use mathlib.Core.List.{List, [], _∷_}
 use borrow.Fn.World.{ArgsD, ResD}
@@ -17,7 +17,7 @@ use Rattle.network.specs.Network.{Net, maxLines, maxPeriod, maxCycle, ma
 use Rattle.network.specs.Reading.{Outcome, values, refusal, readFile, accepted, refused, readAnswer, readOutcome}
 use Rattle.network.specs.Gives.{Gives}
 use Rattle.network.specs.Refusals.{Refuses, Unfit, Not64, Demand1}
-use Rattle.network.specs.Valid.{IsBytes, Valid}
+use Rattle.network.specs.Valid.{Valid}
 use Rattle.network.specs.Rating.{IsRating, rating, ratingOver}
 use Rattle.network.specs.Rate.{rateAnswer, rateOutcome}
 use Rattle.network.specs.Classes.{Alike, unserved, classRow, weightRow, classCount, lowestStops}

@@ -5,7 +5,7 @@ use mathlib.Core.Path.{_≡_}
 use lib.IntN.{ℤ, pos, negsuc, natAbs, _+ℤ_, _-ℤ_, _*ℤ_}
 use Rattle.network.specs.Divisor.{gcd}
 
--- One trip's arrival: one arrival of the line, plus a whole multiple of its period, negative ones included (2.1.1)
+-- One trip's arrival: one arrival of the line (equation 2.1.1), plus a whole multiple of its period, negative ones included
 unfoldable pub trip : ℤ → ℕ → ℤ → ℤ
 trip a period k = a +ℤ k *ℤ pos period
 
@@ -14,12 +14,13 @@ unfoldable pub distance : ℤ → ℤ → ℕ
 distance x y = natAbs (x -ℤ y)
 
 -- The gap ("Sicherheitsabstand", safety distance) of two lines at a stop, one of which arrives at `a` with period `t` and the other at
--- `b` with period `u`: some trip of each attains it, and no two trips are closer (2.1.4, over all integers)
+-- `b` with period `u`: some trip of each attains it, and no two trips are closer (definition 2.1.4, over all
+-- integers)
 pub record IsGap (a : ℤ) (t : ℕ) (b : ℤ) (u : ℕ) (gap : ℕ) : Type 0 where
   pub attained : (j : ℤ) × (k : ℤ) × (distance (trip a t j) (trip b u k) ≡ gap)
   pub least : (j k : ℤ) → gap ≤ distance (trip a t j) (trip b u k)
 
--- The same over the trips counted from 0 on alone, as the source writes it (2.1.2)
+-- The same over the trips counted from 0 on alone, as the source writes it (equation 2.1.2)
 pub record IsGapFromZero (a : ℤ) (t : ℕ) (b : ℤ) (u : ℕ) (gap : ℕ) : Type 0 where
   pub attained : (j : ℕ) × (k : ℕ) × (distance (trip a t (pos j)) (trip b u (pos k)) ≡ gap)
   pub least : (j k : ℕ) → gap ≤ distance (trip a t (pos j)) (trip b u (pos k))

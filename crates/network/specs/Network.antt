@@ -3,10 +3,10 @@ use Prim.Native.Nat.{ℕ, _+_, _*_}
 use mathlib.Core.Bool.{Bool, _&&_}
 use mathlib.Core.List.{List, [], _∷_, _++_}
 use lib.Dec.{eqb}
-use lib.ListN.{length, getD}
+use lib.ListN.{getD}
 use Rattle.network.specs.declared.Call.{Call}
 use Rattle.network.specs.Divisor.{commonCycle}
-use Rattle.network.specs.Lists.{pick, any, allBelow, countBelow}
+use Rattle.network.specs.Lists.{pick, any, countBelow}
 
 -- Lines count from 0 in the order of `periods`; a call has the fields `line`, `stop` and `offset`
 pub record Net : Type 0 where

@@ -1,5 +1,4 @@
 -- Document 01, "Sheets" and "Grounds for refusing", the candidate: what rate answers on a file and a sheet.
-use Prim.Native.Nat.{ℕ}
 use mathlib.Core.List.{List, [], _∷_}
 use lib.Dec.{eqb}
 use lib.IntN.{ℤ}

@@ -1,10 +1,9 @@
 -- Document 01, "Gap and rating": the gap of two lines at a stop, the gap of a stop and the rating, over all trips of all lines (source 000,
--- definitions 2.1.4 to 2.1.6); beside them the numbers computed by theorem 3.1.2; and the order of ratings (2.4.1). A timetable is a list
--- of starts, integers of any size, one for each line.
+-- definitions 2.1.4 to 2.1.6); beside them the numbers computed by theorem 3.1.2; and the order of ratings (definition 2.4.1). A timetable is
+-- a list of starts, integers of any size, one for each line.
 use Prim.Native.Nat.{ℕ, suc, _*_, _<_, _≤_}
 use mathlib.Core.Path.{_≡_}
 use mathlib.Core.Bool.{Bool, true, false, not, _&&_, _||_}
-use mathlib.Core.Logic.{_⊎_}
 use mathlib.Core.List.{List, [], _∷_, _++_, map}
 use lib.Dec.{eqb, ltb}
 use lib.IntN.{ℤ, pos, _+ℤ_}
@@ -16,7 +15,7 @@ use Rattle.network.specs.Network.{Net, maxStop, isServed}
 use Rattle.network.specs.Valid.{noCall}
 use Rattle.network.specs.Gap.{trip, distance, gapOf}
 
--- One arrival of a call: its line's start plus its offset (2.1.1)
+-- One arrival of a call: its line's start plus its offset (equation 2.1.1)
 unfoldable pub arrivalOf : List ℤ → Call → ℤ
 arrivalOf starts c = getD starts (c .line) (pos 0) +ℤ pos (c .offset)
 
@@ -40,12 +39,12 @@ pub record Reaches (n : Net) (starts : List ℤ) (line stop : ℕ) (minute : ℤ
   pub on-time : minute ≡ trip (arrivalOf starts (getD (n .calls) call noCall)) (getD (n .periods) line 0) turn
 
 -- The gap ("Sicherheitsabstand", safety distance) of two lines at a stop: the smallest distance between an arrival of one and an arrival
--- of the other (2.1.4)
+-- of the other (definition 2.1.4)
 pub record IsLinesGap (n : Net) (starts : List ℤ) (stop i j : ℕ) (gap : ℕ) : Type 0 where
   pub attained : (x : ℤ) × (y : ℤ) × Reaches n starts i stop x × Reaches n starts j stop y × (distance x y ≡ gap)
   pub least : (x y : ℤ) → Reaches n starts i stop x → Reaches n starts j stop y → gap ≤ distance x y
 
--- The gap of a stop (2.1.5)
+-- The gap of a stop (definition 2.1.5)
 pub data IsStopGap (n : Net) (starts : List ℤ) (stop : ℕ) : ℕ → Type 0 where
   -- the least over its pairs of different lines
   least-of-lines :
@@ -65,7 +64,7 @@ pub data IsStopGap (n : Net) (starts : List ℤ) (stop : ℕ) : ℕ → Type 0 w
 unfoldable pub servedList : Net → List ℕ
 servedList n = below (λ stop. isServed stop (n .calls)) (suc maxStop)
 
--- The rating: the least gap over served stops, and the sum of their gaps (2.1.6)
+-- The rating: the least gap over served stops, and the sum of their gaps (definition 2.1.6, equations 2.1.5 and 2.1.6)
 pub record IsRating (n : Net) (starts : List ℤ) (least sum : ℕ) : Type 0 where
   pub gap : ℕ → ℕ
   pub is-gap : (stop : ℕ) → isServed stop (n .calls) ≡ true → IsStopGap n starts stop (gap stop)
@@ -124,7 +123,7 @@ rating n starts = ratingOver n starts (eachOnce (servedList n))
 abbrev pub noRating : Rating
 noRating = record { some = false; least = 0; sum = 0 }
 
--- One rating is above another if its least gap is larger, or that is equal and its sum is larger (2.4.1)
+-- One rating is above another if its least gap is larger, or that is equal and its sum is larger (definition 2.4.1)
 unfoldable pub isAbove : Rating → Rating → Bool
 isAbove r q =
     r .some && (not (q .some) || (ltb (q .least) (r .least) || eqb (q .least) (r .least) && ltb (q .sum) (r .sum)))

@@ -8,7 +8,7 @@ pub mod ratings;
 pub mod reader;
 
 ghost use mathlib.Core.Path.{_≡_};
-ghost use Prim.Native.Nat.{_+_, _*_, _^_, _<_, _≤_};
+ghost use Prim.Native.Nat.{_+_, _*_, _^_, _<_};
 ghost use Rattle.network.specs.Network as net;
 ghost use Rattle.network.specs.Rating as rating;
 ghost use Rattle.network.specs.Scan as scan;

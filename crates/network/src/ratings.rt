@@ -6,7 +6,7 @@ use crate::gaps::arrival;
 use crate::gaps::gap;
 ghost use mathlib.Core.Path.{_≡_};
 ghost use mathlib.Core.List.{map, _++_, _∷_, []};
-ghost use Prim.Native.Nat.{ℕ, _*_, _+_, _-_, _<_, _≤_};
+ghost use Prim.Native.Nat.{ℕ, _+_, _-_, _<_, _≤_};
 ghost use lib.ListN.{length, getD};
 ghost use lib.Dec.{ltb};
 ghost use Rattle.network.specs.Gap.{gapOf};

@@ -2,23 +2,22 @@
 -- Assumes nothing.
 use Prim.Native.Nat.{ℕ}
 use mathlib.Core.Path.{_≡_, refl}
-use mathlib.Core.Bool.{Bool, true, false, not, _&&_, _||_}
 use mathlib.Core.List.{List, [], _∷_}
 use lib.IntN.{ℤ, pos, negsuc}
 use lib.ListN.{take, replicate, length}
 use Rattle.network.specs.Lists.{any, keep, allBelow, countBelow, below, sumOf, leastOf}
 use Rattle.network.specs.Divisor.{gcd, gcdWithin, lcm, commonCycle, cycleFrom}
 use Rattle.network.specs.Network.{cycle, callsAt, callsAnywhere, isServed, servedStops, latestOffset, word, command, operandBytes, lineOperand}
-use Rattle.network.specs.Network.{stopOperand, statedOffset, rideOffset, withLine, withCall, callOf, extend, Net, emptyNet}
+use Rattle.network.specs.Network.{stopOperand, statedOffset, rideOffset, withLine, withCall, callOf, extend}
 use Rattle.network.specs.Grounds.{first, cutOff, periodOutOfRange, someLineSilent, callGrounds, grounds}
-use Rattle.network.specs.Reading.{proceed, readFrom, readFile, readOutcome, Reading, accepted, refused, Outcome, values}
+use Rattle.network.specs.Reading.{proceed, readFrom, readFile, readOutcome, Reading, accepted, refused, values}
 use Rattle.network.specs.Gap.{residue, fold, gapOf}
 use Rattle.network.specs.Rating.{arrivalOf, periodOf, gapOfCalls, pairGaps, gapOfStop, callsOfStop, stopGap, eachOnce, servedList, ratingOver, rating, isAbove}
 use Rattle.network.specs.Rate.{ratingValues, onSheet, rateOutcome}
 use Rattle.network.specs.Classes.{offsetAt, offsetDifference, sameLines, sameDifference, isAlike, firstBelow, lowestAlike, isLowest, table, classRow, weightRow, classCount}
 use Rattle.network.specs.Scan.{leastFrom, ratingOfGaps}
 use Rattle.search.specs.Caps.{halves, evenSpacing, capOfCalls, cap, placedCalls, upperValue, upperRating}
-use Rattle.search.specs.Walk.{State, counted, stop, becomesBest, unless, stopIf, oneTry, eachStart, walk, mostTries}
+use Rattle.search.specs.Walk.{counted, stop, becomesBest, unless, stopIf, oneTry, eachStart, walk, mostTries}
 use Rattle.search.specs.Search.{SearchOutcome, finished, stopped, stoppedWithNone, startCounts, notAbove, searched, triesBound, walkOutcome, outcomeOf, searchOutcome, startRowAfter}
 
 -- Opens every definition

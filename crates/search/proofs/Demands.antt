@@ -2,11 +2,10 @@
 -- beaten. Each theorem at the end holds of every call that has returned: of what was lent, `a`, its answer, `r`, and the row at its exit, `s`,
 -- where they keep the contract in src/, which every call does. Assumes nothing.
 use Prim.Native.Nat.{ℕ, _+_, _≤_, _<_}
-use mathlib.Core.Path.{_≡_, refl, sym, ap, _∙_}
-use mathlib.Core.Bool.{Bool, true, false}
+use mathlib.Core.Path.{_≡_, sym, ap, _∙_}
+use mathlib.Core.Bool.{Bool, true}
 use mathlib.Core.List.{List}
 use mathlib.Core.Logic.{_⊎_}
-use native.Mathlib.Omega.{arith}
 use borrow.Fn.World.{ArgsD, ResD}
 use borrow.Fn.Kinds.{endedOf}
 use contract.Lifetimes.{Lfts}
@@ -20,9 +19,8 @@ use Rattle.network.specs.Refusals.{Refuses, Unfit, Demand1}
 use Rattle.network.specs.Valid.{IsBytes, Valid}
 use Rattle.network.specs.Rating.{IsRating, rating}
 use Rattle.network.proofs.Laws.Gaps.{accepted-valid, rating-is-rating, IsRating-unique, least-range, sum-range}
-use Rattle.search.specs.Walk.{State}
 use Rattle.search.specs.Search.{SearchOutcome, finished, stopped, stoppedWithNone, refusal, searchAnswer, triesOf, productsFrom}
-use Rattle.search.specs.Search.{searched, outcomeOf, searchOutcome, startRowAfter, triesBound}
+use Rattle.search.specs.Search.{searched, outcomeOf, searchOutcome, startRowAfter}
 use Rattle.search.proofs.Laws.Optimal.{searched-some, searched-length, searched-rating, searched-best, searched-stopped, triesBound-products}
 use Rattle.search.proofs.Laws.Outcome.{fit-outcome, fit-row, Told, told-of-finished, told-of-stopped, told-of-none}
 use Rattle.search.proofs.Laws.Outcome.{outcome-tries-le, outcome-tries-le-budget, outcome-finished}

@@ -1,5 +1,5 @@
 -- How the engine computes the caps: over the calls of a stop it counts them, sums C/T, and takes the least of the first one's period and the
--- halves of g, going back from each call through those before it.
+-- halves of g, looking from each call at those before it.
 use Prim.Native.Nat.{ℕ, _/_}
 use mathlib.Core.List.{List, [], _∷_}
 use lib.ListN.{length}

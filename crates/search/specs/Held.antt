@@ -16,7 +16,7 @@ use Rattle.network.specs.Valid.{Valid, noCall}
 use Rattle.search.specs.declared.Placed.{Placed}
 use Rattle.search.specs.declared.Walk as declared-walk
 use Rattle.search.specs.Caps.{cap, upperValue, upperRating}
-use Rattle.search.specs.Walk.{State, oneTry, eachStart, walk}
+use Rattle.search.specs.Walk.{State, oneTry, walk}
 use Rattle.search.specs.Search.{startCounts, notAbove}
 use Rattle.search.specs.Layout.{byLine}
 

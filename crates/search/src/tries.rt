@@ -6,7 +6,7 @@ use crate::place::place;
 use network::Network;
 use network::Rating;
 ghost use mathlib.Core.Path.{_≡_};
-ghost use Prim.Native.Nat.{ℕ, _+_, _<_, _≤_};
+ghost use Prim.Native.Nat.{_+_, _<_, _≤_};
 ghost use Rattle.network.specs.Network.{maxPeriod};
 ghost use Rattle.search.specs.Held as held;
 ghost use Rattle.search.specs.Walk.{eachStart};

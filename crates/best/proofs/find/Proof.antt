@@ -1,5 +1,5 @@
 -- `best::find` meets its contract: a row of 16 has a part for the starts of so many lines. Assumes nothing.
-use mathlib.Core.Path.{_≡_, sym}
+use mathlib.Core.Path.{sym}
 use lib.Seq.{length-take-le}
 use borrow.Author.Needs.{needs}
 use Rattle.best.proofs.find.Statement.{statement}

@@ -1,5 +1,4 @@
 -- `best::print_start` meets its contract: a start that isn't negative is a number of 64 bits. Assumes nothing.
-use Prim.Native.Nat.{ℕ, _<_}
 use mathlib.Core.Path.{_≡_, sym, ap, subst, _∙_}
 use mathlib.Core.Bool.{true}
 use native.Mathlib.Omega.{arith}

@@ -1,7 +1,6 @@
 -- `best::print_starts` meets its contract. The loop's invariant: `i` is within the row. Assumes nothing.
 use Prim.Native.Nat.{_≤_, _-_}
 use mathlib.Core.Path.{_≡_}
-use native.Mathlib.Omega.{arith}
 use borrow.Author.Needs.{needs}
 use lib.ListN.{length}
 use Rattle.best.proofs.print_starts.Statement.{statement}

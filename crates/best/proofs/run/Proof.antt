@@ -1,5 +1,5 @@
 -- `best::run` meets its contract: the lines that the read call answers are at most 16. Assumes nothing.
-use mathlib.Core.Path.{_≡_, sym, ap, _∙_}
+use mathlib.Core.Path.{sym, ap, _∙_}
 use Rattle.network.specs.Reading.{readAnswer}
 use Rattle.network.proofs.Laws.Valid.{answered-lines}
 use borrow.Author.Needs.{needs}

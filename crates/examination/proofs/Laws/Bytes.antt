@@ -1,7 +1,7 @@
 -- A sheet's bytes taken apart: the starts stand at every fourth byte, a sheet of bytes fits a network where its starts do, and so a call on the
 -- starts answers what document 01 wants on the bytes. Assumes nothing.
 use Prim.Native.Nat.{ℕ, zero, suc, _+_, _*_, _/_, _%_, _<_, _≤_}
-use mathlib.Core.Path.{_≡_, refl, sym, ap, _∙_}
+use mathlib.Core.Path.{_≡_, refl, ap, _∙_}
 use mathlib.Core.Bool.{Bool, true, false, _&&_}
 use mathlib.Core.List.{List, [], _∷_}
 use native.Mathlib.Omega.{arith}
@@ -15,7 +15,7 @@ use Rattle.network.specs.Rating.{rating}
 use Rattle.network.specs.declared.Rating.{Rating}
 use Rattle.network.specs.Rate.{onSheet, ratingValues}
 use Rattle.network.specs.Reading.{Reading, accepted, refused, refusal, readFile}
-use Rattle.network.specs.Valid.{Valid, IsBytes}
+use Rattle.network.specs.Valid.{IsBytes}
 use Rattle.network.proofs.Laws.Valid.{accepted-valid}
 use Rattle.search.specs.Search.{searchOutcome}
 use Rattle.examination.specs.Bytes.{signed, starts, bytesFit, byBytes, betterBytes}

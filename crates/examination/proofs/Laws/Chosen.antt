@@ -8,18 +8,17 @@ use borrow.Author.Tests.{eqb-true, eq-eqb}
 use lib.Dec.{eqb}
 use lib.IntN.{ℤ}
 use lib.ListN.{length}
-use Rattle.network.specs.declared.Rating.{Rating}
 use Rattle.network.specs.declared.RateAnswer.{RateAnswer}
 use Rattle.network.specs.declared.RateAnswer.the-variants as answer
 use Rattle.network.specs.Lists.{pick}
 use Rattle.network.specs.Network.{Net}
 use Rattle.network.specs.Rate.{rateAnswer, ratingValues, onSheet, rateOutcome}
 use Rattle.network.specs.Rating.{noRating, rating, ratingOver, isAbove}
-use Rattle.network.specs.Reading.{Reading, accepted, refused, Outcome, values, refusal}
+use Rattle.network.specs.Reading.{Reading, accepted, refused, values, refusal}
 use Rattle.network.proofs.Laws.Lists.{zero-ne-one}
 use Rattle.search.specs.Search.{searchOutcome}
 use Rattle.examination.specs.Chosen.{ratingFrom, ratingOn, betterFrom}
-use Rattle.examination.specs.Sheets.{Better, first, second, neither, fits, betterBy, betterOf, marked, markOutcome}
+use Rattle.examination.specs.Sheets.{first, second, neither, fits, betterBy, betterOf, marked, markOutcome}
 use Rattle.examination.specs.Sheets as sheets
 
 -- ---- what rate's answer tells

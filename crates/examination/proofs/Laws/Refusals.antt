@@ -1,10 +1,10 @@
 -- When the examination's calls refuse, with which number and place, and that both fit one number. Mark refuses as rate does and nothing else: on
 -- a sheet that fits, the search has a start row that fits. A call on a sheet's bytes refuses where their number isn't four for each line.
 -- Assumes nothing.
-use Prim.Native.Nat.{ℕ, _*_, _≤_, _<_}
+use Prim.Native.Nat.{ℕ, _≤_, _<_}
 use mathlib.Core.Path.{_≡_, refl, sym, ap, ap₂, _∙_}
 use mathlib.Core.Bool.{Bool, true, false}
-use mathlib.Core.List.{List, [], _∷_}
+use mathlib.Core.List.{List}
 use native.Mathlib.Omega.{arith}
 use borrow.Author.Tests.{eqb-true, eqb-false, eq-eqb, ne-eqb}
 use lib.Dec.{eqb}
@@ -28,7 +28,7 @@ use Rattle.search.specs.Search as search
 use Rattle.search.proofs.Demands.{Searches, demand-1}
 use Rattle.examination.specs.Bytes.{bytesFit, byBytes, BytesUnfit}
 use Rattle.examination.specs.Exports.{placeLimit}
-use Rattle.examination.specs.Sheets.{MarkOutcome, fits, marked, markOutcome}
+use Rattle.examination.specs.Sheets.{fits, marked, markOutcome}
 use Rattle.examination.specs.Sheets as sheets
 use Rattle.examination.specs.Taken.{sheetOf}
 use Rattle.examination.proofs.Laws.Bytes.{sheetOf-fits, onSheet-on-bytes, mark-on-bytes}

@@ -13,7 +13,7 @@ use lib.IntN.{ℤ, pos, _+ℤ_, _-ℤ_}
 use lib.ListN.{getD}
 use borrow.Author.Tests.{eqb-true, eqb-false, eq-eqb}
 use Rattle.network.specs.declared.Call.{Call}
-use Rattle.network.specs.Lists.{pick, any}
+use Rattle.network.specs.Lists.{pick}
 use Rattle.network.specs.Divisor.{gcd}
 use Rattle.network.specs.Network.{Net, callsAt}
 use Rattle.network.specs.Valid.{noCall, Valid}

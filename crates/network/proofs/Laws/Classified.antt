@@ -1,8 +1,8 @@
 -- The class row and the weight row by what they mean: a served stop's entry is the least stop alike to it, and a stop's weight is how many
 -- stops have it for their entry. Assumes nothing.
 use Prim.Native.Nat.{ℕ, suc, _≤_, _<_}
-use mathlib.Core.Path.{_≡_, refl, sym, ap, _∙_}
-use mathlib.Core.Bool.{Bool, true, false, _&&_}
+use mathlib.Core.Path.{_≡_, sym, ap, _∙_}
+use mathlib.Core.Bool.{Bool, true, false}
 use native.Mathlib.Omega.{arith}
 use lib.Dec.{eqb}
 use lib.ListN.{getD}
@@ -12,7 +12,7 @@ use Rattle.network.specs.Valid.{Valid}
 use Rattle.network.specs.Classes.{Alike, lowestAlike, isLowest, unserved, classRow, weightRow, classCount}
 use Rattle.network.proofs.Laws.Lists.{countBelow-same}
 use Rattle.network.proofs.Laws.Classes.{isInClassOf, lowestAlike-alike, lowestAlike-lowest, classRow-at, weightRow-at}
-use Rattle.network.proofs.Laws.ClassRows.{classAt, classAt-in, weight-is}
+use Rattle.network.proofs.Laws.ClassRows.{classAt-in, weight-is}
 
 module _ (n : Net) (s : ℕ) (low : s ≤ maxStop) where
   -- The entry of a served stop, and of an unserved one

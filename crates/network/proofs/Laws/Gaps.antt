@@ -1,4 +1,4 @@
--- The laws on gaps and ratings that other crates may use, and no others. Assumes nothing.
+-- The laws on gaps and ratings that other crates use. Assumes nothing.
 
 -- two lines: theorem 3.1.2, and no two arrivals closer than the gap
 pub use Rattle.network.proofs.Laws.Gap.{theorem-3-1-2, IsGap-unique, gapOf-symmetric, gapOf-half}

@@ -8,7 +8,6 @@ use mathlib.Core.List.{List, [], _∷_, _++_}
 use lib.Dec.{eqb, ltb}
 use lib.ListN.{length}
 use borrow.Author.Tests.{lt-ltb, le-ltb, ltb-false, leb-false, eqb-false, not-false}
-use Rattle.network.specs.declared.Check.{Check}
 use Rattle.network.specs.declared.Check.the-variants.{Passes, Refused}
 use Rattle.network.specs.Divisor.{lcm}
 use Rattle.network.specs.Network.{Net, Command, statesLine, callsByOffset, callsByRide, ends, unknown}

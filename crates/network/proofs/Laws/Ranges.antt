@@ -1,19 +1,19 @@
 -- The numbers of an accepted network and its ratings stay within the limits of document 01: a gap is at most a period, there are 1 to 64 served
 -- stops and as many classes at most, and a sum has one gap for each served stop. Assumes nothing.
-use Prim.Native.Nat.{ℕ, suc, _+_, _*_, _≤_, _<_}
+use Prim.Native.Nat.{ℕ, suc, _*_, _≤_}
 use mathlib.Core.Path.{_≡_, subst}
-use mathlib.Core.List.{List, [], _∷_, map}
+use mathlib.Core.List.{List, [], _∷_}
 use native.Mathlib.Nat.{zero-lt-suc}
 use native.Mathlib.Omega.{arith}
 use lib.Dec.{eqb}
 use lib.IntN.{ℤ}
 use lib.ListN.{length, getD}
 use Rattle.network.specs.declared.Call.{Call}
-use Rattle.network.specs.Lists.{sumOf, leastOf}
+use Rattle.network.specs.Lists.{sumOf}
 use Rattle.network.specs.Network.{Net, maxStop, maxPeriod, stopCount, isServed, callsAnywhere, servedStops}
 use Rattle.network.specs.Valid.{Valid, noCall}
 use Rattle.network.specs.Rating.{servedList, stopGap, rating}
-use Rattle.network.specs.Classes.{isLowest, classRow, weightRow, classCount}
+use Rattle.network.specs.Classes.{isLowest, classCount}
 use Rattle.network.proofs.Laws.Lists.{countBelow-le}
 use Rattle.network.proofs.Laws.Members.{All, has-any, all-tail}
 use Rattle.network.proofs.Laws.Least.{leastOf-map-has}

@@ -2,7 +2,7 @@
 -- the definition counts. Assumes nothing.
 use Prim.Native.Nat.{ℕ, suc, _*_, _<_, _≤_}
 use mathlib.Core.Path.{_≡_, refl, sym, ap, ap₂, _∙_}
-use mathlib.Core.Bool.{Bool, true}
+use mathlib.Core.Bool.{true}
 use mathlib.Core.List.{List, [], _∷_, map, List·Memᴰ, List·Memᴰ·head, List·Memᴰ·tail, map-map}
 use native.Mathlib.Nat.{le-trans, zero-lt-suc}
 use native.Mathlib.Omega.{arith}
@@ -11,7 +11,7 @@ use lib.Dec.{eqb, ltb}
 use lib.IntN.{ℤ}
 use lib.ListN.{length, getD}
 use Rattle.network.specs.declared.Call.{Call}
-use Rattle.network.specs.Lists.{below, sumOf, leastOf, keep}
+use Rattle.network.specs.Lists.{below, leastOf, keep}
 use Rattle.network.specs.Network.{Net, maxStop, maxPeriod, isServed}
 use Rattle.network.specs.Valid.{Valid, noCall}
 use Rattle.network.specs.Rating.{

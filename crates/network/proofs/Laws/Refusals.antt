@@ -1,18 +1,18 @@
 -- When the network's calls refuse, both ways: each answer's definition goes by the reading and by one test of what else was lent. Assumes
 -- nothing.
 use Prim.Native.Nat.{ℕ}
-use mathlib.Core.Path.{_≡_, refl, sym, ap, ap₂, _∙_}
+use mathlib.Core.Path.{_≡_, refl, ap, ap₂, _∙_}
 use mathlib.Core.Bool.{Bool, true, false, _&&_}
 use mathlib.Core.List.{List, [], _∷_}
-use mathlib.Core.Logic.{_⊎_, inl, inr}
-use borrow.Author.Tests.{eqb-true, eqb-false, eq-eqb, ne-eqb}
+use mathlib.Core.Logic.{inl, inr}
+use borrow.Author.Tests.{eqb-false, eq-eqb, ne-eqb}
 use lib.Dec.{eqb}
 use lib.IntN.{ℤ}
 use lib.ListN.{length}
 use Rattle.network.specs.declared.Rating.{Rating}
 use Rattle.network.specs.Lists.{pick}
 use Rattle.network.specs.Network.{Net, stopCount}
-use Rattle.network.specs.Reading.{Reading, accepted, refused, Outcome, values, refusal, readFile, readOutcome}
+use Rattle.network.specs.Reading.{Reading, accepted, refused, values, refusal, readFile, readOutcome}
 use Rattle.network.specs.Gives.{Gives}
 use Rattle.network.specs.Refusals.{Refuses, by-file, after-file, Unfit, Not64}
 use Rattle.network.specs.Rate.{ratingValues, onSheet}

@@ -1,10 +1,10 @@
 -- The pass over the calls computes the stops' gaps: the row leads back through the calls at a stop, and one call more makes the gap the
 -- least of what it was and the gaps to those before. Each is an induction over a list. Assumes nothing.
-use Prim.Native.Nat.{ℕ, zero, suc, _+_, _*_, _-_, _<_, _≤_, min, suc-le-suc}
+use Prim.Native.Nat.{ℕ, zero, suc, _+_, _*_, _-_, _<_, _≤_, min}
 use mathlib.Core.Path.{_≡_, refl, sym, ap, ap₂, _∙_}
 use mathlib.Core.Bool.{Bool, true, false}
 use mathlib.Core.List.{List, [], _∷_, _++_, map, append-nil, map-append}
-use native.Mathlib.Nat.{le-trans, min-comm, div-le-self, zero-lt-suc, le-of-suc-le-suc}
+use native.Mathlib.Nat.{le-trans, min-comm, div-le-self, zero-lt-suc}
 use native.Mathlib.Decide.{ℕ-discrete}
 use native.Mathlib.Numerals.{add-one}
 use native.Mathlib.Omega.{arith}

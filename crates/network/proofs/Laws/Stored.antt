@@ -3,27 +3,24 @@
 use Prim.Native.Nat.{ℕ, _+_, _<_, _≤_}
 use mathlib.Core.Path.{_≡_, refl, sym, ap, subst, _∙_}
 use mathlib.Core.Bool.{false}
-use mathlib.Core.List.{List, _∷_}
+use mathlib.Core.List.{List}
 use mathlib.Core.Logic.{inl, inr}
 use native.Mathlib.Omega.{arith}
-use lib.ListN.{length, getD, take, drop, set, length-set}
+use lib.ListN.{length, getD, take, set, length-set}
 use lib.Seq.{length-take-le, getD-take}
 use Rattle.network.specs.declared.Call.{Call}
-use Rattle.network.specs.declared.Check.{Check}
-use Rattle.network.specs.declared.Check.the-variants.{Passes, Refused}
+use Rattle.network.specs.declared.Check.the-variants.{Passes}
 use Rattle.network.specs.declared.Network.{Network}
 use Rattle.network.specs.declared.Told.the-variants as told
-use Rattle.network.specs.Network.{Net, Command, statesLine, callsByOffset, callsByRide, ends, unknown, command, operandBytes, extend}
+use Rattle.network.specs.Network.{Net, Command, statesLine, callsByOffset, callsByRide, ends, extend}
 use Rattle.network.specs.Network.{maxLines, maxCycle, maxStop, maxCalls, cycle, callsAt, word, callOf, withLine, withCall}
 use Rattle.network.specs.Valid.{Valid, noCall}
 use Rattle.network.specs.Grounds.{first, grounds}
-use Rattle.network.specs.Reading.{Reading, accepted, refused, proceed, readFrom}
 use Rattle.network.specs.Stored.{netOf, Sound, HasSize, Tells}
 use Rattle.network.proofs.Laws.Divisor.{lcm-pos}
 use Rattle.network.proofs.Laws.Grounds.{CallFits, line-passes, call-passes, ride-passes}
 use Rattle.network.proofs.Laws.Lists.{zero-ne-one, take-set-next}
 use Rattle.network.proofs.Laws.Network.{cycle-withLine}
-use Rattle.network.proofs.Laws.Reading.{readFrom-skip, passes-operands}
 
 pub held-lines : (n : Network) → Sound n → length (netOf n .periods) ≡ n .lines
 unfolding netOf

@@ -1,19 +1,18 @@
 -- What the rows of the walk tell of the network that they hold: the lines, divisors and gaps of its calls. Assumes nothing.
 use Prim.Native.Nat.{ℕ, zero, suc, _+_, _*_, _-_, _/_, _%_, _<_, _≤_}
-use mathlib.Core.Path.{_≡_, refl, sym, ap, ap₂, _∙_}
+use mathlib.Core.Path.{_≡_, sym, ap, ap₂, _∙_}
 use mathlib.Core.List.{List, map}
 use native.Mathlib.Nat.{le-trans}
 use native.Mathlib.Omega.{arith}
 use lib.Dec.{eqb}
-use lib.IntN.{ℤ, pos, _+ℤ_, _-ℤ_, _*ℤ_}
+use lib.IntN.{ℤ, pos, _+ℤ_, _-ℤ_}
 use lib.ListN.{length, getD, List·getD-map}
 use Rattle.network.specs.declared.Call.{Call}
 use Rattle.network.specs.Divisor.{gcd}
-use Rattle.network.specs.Network.{Net, maxPeriod, maxStop, maxOffset}
-use Rattle.network.specs.Valid.{Valid, noCall}
+use Rattle.network.specs.Network.{maxPeriod, maxStop, maxOffset}
+use Rattle.network.specs.Valid.{noCall}
 use Rattle.network.specs.Gap.{fold, residue, gapOf}
 use Rattle.network.specs.Rating.{arrivalOf, periodOf, gapOfCalls}
-use Rattle.network.specs.Scan.{LeadsBack, lastAt}
 use Rattle.network.proofs.Laws.Members.{All, all-append, keep-all}
 use Rattle.network.proofs.Laws.Divisor.{gcd-pos-left, gcd-le-left}
 use Rattle.network.proofs.Laws.Gaps.{residue-eq-of-multiple}

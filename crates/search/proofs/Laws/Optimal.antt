@@ -2,26 +2,21 @@
 -- rating of the starts beside it, and that at its end nothing is above. Assumes nothing.
 use Prim.Native.Nat.{ℕ, zero, suc, _+_, _*_, _≤_, _<_}
 use mathlib.Core.Path.{_≡_, refl, sym, ap, _∙_}
-use mathlib.Core.Bool.{Bool, true, false}
+use mathlib.Core.Bool.{true, false}
 use mathlib.Core.List.{List, [], _∷_}
 use mathlib.Core.Logic.{_⊎_}
 use native.Mathlib.Omega.{arith}
-use borrow.Author.Tests.{eqb-true, eq-eqb}
-use lib.Dec.{eqb}
 use lib.IntN.{ℤ, pos, negsuc}
 use lib.ListN.{length, drop}
 use Rattle.network.specs.declared.Rating.{Rating}
-use Rattle.network.specs.Lists.{pick}
 use Rattle.network.specs.Network.{Net}
 use Rattle.network.specs.Valid.{Valid}
 use Rattle.network.specs.Rating.{IsRating, ratingOver, rating, isAbove}
-use Rattle.network.specs.Reading.{accepted}
-use Rattle.network.proofs.Laws.Lists.{zero-ne-one}
 use Rattle.network.proofs.Laws.Gaps.{All, rating-is-rating, IsRating-unique, below-of-not-isAbove}
 use Rattle.search.specs.Caps.{cap, upperRating}
-use Rattle.search.specs.Walk.{State, atFirst, mostTries}
-use Rattle.search.specs.Search.{startCounts, notAbove, searched, triesBound, walkOutcome, outcomeOf, searchOutcome, startRowAfter}
-use Rattle.search.specs.Search.{SearchOutcome, finished, stopped, stoppedWithNone, refusal, triesOf, productsFrom}
+use Rattle.search.specs.Walk.{atFirst, mostTries}
+use Rattle.search.specs.Search.{startCounts, notAbove, searched, triesBound}
+use Rattle.search.specs.Search.{stopped, productsFrom}
 use Rattle.search.proofs.Laws.Upper.{upper-sound, upper-full, upperRating-some}
 use Rattle.search.proofs.Laws.Chosen as tried
 use Rattle.search.proofs.Laws.Reduced.{reduced, reduced-length, reduced-chosen, reduced-rating}

@@ -1,6 +1,6 @@
 -- Placing a line call by call: after each of its calls the values are those of the calls up to it, and the rating is the values'; before the
 -- first call they are the partial timetable's, and after the last those of one line more. From call to call they only fall. Assumes nothing.
-use Prim.Native.Nat.{ℕ, suc, _+_, _-_, _<_, _≤_, min}
+use Prim.Native.Nat.{ℕ, _+_, _-_, _<_, _≤_, min}
 use mathlib.Core.Path.{_≡_, refl, sym, ap, ap₂, subst, fun-ext, _∙_}
 use mathlib.Core.Bool.{true, false}
 use mathlib.Core.List.{List, [], _∷_, _++_, map, map-append}

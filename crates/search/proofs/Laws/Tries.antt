@@ -2,17 +2,15 @@
 -- stands; and the walk from a partial timetable on is the next line's tries, or past the last line the best. Assumes nothing.
 use Prim.Native.Nat.{ℕ, zero, suc, _+_, _-_, _<_, _≤_}
 use mathlib.Core.Path.{_≡_, refl, sym, ap, subst, _∙_}
-use mathlib.Core.Bool.{Bool, true, false, not}
+use mathlib.Core.Bool.{Bool, true, false}
 use mathlib.Core.List.{List, [], _∷_, _++_}
 use mathlib.Core.Logic.{_⊎_, inl, inr}
 use borrow.Author.Tests.{eq-eqb, ne-eqb}
 use native.Mathlib.Numerals.{add-one}
 use native.Mathlib.Omega.{arith}
 use lib.IntN.{ℤ, pos}
-use lib.ListN.{length, getD, take, drop}
-use lib.Dec.{eqb}
+use lib.ListN.{length, getD, drop}
 use Rattle.network.specs.declared.Rating.{Rating}
-use Rattle.network.specs.Lists.{pick}
 use Rattle.network.specs.Network.{Net, maxPeriod}
 use Rattle.network.specs.Rating.{isAbove}
 use Rattle.network.specs.Valid.{Valid}

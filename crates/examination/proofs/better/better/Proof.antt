@@ -5,7 +5,6 @@ use mathlib.Core.Path.{_≡_, refl, sym, ap, _∙_}
 use native.Mathlib.Omega.{arith}
 use borrow.Author.Needs.{needs}
 use Rattle.network.specs.Reading.{readFile}
-use Rattle.examination.specs.declared.Choice.{Choice}
 use Rattle.examination.specs.Sheets.{Better, first, second, neither, choiceOf, betterOf}
 use Rattle.examination.proofs.better.better.Statement.{statement}
 use Rattle.examination.proofs.better.better.Tie as tie

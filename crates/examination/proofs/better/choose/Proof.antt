@@ -1,13 +1,11 @@
 -- `examination::better::choose` meets its contract: it goes by the ratings that rate answers of the two sheets. Assumes nothing.
-use mathlib.Core.Path.{_≡_, refl, sym, ap, ap₂, _∙_}
+use mathlib.Core.Path.{_≡_, sym, ap, ap₂, _∙_}
 use mathlib.Core.Bool.{Bool}
 use borrow.Author.Needs.{needs}
-use Rattle.network.specs.declared.Rating.{Rating}
 use Rattle.network.specs.Lists.{pick}
 use Rattle.network.specs.Reading.{readFile}
-use Rattle.network.specs.Rating.{isAbove}
 use Rattle.examination.specs.Chosen.{betterFrom}
-use Rattle.examination.specs.Sheets.{Better, first, second, neither, choiceOf, betterOf}
+use Rattle.examination.specs.Sheets.{first, second, neither, choiceOf, betterOf}
 use Rattle.examination.proofs.Laws.Chosen.{ratingOn-of-rate, betterOf-from}
 use Rattle.examination.proofs.better.choose.Statement.{statement}
 use Rattle.examination.proofs.better.choose.Tie as tie

@@ -1,7 +1,6 @@
 -- `examination::better::rating_from` meets its contract, case by case. Assumes nothing.
-use mathlib.Core.Path.{_≡_, refl, sym, ap, _∙_}
+use mathlib.Core.Path.{sym, ap}
 use borrow.Author.Needs.{needs}
-use Rattle.network.specs.declared.RateAnswer.{RateAnswer}
 use Rattle.examination.specs.Chosen.{ratingFrom}
 use Rattle.examination.proofs.better.rating_from.Statement.{statement}
 use Rattle.examination.proofs.better.rating_from.Tie as tie

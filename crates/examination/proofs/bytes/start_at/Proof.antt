@@ -1,19 +1,18 @@
 -- `examination::bytes::start_at` meets its contract: a number below 2^31 stands for itself, a larger one for -1 less what it lacks of
 -- 2^32 - 1. Assumes nothing.
 use Prim.Native.Nat.{ℕ, _+_, _*_, _-_, _^_, _<_, _≤_}
-use mathlib.Core.Path.{_≡_, refl, sym, ap, ap₂, _∙_}
+use mathlib.Core.Path.{_≡_, sym, ap, ap₂, _∙_}
 use mathlib.Core.Bool.{Bool}
 use native.Mathlib.Omega.{arith}
 use borrow.Author.Needs.{needs}
 use borrow.Author.Tests.{lt-ltb, le-ltb}
-use lib.Dec.{ltb}
-use lib.IntN.{ℤ, pos, negsuc, natAbs, _-ℤ_}
+use lib.IntN.{ℤ, pos, negsuc, _-ℤ_}
 use mir.Syntax.{w32}
-use mir.Val.{SFits, toZ, ofZ}
+use mir.Val.{SFits, toZ}
 use mir.Facts.{toZ-ofZ, toZ-pos}
 use Rattle.network.specs.Lists.{pick}
 use Rattle.network.specs.Network.{word}
-use Rattle.network.proofs.Laws.Integers.{difference, difference-pos, difference-sub, natAbs-of-difference, eq-of-difference}
+use Rattle.network.proofs.Laws.Integers.{difference, difference-pos, difference-sub, eq-of-difference}
 use Rattle.examination.specs.Bytes.{signed}
 use Rattle.examination.specs.Taken.{startAt}
 use Rattle.examination.proofs.bytes.start_at.Statement.{statement}

@@ -6,7 +6,6 @@ use borrow.Author.Needs.{needs}
 use lib.IntN.{ℤ}
 use lib.Seq.{length-take-le}
 use Rattle.network.specs.Reading.{readFile}
-use Rattle.network.specs.Valid.{IsBytes}
 use Rattle.examination.specs.Bytes.{betterBytes}
 use Rattle.examination.specs.Exports.{betterStatus}
 use Rattle.examination.specs.Sheets.{choiceOf, betterOf}

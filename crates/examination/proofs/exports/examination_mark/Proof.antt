@@ -7,7 +7,6 @@ use borrow.Author.Needs.{needs}
 use lib.IntN.{ℤ}
 use lib.Seq.{length-take-le}
 use Rattle.network.specs.Reading.{Reading, readFile}
-use Rattle.network.specs.Valid.{IsBytes}
 use Rattle.examination.specs.Bytes.{byBytes}
 use Rattle.examination.specs.Exports.{markStatus, markRow}
 use Rattle.examination.specs.Sheets.{MarkOutcome, refusal, markAnswer, markOutcome}

@@ -1,9 +1,7 @@
 -- `examination::exports::examination_read` meets its contract: it hands on what the read call answers. Assumes nothing.
-use Prim.Native.Nat.{ℕ, _<_}
-use mathlib.Core.Path.{_≡_, refl, sym, ap, _∙_}
-use mathlib.Core.List.{List}
+use mathlib.Core.Path.{_≡_, sym, ap, _∙_}
 use borrow.Author.Needs.{needs}
-use Rattle.network.specs.Reading.{Outcome, values, refusal, readFile, readAnswer, readOutcome}
+use Rattle.network.specs.Reading.{Outcome, refusal, readFile, readAnswer, readOutcome}
 use Rattle.examination.specs.Exports.{status, rowAfter}
 use Rattle.examination.proofs.Laws.Refusals.{read-low}
 use Rattle.examination.proofs.exports.examination_read.Statement.{statement}

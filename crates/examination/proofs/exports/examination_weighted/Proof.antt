@@ -7,7 +7,6 @@ use lib.Seq.{length-take-le}
 use Rattle.network.specs.ClassCall.{weightedRating, weightedOutcome}
 use Rattle.network.specs.Rate.{rateAnswer, onSheet}
 use Rattle.network.specs.Reading.{Outcome, refusal, readFile}
-use Rattle.network.specs.Valid.{IsBytes}
 use Rattle.examination.specs.Bytes.{byBytes}
 use Rattle.examination.specs.Exports.{status, rowAfter}
 use Rattle.examination.specs.Taken.{held}

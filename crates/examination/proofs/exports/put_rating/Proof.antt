@@ -1,7 +1,6 @@
 -- `examination::exports::put_rating` meets its contract, case by case. Assumes nothing.
-use mathlib.Core.Path.{_≡_, sym, ap, _∙_}
+use mathlib.Core.Path.{sym, ap, _∙_}
 use borrow.Author.Needs.{needs}
-use Rattle.network.specs.declared.RateAnswer.{RateAnswer}
 use Rattle.network.specs.Rate.{rateAnswer}
 use Rattle.network.specs.Reading.{Outcome}
 use Rattle.examination.specs.Exports.{status, rowAfter}

@@ -1,16 +1,14 @@
 -- `examination::marking::mark` meets its contract: it refuses as rate does, and otherwise sets the rating beside what the search answers with a
 -- start row of the sheet's length. Assumes nothing.
 use Prim.Native.Nat.{ℕ, _≤_}
-use mathlib.Core.Path.{_≡_, refl, sym, ap, _∙_}
-use mathlib.Core.List.{List, [], _∷_}
+use mathlib.Core.Path.{sym, ap, _∙_}
 use native.Mathlib.Omega.{arith}
 use borrow.Author.Needs.{needs}
-use lib.IntN.{ℤ, pos}
-use lib.ListN.{length, take, replicate}
+use lib.IntN.{pos}
+use lib.ListN.{length, replicate}
 use lib.Seq.{length-take-le}
 use Rattle.network.specs.Rate.{rateAnswer}
-use Rattle.network.specs.Reading.{readFile, values}
-use Rattle.network.specs.Valid.{IsBytes}
+use Rattle.network.specs.Reading.{readFile}
 use Rattle.network.proofs.Laws.Valid.{accepted-valid}
 use Rattle.search.specs.Search.{SearchOutcome, searchOutcome}
 use Rattle.examination.specs.Sheets as sheets

@@ -1,11 +1,9 @@
 -- `network::Network::new` meets its contract: rows of which no place counts yet. Assumes nothing.
-use mathlib.Core.Path.{_≡_, refl}
+use mathlib.Core.Path.{refl}
 use native.Mathlib.Omega.{arith}
-use lib.Dec.{lit≤}
-use lib.ListN.{length-replicate}
 use Rattle.network.specs.Divisor.{commonCycle, cycleFrom}
 use Rattle.network.specs.Network.{cycle}
-use Rattle.network.specs.Stored.{netOf, Sound}
+use Rattle.network.specs.Stored.{netOf}
 use Rattle.network.proofs.Network.new.Statement.{statement}
 use Rattle.network.proofs.Network.new.Tie as tie
 

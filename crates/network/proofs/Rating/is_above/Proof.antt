@@ -1,12 +1,5 @@
 -- `network::Rating::is_above` meets its contract: each return is a row of the order's table. Assumes nothing.
-use Prim.Native.Nat.{ℕ}
-use mathlib.Core.Path.{_≡_, refl, sym, ap, _∙_}
-use mathlib.Core.Bool.{Bool, true, false, not, _&&_, _||_}
-use borrow.Author.Tests.{eq-eqb, ne-eqb}
-use native.Mathlib.Omega.{arith}
-use lib.Dec.{eqb, ltb}
-use Rattle.network.specs.declared.Rating.{Rating}
-use Rattle.network.specs.Rating.{isAbove}
+use mathlib.Core.Path.{sym}
 use Rattle.network.proofs.Laws.Order.{above-none, above-same-least, above-other-least, none-above}
 use Rattle.network.proofs.Rating.is_above.Statement.{statement}
 use Rattle.network.proofs.Rating.is_above.Tie as tie

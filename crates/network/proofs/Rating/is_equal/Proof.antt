@@ -1,6 +1,5 @@
 -- `network::Rating::is_equal` meets its contract: each return is a case of the definition. Assumes nothing.
-use mathlib.Core.Path.{_≡_, refl, sym}
-use mathlib.Core.Bool.{true, false}
+use mathlib.Core.Path.{refl}
 use borrow.Author.Tests.{eq-eqb, ne-eqb}
 use Rattle.network.specs.Rating.{isEqual}
 use Rattle.network.proofs.Rating.is_equal.Statement.{statement}

@@ -1,10 +1,9 @@
 -- `network::Rating::with_stop` meets its contract: the lesser of two gaps by a test, or the first. Assumes nothing.
 use Prim.Native.Nat.{ℕ, _+_, _*_, min}
-use mathlib.Core.Path.{_≡_, refl, sym, ap, _∙_}
+use mathlib.Core.Path.{_≡_, sym, ap, _∙_}
 use mathlib.Core.Bool.{true}
 use borrow.Author.Needs.{needs}
 use native.Mathlib.Omega.{arith}
-use Rattle.network.specs.declared.Rating.{Rating}
 use Rattle.network.specs.Lists.{pick}
 use Rattle.network.specs.Scan.{withStop}
 use Rattle.network.proofs.Rating.with_stop.Statement.{statement}

@@ -1,9 +1,8 @@
 -- `network::divisor::lcm` meets its contract: the divisor of a positive number is positive, and a quotient is at most what was divided.
 -- Assumes nothing.
-use Prim.Native.Nat.{ℕ, _*_, _/_, _≤_, _<_}
-use mathlib.Core.Path.{_≡_, sym, ap, subst}
+use Prim.Native.Nat.{ℕ, _*_, _/_, _<_}
+use mathlib.Core.Path.{ap}
 use native.Mathlib.Nat.{div-le-self, mul-le-mul, lt-of-le-of-lt, le-trans}
-use native.Mathlib.Omega.{arith}
 use lib.Dec.{lit<}
 use Rattle.network.specs.Divisor as divisor
 use Rattle.network.proofs.Laws.Divisor.{gcd-pos-left}

@@ -1,5 +1,5 @@
 -- `network::gaps::residue` meets its contract: of a negative number -1 - x is a natural number, of any other x itself. Assumes nothing.
-use Prim.Native.Nat.{ℕ, suc, _-_, _%_, _^_, _<_}
+use Prim.Native.Nat.{ℕ, _-_, _%_, _^_, _<_}
 use mathlib.Core.Path.{_≡_, refl, sym, ap, subst, _∙_}
 use mathlib.Core.Bool.{true, false}
 use native.Mathlib.Nat.{mod-lt}

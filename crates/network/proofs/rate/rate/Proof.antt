@@ -1,19 +1,16 @@
 -- `network::rate::rate` meets its contract: it answers the file's refusal, then ground 15, then the rating. Assumes nothing.
-use Prim.Native.Nat.{ℕ, _<_}
-use mathlib.Core.Path.{_≡_, refl, sym, ap, _∙_}
+use mathlib.Core.Path.{_≡_, sym, ap, _∙_}
 use mathlib.Core.Bool.{true, false}
-use mathlib.Core.List.{List, [], _∷_}
-use native.Mathlib.Omega.{arith}
 use borrow.Author.Needs.{needs}
 use borrow.Author.Tests.{eq-eqb, ne-eqb}
 use lib.Dec.{eqb}
-use lib.ListN.{length, getD}
+use lib.ListN.{length}
 use Rattle.network.specs.declared.Check.{Check}
 use Rattle.network.specs.Lists.{pick}
 use Rattle.network.specs.Reading.{Reading, accepted, refusal, readFile}
 use Rattle.network.specs.Rate.{rateAnswer, ratingValues, onSheet, rateOutcome}
 use Rattle.network.specs.Rating.{rating}
-use Rattle.network.specs.Stored.{netOf, Sound, readingOf}
+use Rattle.network.specs.Stored.{netOf, readingOf}
 use Rattle.network.specs.Valid.{Valid, IsBytes}
 use Rattle.network.proofs.Laws.Valid.{accepted-valid}
 use Rattle.network.proofs.Laws.Stored.{held-lines}

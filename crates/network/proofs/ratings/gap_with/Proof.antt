@@ -1,8 +1,8 @@
 -- `network::ratings::gap_with` meets its contract: where no call stood at the stop its gap is the period, and otherwise the least of what it
 -- was and the gaps to those before. Assumes nothing.
-use Prim.Native.Nat.{ℕ, _<_, _≤_}
-use mathlib.Core.Path.{_≡_, refl, sym, ap, _∙_}
-use mathlib.Core.List.{List, [], _∷_, _++_, map}
+use Prim.Native.Nat.{ℕ, _<_}
+use mathlib.Core.Path.{_≡_, sym, ap, _∙_}
+use mathlib.Core.List.{[], _∷_, _++_, map}
 use native.Mathlib.Nat.{pos-of-ne-zero}
 use native.Mathlib.Omega.{arith}
 use borrow.Author.Needs.{needs}
@@ -13,8 +13,8 @@ use Rattle.network.specs.declared.Call.{Call}
 use Rattle.network.specs.Lists.{keep}
 use Rattle.network.specs.Rating.{periodOf, gapOfCalls, gapOfStop}
 use Rattle.network.specs.Scan.{callsBefore, leastFrom}
-use Rattle.network.specs.Stored.{netOf, Sound}
-use Rattle.network.specs.Valid.{Valid, noCall}
+use Rattle.network.specs.Stored.{netOf}
+use Rattle.network.specs.Valid.{noCall}
 use Rattle.network.proofs.Laws.Scan.{keep-all, callsBefore-some, gapOfStop-next}
 use Rattle.network.proofs.Laws.Stored.{held-lines, held-period, held-call-line, held-period-pos}
 use Rattle.network.proofs.ratings.gap_with.Statement.{statement}

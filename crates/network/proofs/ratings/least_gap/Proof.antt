@@ -1,20 +1,20 @@
 -- `network::ratings::least_gap` meets its contract. The loop's invariant: the least of `lesser` and the gaps to the calls up to `from` is
 -- that of `least` and the gaps to all. Assumes nothing.
-use Prim.Native.Nat.{ℕ, _+_, _-_, _<_, _≤_, min}
+use Prim.Native.Nat.{ℕ, _-_, _<_, _≤_, min}
 use mathlib.Core.Path.{_≡_, refl, sym, ap, ap₂, _∙_}
-use mathlib.Core.List.{List, [], _∷_, map}
+use mathlib.Core.List.{List, map}
 use mathlib.Core.Logic.{⊎-elim}
 use native.Mathlib.Omega.{arith}
 use lib.IntN.{ℤ}
-use lib.ListN.{length, getD, take}
+use lib.ListN.{length, getD}
 use Rattle.network.specs.declared.Call.{Call}
 use Rattle.network.specs.declared.Network.{Network}
 use Rattle.network.specs.Lists.{keep}
 use Rattle.network.specs.Gap.{gapOf}
 use Rattle.network.specs.Rating.{arrivalOf, periodOf, gapOfCalls}
 use Rattle.network.specs.Scan.{lastAt, callsBefore, leastFrom, LeadsBack}
-use Rattle.network.specs.Stored.{netOf, Sound}
-use Rattle.network.specs.Valid.{Valid, noCall}
+use Rattle.network.specs.Stored.{netOf}
+use Rattle.network.specs.Valid.{noCall}
 use Rattle.network.proofs.Laws.Scan.{lastAt-le, lastAt-landed, step-back}
 use Rattle.network.proofs.Laws.Stored.{held-lines, held-period, held-call-line, held-period-pos}
 use Rattle.network.proofs.ratings.least_gap.Statement.{statement}

@@ -8,7 +8,6 @@ use native.Mathlib.Omega.{arith}
 use lib.ListN.{getD}
 use Rattle.network.specs.declared.Rating.{Rating}
 use Rattle.network.specs.Lists.{below}
-use Rattle.network.specs.Rating.{noRating}
 use Rattle.network.specs.Scan.{ratingOfGaps, countedStops, withStop}
 use Rattle.network.proofs.Laws.Scan.{countedBelow, rating-counted, rating-passed}
 use Rattle.network.proofs.ratings.rating_over.Statement.{statement}

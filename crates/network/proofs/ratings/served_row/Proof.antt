@@ -11,11 +11,10 @@ use lib.Dec.{eqb, ltb}
 use lib.ListN.{length, getD, take, set, length-set}
 use lib.Seq.{getD-set-same, getD-set-other}
 use Rattle.network.specs.declared.Call.{Call}
-use Rattle.network.specs.declared.Network.{Network}
 use Rattle.network.specs.Lists.{any}
 use Rattle.network.specs.Network.{isServed}
-use Rattle.network.specs.Stored.{netOf, Sound}
-use Rattle.network.specs.Valid.{Valid, noCall}
+use Rattle.network.specs.Stored.{netOf}
+use Rattle.network.specs.Valid.{noCall}
 use Rattle.network.proofs.Laws.Lists.{any-take-next, or-right}
 use Rattle.network.proofs.Laws.Scan.{getD-zeros}
 use Rattle.network.proofs.Laws.Stored.{held-call-stop}

@@ -1,18 +1,17 @@
 -- `network::ratings::stop_gaps` meets its contract. The loop's invariant: the rows are those after the calls passed. Assumes nothing.
 use Prim.Native.Nat.{ℕ, _+_, _-_, _<_, _≤_}
-use mathlib.Core.Path.{_≡_, refl, sym, ap, _∙_}
+use mathlib.Core.Path.{_≡_, sym, ap, _∙_}
 use mathlib.Core.List.{List, [], _∷_, _++_}
 use mathlib.Core.Logic.{⊎-elim}
 use native.Mathlib.Nat.{le-antisymm}
 use native.Mathlib.Omega.{arith}
-use lib.ListN.{length, getD, take, set}
+use lib.ListN.{length, getD}
 use Rattle.network.specs.declared.Call.{Call}
 use Rattle.network.specs.declared.Network.{Network}
-use Rattle.network.specs.Lists.{keep}
 use Rattle.network.specs.Rating.{gapOfStop, callsOfStop, stopGap}
 use Rattle.network.specs.Scan.{lastAt, callsBefore, LeadsBack}
-use Rattle.network.specs.Stored.{netOf, Sound}
-use Rattle.network.specs.Valid.{Valid, noCall}
+use Rattle.network.specs.Stored.{netOf}
+use Rattle.network.specs.Valid.{noCall}
 use Rattle.network.proofs.Laws.Scan.{Scanned, scanned-none, scanned-counted, scanned-passed, lastAt-le, lastAt-landed, callsBefore-lastAt}
 use Rattle.network.proofs.Laws.Stored.{held-lines, held-call-line, held-call-stop}
 use Rattle.network.proofs.ratings.stop_gaps.Statement.{statement}

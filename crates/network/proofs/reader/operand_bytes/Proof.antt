@@ -1,6 +1,6 @@
 -- `network::reader::operand_bytes` meets its contract: each arm is the command's own, and whatever is left has no operands.
 -- Assumes nothing.
-use mathlib.Core.Path.{_≡_, refl, sym, ap, _∙_}
+use mathlib.Core.Path.{sym, ap}
 use Rattle.network.specs.Network.{command, operandBytes}
 use Rattle.network.proofs.Laws.Network.{operandBytes-others}
 use Rattle.network.proofs.reader.operand_bytes.Statement.{statement}

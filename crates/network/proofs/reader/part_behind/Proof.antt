@@ -1,6 +1,6 @@
 -- `network::reader::part_behind` meets its contract: all that stands behind the operands. Assumes nothing.
 use Prim.Native.Nat.{ℕ}
-use mathlib.Core.Path.{_≡_, ap, _∙_}
+use mathlib.Core.Path.{ap, _∙_}
 use lib.ListN.{drop}
 use Rattle.network.proofs.Laws.Lists.{take-rest}
 use borrow.Author.Needs.{needs}

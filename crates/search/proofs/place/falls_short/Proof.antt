@@ -1,7 +1,6 @@
 -- `search::place::falls_short` meets its contract: it is the test of the order turned round. Assumes nothing.
 use mathlib.Core.Path.{ap, sym, _∙_}
 use mathlib.Core.Bool.{not}
-use Rattle.network.specs.Rating.{isAbove}
 use Rattle.search.specs.Search.{notAbove}
 use Rattle.search.proofs.place.falls_short.Statement.{statement}
 use Rattle.search.proofs.place.falls_short.Tie as tie

@@ -1,7 +1,7 @@
 -- `search::place::gap_by` meets its contract: the formula of theorem 3.1.2, its difference made a natural number by a multiple of the
 -- divisor, and the whole part that a remainder leaves out found by the law of the reciprocal. Assumes nothing.
 use Prim.Native.Nat.{ℕ, _+_, _*_, _-_, _/_, _%_, _<_, _≤_, min}
-use mathlib.Core.Path.{_≡_, sym, ap, _∙_}
+use mathlib.Core.Path.{_≡_, ap, _∙_}
 use native.Mathlib.Nat.{mod-lt, mod-add-div', mul-le-mul, mul-le-mul-right}
 use native.Mathlib.Decide.{decLt}
 use native.Mathlib.Omega.{arith}

@@ -2,23 +2,23 @@
 -- calls passed. Assumes nothing.
 use Prim.Native.Nat.{ℕ, _+_, _-_, _<_, _≤_, min}
 use mathlib.Core.Path.{_≡_, refl, sym, ap, ap₂, subst, _∙_}
-use mathlib.Core.List.{List, _∷_, [], map}
+use mathlib.Core.List.{List, map}
 use mathlib.Core.Logic.{⊎-elim, inl, inr}
 use native.Mathlib.Nat.{le-antisymm}
 use native.Mathlib.Omega.{arith}
-use lib.IntN.{ℤ, pos}
+use lib.IntN.{pos}
 use lib.ListN.{length, getD, set, length-set}
 use borrow.Author.Needs.{needs}
 use borrow.Author.Tests.{not-true}
 use mathlib.Core.Bool.{true, false}
-use Rattle.network.specs.Network.{Net, isServed, maxPeriod}
+use Rattle.network.specs.Network.{isServed}
 use Rattle.network.specs.Rating.{gapOfCalls, isAbove}
 use Rattle.network.specs.Scan.{leastFrom, callsBefore}
 use Rattle.network.specs.Valid.{noCall}
 use Rattle.search.specs.declared.Placed.{Placed}
 use Rattle.search.specs.Layout.{byLine}
 use Rattle.search.specs.Search.{notAbove}
-use Rattle.search.specs.Held.{Laid, Linked, callsIn, CanPlace, PlacedMore, startsOf, Represents}
+use Rattle.search.specs.Held.{Laid, callsIn, CanPlace, startsOf, Represents}
 use Rattle.search.proofs.Laws.Layout.{length-byLine-le}
 use Rattle.search.proofs.Laws.Placing.{length-byLine-grows}
 use Rattle.search.proofs.Laws.Linked.{length-callsIn, calls-few, stop-low}

@@ -1,6 +1,6 @@
 -- One try, and a line's starts by halves and the last few in a loop, meet their contracts, which speak of any network that the rows hold.
 -- What falls: the lines left, then the starts left. Assumes nothing.
-use Prim.Native.Nat.{ℕ, _+_, _-_, _*_, _/_, _<_, _≤_}
+use Prim.Native.Nat.{ℕ, _+_, _-_, _*_, _/_, _<_}
 use Rattle.search.proofs.Laws.Tries.{
   startCounts-low,
   try-stopped,
@@ -16,10 +16,8 @@ use Rattle.search.proofs.Laws.Tries.{
   none-left,
   one-left,
 }
-use mathlib.Core.Path.{_≡_, sym, ap, _∙_}
+use mathlib.Core.Path.{sym, _∙_}
 use native.Mathlib.Omega.{arith}
-use Rattle.search.specs.Held.{Laid, CanTry, stateOf, startsOf, tryAt}
-use Rattle.search.specs.Walk.{eachStart}
 use borrow.Fn.Kinds.{In}
 use borrow.Fn.PlainCycle.{Measures, is, falls, and}
 use Rattle.search.proofs.tries.judge.Reads as judge

@@ -1,7 +1,6 @@
 -- `typed::show::show_row` meets its contract. The loop's invariant: `i` is within the row. Assumes nothing.
 use Prim.Native.Nat.{_≤_, _-_}
 use mathlib.Core.Path.{_≡_}
-use native.Mathlib.Omega.{arith}
 use borrow.Author.Needs.{needs}
 use lib.ListN.{length}
 use Rattle.typed.proofs.show.show_row.Statement.{statement}
