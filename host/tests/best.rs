@@ -9,8 +9,12 @@ use host::papers::best::best;
 use host::papers::network::read;
 use host::papers::walk::{walk, Answer};
 use host::program;
+use std::collections::BTreeSet;
 use std::fs::File;
-use std::process::Stdio;
+use std::io::Write;
+use std::os::fd::OwnedFd;
+use std::os::unix::net::{UnixDatagram, UnixStream};
+use std::process::{Output, Stdio};
 use std::sync::atomic::{AtomicUsize, Ordering};
 use std::time::Duration;
 
@@ -23,6 +27,10 @@ const PAPER_LINE: &str = "gap 2 sum 2 tries 21 starts 0 3\n";
 
 /// The shorter file of the same section, accepted as it is.
 const SHORT: [u8; 9] = [0x4C, 0x00, 0x0F, 0x43, 0x00, 0x00, 0x00, 0x08, 0x45];
+
+/// What the program says on standard error.
+const UNREAD: &str = "best: reading standard input failed\n";
+const UNWRITTEN: &str = "best: writing standard output failed\n";
 
 /// Long enough for the program to ask for more before the next piece comes.
 const PAUSE: Duration = Duration::from_millis(20);
@@ -200,6 +208,109 @@ fn inputs_in_pieces() {
 fn in_pieces(pieces: &[&[u8]], line: &str) {
     let printed = program::printed_for_pieces(program::best(), pieces, PAUSE);
     assert_eq!(printed, line, "for {}", shown(&pieces.concat()));
+}
+
+/// What can't be read at all, and what fails behind a beginning that would be
+/// accepted or refused.
+#[test]
+fn inputs_that_fail() {
+    let unread = (String::new(), UNREAD.to_string());
+    let write_only = File::options().write(true).open("/dev/null");
+    assert_eq!(said_of(File::open("/").expect("a directory")), unread);
+    assert_eq!(said_of(write_only.expect("a file")), unread);
+    for beginning in [&[][..], &PAPER, &PAPER[..3], &[0; 4_095]] {
+        assert_eq!(said_of(broken_off(beginning)), unread);
+    }
+    // The first 4,096 bytes decide, so that nothing behind them is asked for.
+    let refused = ("refused 2 at 0\n".to_string(), String::new());
+    assert_eq!(said_of(broken_off(&[0; 4_096])), refused);
+}
+
+fn said_of(stdin: impl Into<Stdio>) -> (String, String) {
+    let ended = program::best().stdin(stdin).output();
+    said(&ended.expect("the program runs"))
+}
+
+/// An input that fails behind its beginning: the other end is gone and has
+/// left something unread.
+fn broken_off(beginning: &[u8]) -> OwnedFd {
+    let (mut gone, mut input) = UnixStream::pair().expect("two ends");
+    input.write_all(b"left").expect("room");
+    gone.write_all(beginning).expect("room");
+    input.into()
+}
+
+/// What the program prints and what it complains of. It ends well in any case,
+/// since it can't set its exit status.
+fn said(ended: &Output) -> (String, String) {
+    assert!(ended.status.success(), "it ended with {}", ended.status);
+    let text = |bytes| String::from_utf8_lossy(bytes).into_owned();
+    (text(&ended.stdout), text(&ended.stderr))
+}
+
+#[test]
+fn outputs_that_fail() {
+    let stopped = long_search(1, 4, 8);
+    for input in [&PAPER[..], &[], &stopped] {
+        let full = File::options().write(true).open("/dev/full");
+        assert_eq!(complaint(full.expect("a full device"), input), UNWRITTEN);
+        let read_only = File::open("/dev/null").expect("a file");
+        assert_eq!(complaint(read_only, input), UNWRITTEN);
+        let null = File::options().write(true).open("/dev/null");
+        assert_eq!(complaint(null.expect("a file"), input), "");
+    }
+}
+
+/// Each write in turn is the first that fails: the program says so once, and
+/// what it printed is a part of the line.
+#[test]
+fn outputs_that_fail_behind_a_part() {
+    let mut parts = BTreeSet::new();
+    for room in 0..20 {
+        let (ours, output) = output_with_room(room);
+        let complaint = complaint(output, &PAPER);
+        let part = received(&ours);
+        assert!(PAPER_LINE.starts_with(&part), "{part}");
+        let whole = part == PAPER_LINE;
+        assert_eq!(complaint, if whole { "" } else { UNWRITTEN });
+        parts.insert(part);
+    }
+    // The line takes twelve writes.
+    assert_eq!(parts.len(), 13, "{parts:?}");
+}
+
+/// An output on which so many writes succeed, and where they arrive. A write is
+/// a message there, and empty ones take up the rest of the room.
+fn output_with_room(room: usize) -> (UnixDatagram, OwnedFd) {
+    let (ours, output) = UnixDatagram::pair().expect("two ends");
+    for end in [&ours, &output] {
+        end.set_nonblocking(true).expect("an end that never waits");
+    }
+    while output.send(&[]).is_ok() {}
+    for _ in 0..room {
+        ours.recv(&mut []).expect("an empty message");
+    }
+    (ours, output.into())
+}
+
+/// The messages that wait here, in one text.
+fn received(socket: &UnixDatagram) -> String {
+    let mut text = Vec::new();
+    let mut message = [0; 64];
+    while let Ok(length) = socket.recv(&mut message) {
+        text.extend(&message[..length]);
+    }
+    String::from_utf8(text).expect("text")
+}
+
+/// What the program complains of when its output goes here.
+fn complaint(stdout: impl Into<Stdio>, input: &[u8]) -> String {
+    let mut command = program::best();
+    command.stdin(Stdio::piped()).stdout(stdout);
+    command.stderr(Stdio::piped());
+    let mut child = command.spawn().expect("the program runs");
+    program::hand_over(&mut child, &[input], Duration::ZERO);
+    said(&child.wait_with_output().expect("a child to wait for")).1
 }
 
 /// 16 lines of the longest period and 256 calls: the walk goes deepest here,

@@ -56,6 +56,9 @@ returns-3 c = search needs
 returns-4 : tie.Need-returns-4
 returns-4 c = search needs
 
+returns-5 : tie.Need-returns-5
+returns-5 c = search needs
+
 pub find-spec : {M : Type 1} → statement M
 find-spec =
     tie.close
@@ -76,4 +79,5 @@ find-spec =
     returns
     returns-2
     returns-3
-    returns-4)
+    returns-4
+    returns-5)

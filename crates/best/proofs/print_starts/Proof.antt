@@ -24,6 +24,9 @@ shared-slice-copy-out-print-start c = search needs
 print-start-requires : tie.Need-print-start-requires Inv-loop μ-loop
 print-start-requires c κs = search needs
 
+returns : tie.Need-returns Inv-loop μ-loop
+returns c = search needs
+
 add-i : tie.Need-add-i Inv-loop μ-loop
 add-i c = search needs
 
@@ -33,8 +36,8 @@ loop-less c = search needs
 loop-again : tie.Need-loop-again Inv-loop μ-loop
 loop-again c = search needs
 
-returns : tie.Need-returns Inv-loop μ-loop
-returns c = search needs
+returns-2 : tie.Need-returns-2 Inv-loop μ-loop
+returns-2 c = search needs
 
 pub print-starts-spec : {M : Type 1} → statement M
 print-starts-spec =
@@ -46,7 +49,8 @@ print-starts-spec =
     mul-print-start
     shared-slice-copy-out-print-start
     print-start-requires
+    returns
     add-i
     loop-less
     loop-again
-    returns)
+    returns-2)
