@@ -36,10 +36,9 @@ periodOutOfRange period = ltb period 1 || ltb maxPeriod period
 unfoldable pub someLineSilent : Net → Bool
 someLineSilent n = not (allBelow (λ line. callsAnywhere line (n .calls)) (length (n .periods)))
 
--- The grounds that 43 and 46 share
-unfoldable pub callGrounds : Command → Net → ℕ → List ℕ → List Ground
-callGrounds c n p behind =
-    (3 at p when cutOff c behind) ∷
+-- The grounds that 43 and 46 share, where their operands aren't cut off
+unfoldable pub callGrounds : Net → ℕ → List ℕ → List Ground
+callGrounds n p behind =
     (7 at p when leb (length (n .periods)) (lineOperand behind)) ∷
     (8 at p when ltb maxStop (stopOperand behind)) ∷
     (9 at p when callsAt (lineOperand behind) (stopOperand behind) (n .calls)) ∷
@@ -55,9 +54,10 @@ grounds statesLine n p behind =
     (5 at p when periodOutOfRange (word behind 0)) ∷
     (6 at p when ltb maxCycle (lcm (cycle n) (word behind 0))) ∷
     []
-grounds callsByOffset n p behind = callGrounds callsByOffset n p behind
+grounds callsByOffset n p behind = (3 at p when cutOff callsByOffset behind) ∷ callGrounds n p behind
 grounds callsByRide n p behind =
-    callGrounds callsByRide n p behind ++
+    (3 at p when cutOff callsByRide behind) ∷
+    callGrounds n p behind ++
     (11 at p when not (callsAnywhere (lineOperand behind) (n .calls))) ∷
     (12 at p when ltb maxOffset (rideOffset n behind)) ∷
     []

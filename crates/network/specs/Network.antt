@@ -13,9 +13,19 @@ pub record Net : Type 0 where
   pub periods : List ℕ
   pub calls : List Call
 
+-- The network of these periods and calls; a network with other periods, or other calls. No other line builds a network
+abbrev pub netWith : List ℕ → List Call → Net
+netWith periods calls = record { periods = periods; calls = calls }
+
+abbrev pub withPeriods : Net → List ℕ → Net
+withPeriods n periods = netWith periods (n .calls)
+
+abbrev pub withCalls : Net → List Call → Net
+withCalls n calls = netWith (n .periods) calls
+
 -- The network before the first command
 abbrev pub emptyNet : Net
-emptyNet = record { periods = []; calls = [] }
+emptyNet = netWith [] []
 
 -- The limits of document 01
 abbrev pub maxLines : ℕ
@@ -109,10 +119,10 @@ rideOffset n operands = latestOffset (lineOperand operands) 0 (n .calls) + word 
 
 -- A network with one line or one call more
 unfoldable pub withLine : Net → ℕ → Net
-withLine n period = record { periods = n .periods ++ (period ∷ []); calls = n .calls }
+withLine n period = withPeriods n (n .periods ++ (period ∷ []))
 
 unfoldable pub withCall : Net → Call → Net
-withCall n c = record { periods = n .periods; calls = n .calls ++ (c ∷ []) }
+withCall n c = withCalls n (n .calls ++ (c ∷ []))
 
 -- The call that the operands of 43 or 46 state, with its offset
 unfoldable pub callOf : List ℕ → ℕ → Call

@@ -13,14 +13,14 @@ use Rattle.network.specs.declared.Told.{Told}
 use Rattle.network.specs.declared.Told.the-variants as told
 use Rattle.network.specs.Divisor.{lcm}
 use Rattle.network.specs.Lists.{pick}
-use Rattle.network.specs.Network.{Net, Command, statesLine, callsByOffset, callsByRide, ends, maxLines, maxCalls, maxCycle, cycle}
+use Rattle.network.specs.Network.{Net, netWith, Command, statesLine, callsByOffset, callsByRide, ends, maxLines, maxCalls, maxCycle, cycle}
 use Rattle.network.specs.Network.{callsAnywhere, latestOffset, word, callOf, statedOffset, rideOffset}
 use Rattle.network.specs.Grounds.{first, grounds}
 use Rattle.network.specs.Reading.{Reading, accepted, refused}
 
 -- The network that is held
 unfoldable pub netOf : Network → Net
-netOf n = record { periods = take (n .lines) (n .periods); calls = take (n .calls) (n .list) }
+netOf n = netWith (take (n .lines) (n .periods)) (take (n .calls) (n .list))
 
 -- The counts are within the rows, and the cycle is that of the periods
 pub record Sound (n : Network) : Type 0 where

@@ -111,18 +111,19 @@ pub fn read_line(size: Size, behind: &[u8], at: usize) -> Told
     Told::Line { period, cycle }
 }
 
-// 43 and 46: the grounds that they share, 3 and 7 to 10.
-pub fn check_call(size: Size, marks: &[u32; Network::TABLE], behind: &[u8], at: usize) -> Check
-    requires { ⌜ size .lines ≤ net.maxLines ⌝ }
-    ensures { λ r. ⌜ ((n : net.Net) → HasSize n size → Marks (now (marks .entry)) (n .calls) → r ≡ ground.first (ground.callGrounds net.callsByOffset n at (now (behind .entry)))) ⌝ }
-    ensures { λ r. ⌜ (r ≡ Check.Passes → (4 ≤ length (now (behind .entry))) × (getD (now (behind .entry)) 0 0 < size .lines)) ⌝ }
+// 43 and 46: whether ground 3 applies, the operands being cut off.
+pub fn call_cut_off(behind: &[u8]) -> bool
+    ensures { λ r. ⌜ r ≡ ground.cutOff net.callsByOffset (now (behind .entry)) ⌝ }
 {
-    if behind.len() < 4 {
-        return Check::Refused {
-            number: 3,
-            place: at,
-        };
-    }
+    behind.len() < 4
+}
+
+// 43 and 46: the grounds that they share once their operands are there, 7 to 10.
+pub fn check_call(size: Size, marks: &[u32; Network::TABLE], behind: &[u8], at: usize) -> Check
+    requires { ⌜ (size .lines ≤ net.maxLines) × (4 ≤ length (now behind)) ⌝ }
+    ensures { λ r. ⌜ ((n : net.Net) → HasSize n size → Marks (now (marks .entry)) (n .calls) → r ≡ ground.first (ground.callGrounds n at (now (behind .entry)))) ⌝ }
+    ensures { λ r. ⌜ (r ≡ Check.Passes → getD (now (behind .entry)) 0 0 < size .lines) ⌝ }
+{
     let line = behind[0];
     let stop = behind[1];
     if size.lines <= line as usize {
@@ -157,6 +158,12 @@ pub fn read_call(size: Size, marks: &[u32; Network::TABLE], behind: &[u8], at: u
     requires { ⌜ size .lines ≤ net.maxLines ⌝ }
     ensures { λ r. ⌜ ((n : net.Net) → HasSize n size → Marks (now (marks .entry)) (n .calls) → Tells net.callsByOffset n at (now (behind .entry)) r) ⌝ }
 {
+    if call_cut_off(behind) {
+        return Told::Refused {
+            number: 3,
+            place: at,
+        };
+    }
     let check = check_call(size, marks, behind, at);
     match check {
         Check::Refused { number, place } => Told::Refused { number, place },
@@ -182,6 +189,12 @@ pub fn read_ride(
     requires { ⌜ size .lines ≤ net.maxLines ⌝ }
     ensures { λ r. ⌜ ((n : net.Net) → HasSize n size → Marks (now (marks .entry)) (n .calls) → Latest (now (latest .entry)) (n .calls) → Tells net.callsByRide n at (now (behind .entry)) r) ⌝ }
 {
+    if call_cut_off(behind) {
+        return Told::Refused {
+            number: 3,
+            place: at,
+        };
+    }
     let check = check_call(size, marks, behind, at);
     match check {
         Check::Refused { number, place } => Told::Refused { number, place },
@@ -200,7 +213,7 @@ pub fn latest_of(latest: &[u32; Network::MAX_LINES], line: u8) -> u32
 // 46 where the grounds of a call are passed: grounds 11 and 12, or a call. The sum is of 64 bits, so that it fits whatever the row holds.
 pub fn read_following_call(latest: &[u32; Network::MAX_LINES], behind: &[u8], at: usize) -> Told
     requires { ⌜ (4 ≤ length (now behind)) × (getD (now behind) 0 0 < net.maxLines) ⌝ }
-    ensures { λ r. ⌜ ((n : net.Net) → Latest (now (latest .entry)) (n .calls) → ground.first (ground.callGrounds net.callsByOffset n at (now (behind .entry))) ≡ Check.Passes → Tells net.callsByRide n at (now (behind .entry)) r) ⌝ }
+    ensures { λ r. ⌜ ((n : net.Net) → Latest (now (latest .entry)) (n .calls) → ground.first (ground.callGrounds n at (now (behind .entry))) ≡ Check.Passes → Tells net.callsByRide n at (now (behind .entry)) r) ⌝ }
 {
     let line = behind[0];
     let before = latest_of(latest, line);

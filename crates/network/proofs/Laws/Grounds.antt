@@ -105,10 +105,10 @@ pub record CallFits (c : Command) (n : Net) (behind : List ℕ) : Type 0 where
   pub fresh : callsAt (lineOperand behind) (stopOperand behind) (n .calls) ≡ false
   pub room : length (n .calls) < maxCalls
 
-pub call-passes : (c : Command) (n : Net) (p : ℕ) (behind : List ℕ) → first (callGrounds c n p behind) ≡ Passes → CallFits c n behind
+pub call-passes : (c : Command) (n : Net) (p : ℕ) (behind : List ℕ) → cutOff c behind ≡ false → first (callGrounds n p behind) ≡ Passes
+    → CallFits c n behind
 unfolding callGrounds
-call-passes c n p behind e₀ =
-    let (cut, e₁) = first-passes _ _ _ _ e₀ in
+call-passes c n p behind cut e₁ =
     let (unstated, e₂) = first-passes _ _ _ _ e₁ in
     let (far, e₃) = first-passes _ _ _ _ e₂ in
     let (again, e₄) = first-passes _ _ _ _ e₃ in
@@ -121,19 +121,30 @@ call-passes c n p behind e₀ =
       room = leb-false _ _ full;
     }
 
+pub offset-passes : (n : Net) (p : ℕ) (behind : List ℕ) → first (grounds callsByOffset n p behind) ≡ Passes → CallFits callsByOffset n behind
+unfolding grounds
+offset-passes n p behind e₀ =
+    let (cut, e₁) = first-passes _ _ _ _ e₀ in
+    call-passes callsByOffset n p behind cut e₁
+
 pub ride-passes : (n : Net) (p : ℕ) (behind : List ℕ) → first (grounds callsByRide n p behind) ≡ Passes
     → CallFits callsByRide n behind × (rideOffset n behind ≤ maxOffset)
 unfolding grounds
 ride-passes n p behind e₀ =
-    let (shared, e₁) = first-append-passes (callGrounds callsByRide n p behind) _ e₀ in
+    let (cut, e) = first-passes _ _ _ _ e₀ in
+    let (shared, e₁) = first-append-passes (callGrounds n p behind) _ e in
     let (none, e₂) = first-passes _ _ _ _ e₁ in
     let (late, e₃) = first-passes _ _ _ _ e₂ in
-    (call-passes callsByRide n p behind shared, ltb-false _ _ late)
+    (call-passes callsByRide n p behind cut shared, ltb-false _ _ late)
 
--- 43 and 46 are as long, so that what they share is the same
-pub call-grounds-alike : (n : Net) (p : ℕ) (behind : List ℕ) → callGrounds callsByRide n p behind ≡ callGrounds callsByOffset n p behind
-unfolding callGrounds cutOff operandBytes
-call-grounds-alike n p behind = refl
+-- 43 and 46 are as long, so that ground 3 applies to both alike
+pub cut-off-alike : (behind : List ℕ) → cutOff callsByRide behind ≡ cutOff callsByOffset behind
+unfolding cutOff operandBytes
+cut-off-alike behind = refl
+
+pub not-cut-off-call : (behind : List ℕ) → cutOff callsByOffset behind ≡ false → 4 ≤ length behind
+unfolding operandBytes
+not-cut-off-call behind = not-cut-off callsByOffset behind
 
 pub record EndFits (n : Net) (behind : List ℕ) : Type 0 where
   pub some-line : 0 < length (n .periods)

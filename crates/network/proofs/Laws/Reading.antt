@@ -19,7 +19,7 @@ use Rattle.network.specs.Grounds.{first, grounds, callGrounds, cutOff}
 use Rattle.network.specs.Reading.{Reading, accepted, refused, proceed, readFrom, readFile}
 use Rattle.network.specs.Gives.{Reached, start, next, Gives, runs-out, refuses, accepts}
 use Rattle.network.proofs.Laws.Lists.{zero-ne-one}
-use Rattle.network.proofs.Laws.Grounds.{line-passes, call-passes, ride-passes, end-passes, refused-named}
+use Rattle.network.proofs.Laws.Grounds.{line-passes, offset-passes, ride-passes, refused-named}
 
 -- The operands of the command before are passed over
 pub readFrom-skip : (n : Net) (p k : ℕ) (bs : List ℕ) → k ≤ length bs → readFrom n p k bs ≡ readFrom n (p + k) 0 (drop k bs)
@@ -34,42 +34,42 @@ pub passes-operands : (c : Command) (n : Net) (p : ℕ) (behind : List ℕ) → 
     → operandBytes c ≤ length behind
 unfolding grounds operandBytes
 passes-operands statesLine n p behind e = line-passes n p behind e .operands
-passes-operands callsByOffset n p behind e = call-passes callsByOffset n p behind e .operands
+passes-operands callsByOffset n p behind e = offset-passes n p behind e .operands
 passes-operands callsByRide n p behind e = ride-passes n p behind e .0 .operands
 passes-operands ends n p behind e = omega arith
 passes-operands unknown n p behind e = omega arith
 
 -- ---- how many lines and calls are stated before a place
 
-pub record Counted (n : Net) (p : ℕ) : Type 0 where
-  pub place : p ≡ 3 * length (n .periods) + 5 * length (n .calls)
+pub record Within (n : Net) (p : ℕ) : Type 0 where
+  pub place : p ≤ 3 * length (n .periods) + 5 * length (n .calls)
   pub lines : length (n .periods) ≤ maxLines
   pub calls : length (n .calls) ≤ maxCalls
 
-counted-empty : Counted emptyNet 0
-counted-empty = omega arith
+within-empty : Within emptyNet 0
+within-empty = omega arith
 
-counted-line : (n : Net) (p : ℕ) (period : ℕ) → length (n .periods) < maxLines → Counted n p → Counted (withLine n period) (p + 1 + 2)
+within-line : (n : Net) (p : ℕ) (period : ℕ) → length (n .periods) < maxLines → Within n p → Within (withLine n period) (p + 1 + 2)
 unfolding withLine
-counted-line n p period room r =
+within-line n p period room r =
     let e : length (n .periods ++ (period ∷ [])) ≡ length (n .periods) + 1 = length-append (n .periods) (period ∷ []) in
     record { place = omega arith; lines = omega arith; calls = r .calls }
 
-counted-call : (n : Net) (p : ℕ) (c : Call) → length (n .calls) < maxCalls → Counted n p → Counted (withCall n c) (p + 1 + 4)
+within-call : (n : Net) (p : ℕ) (c : Call) → length (n .calls) < maxCalls → Within n p → Within (withCall n c) (p + 1 + 4)
 unfolding withCall
-counted-call n p c room r =
+within-call n p c room r =
     let e : length (n .calls ++ (c ∷ [])) ≡ length (n .calls) + 1 = length-append (n .calls) (c ∷ []) in
     record { place = omega arith; lines = r .lines; calls = omega arith }
 
 -- The next command's place, behind one that passes
-counted-next : (c : Command) (n : Net) (p : ℕ) (behind : List ℕ) → first (grounds c n p behind) ≡ Passes → (c ≡ ends → ⊥)
-    → Counted n p → Counted (extend c n behind) (p + 1 + operandBytes c)
+within-next : (c : Command) (n : Net) (p : ℕ) (behind : List ℕ) → first (grounds c n p behind) ≡ Passes → (c ≡ ends → ⊥)
+    → Within n p → Within (extend c n behind) (p + 1 + operandBytes c)
 unfolding extend grounds operandBytes first
-counted-next statesLine n p behind e h r = counted-line n p _ (line-passes n p behind e .room) r
-counted-next callsByOffset n p behind e h r = counted-call n p _ (call-passes callsByOffset n p behind e .room) r
-counted-next callsByRide n p behind e h r = counted-call n p _ (ride-passes n p behind e .0 .room) r
-counted-next ends n p behind e h r = absurd (h refl)
-counted-next unknown n p behind e h r = absurd (zero-ne-one (cc))
+within-next statesLine n p behind e h r = within-line n p _ (line-passes n p behind e .room) r
+within-next callsByOffset n p behind e h r = within-call n p _ (offset-passes n p behind e .room) r
+within-next callsByRide n p behind e h r = within-call n p _ (ride-passes n p behind e .0 .room) r
+within-next ends n p behind e h r = absurd (h refl)
+within-next unknown n p behind e h r = absurd (zero-ne-one (cc))
 
 -- ---- the places to which the reader comes, and what the file gives
 
@@ -157,38 +157,24 @@ gives-what-is-read (refuses {n = n} {p = p} {b = b} {behind = behind} r e) = rea
 gives-what-is-read (accepts {n = n} {p = p} {b = b} {behind = behind} r i e) = reached-read r ∙ read-ended b n p behind e i
 
 module _ {file : List ℕ} where
-  pub reached-counted : {n : Net} {p : ℕ} {rest : List ℕ} → Reached file n p rest → Counted n p
-  reached-counted start = counted-empty
-  reached-counted (next {n = n} {p = p} {b = b} {behind = behind} r e c) =
-      counted-next (command b) n p behind e c (reached-counted r)
-
-  reached-length : {n : Net} {p : ℕ} {rest : List ℕ} → Reached file n p rest → p + length rest ≡ length file
-  reached-length start = omega arith
-  reached-length (next {n = n} {p = p} {b = b} {behind = behind} r e c) =
-      let ih : p + suc (length behind) ≡ length file = reached-length r in
-      omega (arith, passes-operands (command b) n p behind e, length-drop (operandBytes (command b)) behind)
+  pub reached-within : {n : Net} {p : ℕ} {rest : List ℕ} → Reached file n p rest → Within n p
+  reached-within start = within-empty
+  reached-within (next {n = n} {p = p} {b = b} {behind = behind} r e c) =
+      within-next (command b) n p behind e c (reached-within r)
 
 -- ---- what a reading tells
 
 -- A refusal's place is at most 3 * 16 + 5 * 256, or one more by ground 14
 gives-named : {file : List ℕ} {number place : ℕ} → Gives file (refused number place) → (1 ≤ number) × (number ≤ 14) × (place ≤ 1329)
-gives-named (runs-out r) = omega (arith, reached-counted r)
+gives-named (runs-out r) = omega (arith, reached-within r)
 gives-named {number = number} {place = place} (refuses {n = n} {p = p} {b = b} {behind = behind} r f) =
-    omega (arith, reached-counted r, refused-named (command b) n p behind number place f)
+    omega (arith, reached-within r, refused-named (command b) n p behind number place f)
 
 pub refused-place : (file : List ℕ) (number place : ℕ) → readFile file ≡ refused number place → place ≤ 1329
 refused-place file number place e = gives-named (rw e at (readFile-gives file)) .2
 
 pub refused-number : (file : List ℕ) (number place : ℕ) → readFile file ≡ refused number place → (1 ≤ number) × (number ≤ 14)
 refused-number file number place e = omega (arith, gives-named (rw e at (readFile-gives file)))
-
-gives-length : {file : List ℕ} {n : Net} → Gives file (accepted n) → length file ≡ 3 * length (n .periods) + 5 * length (n .calls) + 1
-gives-length {n = n} (accepts {p = p} {behind = behind} r i f) =
-    omega (arith, reached-counted r, reached-length r, end-passes n p behind (rw i at f) .last)
-
-pub accepted-length : (file : List ℕ) (n : Net) → readFile file ≡ accepted n
-    → length file ≡ 3 * length (n .periods) + 5 * length (n .calls) + 1
-accepted-length file n e = gives-length (rw e at (readFile-gives file))
 
 -- ---- the first 4,096 bytes decide: a command that is read stands at 1,328 or before, and looks at four bytes behind it at most
 
@@ -242,23 +228,23 @@ module _ (m : ℕ) (enough : 4 ≤ m) (behind : List ℕ) where
   cut-off-take ends = ltb-take m 0 behind (omega arith)
   cut-off-take unknown = ltb-take m 0 behind (omega arith)
 
-  call-grounds-take : (c : Command) (n : Net) (p : ℕ) → callGrounds c n p (take m behind) ≡ callGrounds c n p behind
+  call-grounds-take : (n : Net) (p : ℕ) → callGrounds n p (take m behind) ≡ callGrounds n p behind
   unfolding callGrounds
-  call-grounds-take c n p = rw (cut-off-take c, line-take, stop-take)
+  call-grounds-take n p = rw (line-take, stop-take)
 
   grounds-take : (c : Command) (n : Net) (p : ℕ) → grounds c n p (take m behind) ≡ grounds c n p behind
   unfolding grounds
   grounds-take statesLine n p = rw (cut-off-take statesLine, word-take 0 (omega arith))
-  grounds-take callsByOffset n p = call-grounds-take callsByOffset n p
-  grounds-take callsByRide n p = rw (call-grounds-take callsByRide n p, line-take, ride-take)
+  grounds-take callsByOffset n p = rw (cut-off-take callsByOffset, call-grounds-take)
+  grounds-take callsByRide n p = rw (cut-off-take callsByRide, call-grounds-take, line-take, ride-take)
   grounds-take ends n p = rw (leb-take m 1 behind (omega arith))
   grounds-take unknown n p = refl
 
-readFrom-take : (n : Net) (p k m : ℕ) (bs : List ℕ) → Counted n (p + k) → 1333 ≤ p + m → readFrom n p k (take m bs) ≡ readFrom n p k bs
+readFrom-take : (n : Net) (p k m : ℕ) (bs : List ℕ) → Within n (p + k) → 1333 ≤ p + m → readFrom n p k (take m bs) ≡ readFrom n p k bs
 unfolding readFrom
 readFrom-take n p k zero bs r h = absurd (omega arith)
 readFrom-take n p k (suc m) [] r h = refl
-readFrom-take n p (suc k) (suc m) (b ∷ bs) r h = readFrom-take n (p + 1) k m bs (subst (Counted n) (omega arith) r) (omega arith)
+readFrom-take n p (suc k) (suc m) (b ∷ bs) r h = readFrom-take n (p + 1) k m bs (subst (Within n) (omega arith) r) (omega arith)
 readFrom-take n p zero (suc m) (b ∷ bs) r h =
     let c : Command = command b in
     let onward : List ℕ → Reading = readFrom (extend c n bs) (p + 1) (operandBytes c) in
@@ -266,8 +252,8 @@ readFrom-take n p zero (suc m) (b ∷ bs) r h =
     (proceed-cases (λ f. f (onward (take m bs)) ≡ f (onward bs)) (first (grounds c n p bs)) c n
     (λ number place e. refl)
     (λ i e. refl)
-    (λ i e. readFrom-take _ _ _ m bs (counted-next c n p bs e i (subst (Counted n) (omega arith) r)) (omega arith)))
+    (λ i e. readFrom-take _ _ _ m bs (within-next c n p bs e i (subst (Within n) (omega arith) r)) (omega arith)))
 
 pub first-4096 : (file : List ℕ) → readFile (take 4096 file) ≡ readFile file
 unfolding readFile
-first-4096 file = readFrom-take emptyNet 0 0 4096 file counted-empty (omega arith)
+first-4096 file = readFrom-take emptyNet 0 0 4096 file within-empty (omega arith)

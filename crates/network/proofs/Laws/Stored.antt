@@ -12,13 +12,13 @@ use Rattle.network.specs.declared.Call.{Call}
 use Rattle.network.specs.declared.Check.the-variants.{Passes}
 use Rattle.network.specs.declared.Network.{Network}
 use Rattle.network.specs.declared.Told.the-variants as told
-use Rattle.network.specs.Network.{Net, Command, statesLine, callsByOffset, callsByRide, ends, extend}
+use Rattle.network.specs.Network.{Net, netWith, Command, statesLine, callsByOffset, callsByRide, ends, extend}
 use Rattle.network.specs.Network.{maxLines, maxCycle, maxStop, maxCalls, cycle, callsAt, word, callOf, withLine, withCall}
 use Rattle.network.specs.Valid.{Valid, noCall}
 use Rattle.network.specs.Grounds.{first, grounds}
 use Rattle.network.specs.Stored.{netOf, Sound, HasSize, Tells}
 use Rattle.network.proofs.Laws.Divisor.{lcm-pos}
-use Rattle.network.proofs.Laws.Grounds.{CallFits, line-passes, call-passes, ride-passes}
+use Rattle.network.proofs.Laws.Grounds.{CallFits, line-passes, offset-passes, ride-passes}
 use Rattle.network.proofs.Laws.Lists.{zero-ne-one, take-set-next}
 use Rattle.network.proofs.Laws.Network.{cycle-withLine}
 
@@ -65,7 +65,7 @@ module _ (n : Network) (s : Sound n) where
     pub line-added : netOf (lineAdded n period common) ≡ withLine (netOf n) period
     unfolding netOf withLine
     line-added =
-        ap (λ (ps : List ℕ). record { periods = ps; calls = take (n .calls) (n .list) })
+        ap (λ (ps : List ℕ). netWith ps (take (n .calls) (n .list)))
         (take-set-next (n .periods) (n .lines) period (omega (arith, s .periods-row)))
 
     pub sound-line : 0 < common → common ≤ maxCycle → common ≡ cycle (withLine (netOf n) period) → Sound (lineAdded n period common)
@@ -84,7 +84,7 @@ module _ (n : Network) (s : Sound n) where
     pub call-added : netOf (callAdded n call) ≡ withCall (netOf n) call
     unfolding netOf withCall
     call-added =
-        ap (λ (cs : List Call). record { periods = take (n .lines) (n .periods); calls = cs })
+        ap (λ (cs : List Call). netWith (take (n .lines) (n .periods)) cs)
         (take-set-next (n .list) (n .calls) call (omega (arith, s .list-row)))
 
     pub sound-call : Sound (callAdded n call)
@@ -160,7 +160,7 @@ pub tells-call : (c : Command) (n : Net) (p : ℕ) (behind : List ℕ) (call : C
 unfolding Tells extend grounds
 tells-call c n p behind call (passes, inl (is, made)) =
     call-told c callsByOffset n p behind call _ passes (λ e. zero-ne-one (cc)) is made refl
-    (call-passes callsByOffset n p behind (ap (λ (d : Command). first (grounds d n p behind)) (sym is) ∙ passes))
+    (offset-passes n p behind (ap (λ (d : Command). first (grounds d n p behind)) (sym is) ∙ passes))
 tells-call c n p behind call (passes, inr (is, made)) =
     call-told c callsByRide n p behind call _ passes (λ e. zero-ne-one (cc)) is made refl
     (ride-passes n p behind (ap (λ (d : Command). first (grounds d n p behind)) (sym is) ∙ passes) .0)

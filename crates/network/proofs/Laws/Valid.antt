@@ -21,8 +21,8 @@ use Rattle.network.specs.Gives.{Reached, start, next, Gives, accepts}
 use Rattle.network.specs.Valid.{IsBytes, noCall, Valid}
 use Rattle.network.proofs.Laws.Lists.{zero-ne-one, and-both, any-take-found, snoc-all, snoc-pairs}
 use Rattle.network.proofs.Laws.Divisor.{commonCycle-snoc, period-divides-commonCycle, commonCycle-least, commonCycle-pos}
-use Rattle.network.proofs.Laws.Grounds.{LineFits, CallFits, line-passes, call-passes, ride-passes, end-passes}
-use Rattle.network.proofs.Laws.Reading.{reached-counted, readFile-gives}
+use Rattle.network.proofs.Laws.Grounds.{LineFits, CallFits, line-passes, offset-passes, ride-passes, end-passes}
+use Rattle.network.proofs.Laws.Reading.{reached-within, readFile-gives}
 
 -- What `Valid` asks of a network on the way, besides the numbers of lines and calls
 record Sound (n : Net) : Type 0 where
@@ -93,7 +93,7 @@ sound-next : (c : Command) (n : Net) (p : ℕ) (behind : List ℕ) → first (gr
 unfolding extend grounds first
 sound-next statesLine n p behind e h b s = sound-line n behind (line-passes n p behind e) s
 sound-next callsByOffset n p behind e h b s =
-    sound-call callsByOffset n behind _ (call-passes callsByOffset n p behind e) (stated-max behind b) s
+    sound-call callsByOffset n behind _ (offset-passes n p behind e) (stated-max behind b) s
 sound-next callsByRide n p behind e h b s = let f = ride-passes n p behind e in sound-call callsByRide n behind _ (f .0) (f .1) s
 sound-next ends n p behind e h b s = absurd (h refl)
 sound-next unknown n p behind e h b s = absurd (zero-ne-one (cc))
@@ -117,11 +117,11 @@ module _ {file : List ℕ} (bytes : IsBytes file) where
       let f = end-passes n p behind (rw i at e) in
       record {
         some-line = f .some-line;
-        lines = reached-counted r .lines;
+        lines = reached-within r .lines;
         period-pos = s .period-pos;
         period = s .period;
         cycle-max = s .cycle-max;
-        calls = reached-counted r .calls;
+        calls = reached-within r .calls;
         call-line = s .call-line;
         call-stop = s .call-stop;
         call-offset = s .call-offset;

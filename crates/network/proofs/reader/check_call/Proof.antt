@@ -10,8 +10,8 @@ use lib.Dec.{ltb}
 use lib.ListN.{length, getD}
 use Rattle.network.specs.declared.Call.{Call}
 use Rattle.network.specs.declared.Check.the-variants.{Passes, Refused}
-use Rattle.network.specs.Network.{maxLines, maxStop, maxCalls, callsAt, operandBytes, lineOperand, stopOperand}
-use Rattle.network.specs.Grounds.{callGrounds, cutOff}
+use Rattle.network.specs.Network.{maxLines, maxStop, maxCalls, callsAt, lineOperand, stopOperand}
+use Rattle.network.specs.Grounds.{callGrounds}
 use Rattle.network.specs.Offsets.{Marks, markIn}
 use Rattle.network.proofs.Laws.Lists.{zero-ne-one}
 use Rattle.network.proofs.Laws.Grounds.{first-none, first-hit, first-miss}
@@ -29,44 +29,32 @@ marked marks cs m line stop mark h k e = sym (ap (ltb 0) (e ∙ m line stop h k)
 never : {A : Type 0} (number place : ℕ) → Refused number place ≡ Passes → A
 never number place e = absurd (zero-ne-one (cc))
 
-returns : tie.Need-returns
-unfolding callGrounds cutOff operandBytes lineOperand stopOperand
-returns c =
-    let s = c .before .before in
-    let b = s .args .behind .now in (
-      λ n h m. sym
-          (first-hit _ _ _ _ (lt-ltb (length b) 4 (omega arith))),
-      never _ _,
-    )
-
 shared-slice-read-line : tie.Need-shared-slice-read-line
 shared-slice-read-line c = search needs
 
 shared-slice-read-stop : tie.Need-shared-slice-read-stop
 shared-slice-read-stop c = search needs
 
-cast-if2 : tie.Need-cast-if2
-cast-if2 c = omega (arith, c .shared-slice-known3 .given 0)
+cast-if1 : tie.Need-cast-if1
+cast-if1 c = omega (arith, c .shared-slice-known3 .given 0)
+
+returns : tie.Need-returns
+unfolding callGrounds lineOperand stopOperand
+returns c =
+    let s = c .before .before .before .before .before in
+    let b = s .args .behind .now in (
+      λ n h m. sym
+          (first-hit _ _ _ _ (le-leb (length (n .periods)) (getD b 0 0) (omega (arith, h .lines)))),
+      never _ _,
+    )
 
 returns-2 : tie.Need-returns-2
-unfolding callGrounds cutOff operandBytes lineOperand stopOperand
+unfolding callGrounds lineOperand stopOperand
 returns-2 c =
     let s = c .before .before .before .before .before .before in
     let b = s .args .behind .now in (
       λ n h m. sym
-          (first-miss _ _ _ _ (le-ltb (length b) 4 (omega arith))
-          ∙ first-hit _ _ _ _ (le-leb (length (n .periods)) (getD b 0 0) (omega (arith, h .lines)))),
-      never _ _,
-    )
-
-returns-3 : tie.Need-returns-3
-unfolding callGrounds cutOff operandBytes lineOperand stopOperand
-returns-3 c =
-    let s = c .before .before .before .before .before .before .before in
-    let b = s .args .behind .now in (
-      λ n h m. sym
-          (first-miss _ _ _ _ (le-ltb (length b) 4 (omega arith))
-          ∙ first-miss _ _ _ _ (lt-leb (length (n .periods)) (getD b 0 0) (omega (arith, h .lines)))
+          (first-miss _ _ _ _ (lt-leb (length (n .periods)) (getD b 0 0) (omega (arith, h .lines)))
           ∙ first-hit _ _ _ _ (lt-ltb maxStop (getD b 1 0) (omega arith))),
       never _ _,
     )
@@ -80,61 +68,57 @@ cast-mark-2 c = search needs
 mark-requires : tie.Need-mark-requires
 mark-requires c κs = search needs
 
-returns-4 : tie.Need-returns-4
-unfolding callGrounds cutOff operandBytes lineOperand stopOperand
-returns-4 c =
-    let s = c .before .before .before .before .before .before .before .before .before in
+returns-3 : tie.Need-returns-3
+unfolding callGrounds lineOperand stopOperand
+returns-3 c =
+    let s = c .before .before .before .before .before .before .before .before in
     let b = s .args .behind .now in (
       λ n h m. sym
-          (first-miss _ _ _ _ (le-ltb (length b) 4 (omega arith))
-          ∙ first-miss _ _ _ _ (lt-leb (length (n .periods)) (getD b 0 0) (omega (arith, h .lines)))
+          (first-miss _ _ _ _ (lt-leb (length (n .periods)) (getD b 0 0) (omega (arith, h .lines)))
           ∙ first-miss _ _ _ _ (le-ltb maxStop (getD b 1 0) (omega arith))
-          ∙ first-hit _ _ _ _ (marked (s .args .marks .now) (n .calls) m (getD b 0 0) (getD b 1 0) (c .before .mark .result) (omega (arith, s .pre)) (omega arith) (c .before .mark .ensures) ∙ lt-ltb 0 (c .before .mark .result) (omega arith))),
+          ∙ first-hit _ _ _ _ (marked (s .args .marks .now) (n .calls) m (getD b 0 0) (getD b 1 0) (c .before .mark .result) (omega (arith, s .pre .0)) (omega arith) (c .before .mark .ensures) ∙ lt-ltb 0 (c .before .mark .result) (omega arith))),
       never _ _,
     )
 
-returns-5 : tie.Need-returns-5
-unfolding callGrounds cutOff operandBytes lineOperand stopOperand
-returns-5 c =
-    let s = c .before .before .before .before .before .before .before .before .before .before .before in
+returns-4 : tie.Need-returns-4
+unfolding callGrounds lineOperand stopOperand
+returns-4 c =
+    let s = c .before .before .before .before .before .before .before .before .before .before in
     let b = s .args .behind .now in (
       λ n h m. sym
-          (first-miss _ _ _ _ (le-ltb (length b) 4 (omega arith))
-          ∙ first-miss _ _ _ _ (lt-leb (length (n .periods)) (getD b 0 0) (omega (arith, h .lines)))
+          (first-miss _ _ _ _ (lt-leb (length (n .periods)) (getD b 0 0) (omega (arith, h .lines)))
           ∙ first-miss _ _ _ _ (le-ltb maxStop (getD b 1 0) (omega arith))
-          ∙ first-miss _ _ _ _ (marked (s .args .marks .now) (n .calls) m (getD b 0 0) (getD b 1 0) (c .before .before .before .mark .result) (omega (arith, s .pre)) (omega arith) (c .before .before .before .mark .ensures) ∙ le-ltb 0 (c .before .before .before .mark .result) (omega (arith, c .before .before .if4 .left)))
+          ∙ first-miss _ _ _ _ (marked (s .args .marks .now) (n .calls) m (getD b 0 0) (getD b 1 0) (c .before .before .before .mark .result) (omega (arith, s .pre .0)) (omega arith) (c .before .before .before .mark .ensures) ∙ le-ltb 0 (c .before .before .before .mark .result) (omega (arith, c .before .before .if3 .left)))
           ∙ first-hit _ _ _ _ (le-leb maxCalls (length (n .calls)) (omega (arith, h .calls)))),
       never _ _,
     )
 
-returns-6 : tie.Need-returns-6
-unfolding callGrounds cutOff operandBytes lineOperand stopOperand
-returns-6 c =
-    let s = c .before .before .before .before .before .before .before .before .before .before .before in
+returns-5 : tie.Need-returns-5
+unfolding callGrounds lineOperand stopOperand
+returns-5 c =
+    let s = c .before .before .before .before .before .before .before .before .before .before in
     let b = s .args .behind .now in (
       λ n h m. sym
-          (first-miss _ _ _ _ (le-ltb (length b) 4 (omega arith))
-          ∙ first-miss _ _ _ _ (lt-leb (length (n .periods)) (getD b 0 0) (omega (arith, h .lines)))
+          (first-miss _ _ _ _ (lt-leb (length (n .periods)) (getD b 0 0) (omega (arith, h .lines)))
           ∙ first-miss _ _ _ _ (le-ltb maxStop (getD b 1 0) (omega arith))
-          ∙ first-miss _ _ _ _ (marked (s .args .marks .now) (n .calls) m (getD b 0 0) (getD b 1 0) (c .before .before .before .mark .result) (omega (arith, s .pre)) (omega arith) (c .before .before .before .mark .ensures) ∙ le-ltb 0 (c .before .before .before .mark .result) (omega (arith, c .before .before .if4 .left)))
+          ∙ first-miss _ _ _ _ (marked (s .args .marks .now) (n .calls) m (getD b 0 0) (getD b 1 0) (c .before .before .before .mark .result) (omega (arith, s .pre .0)) (omega arith) (c .before .before .before .mark .ensures) ∙ le-ltb 0 (c .before .before .before .mark .result) (omega (arith, c .before .before .if3 .left)))
           ∙ first-miss _ _ _ _ (lt-leb maxCalls (length (n .calls)) (omega (arith, h .calls)))
           ∙ first-none),
-      λ e. (omega arith, omega arith),
+      λ e. omega arith,
     )
 
 pub check-call-spec : {M : Type 1} → statement M
 check-call-spec =
     tie.close
     (tie.spec
-    returns
     shared-slice-read-line
     shared-slice-read-stop
-    cast-if2
+    cast-if1
+    returns
     returns-2
-    returns-3
     cast-mark
     cast-mark-2
     mark-requires
+    returns-3
     returns-4
-    returns-5
-    returns-6)
+    returns-5)

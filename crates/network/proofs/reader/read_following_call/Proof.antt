@@ -1,28 +1,30 @@
 -- `network::reader::read_following_call` meets its contract: the grounds of a call are passed, so 11 and 12 are left, and the offset is
 -- that of the line's latest call plus the ride. Assumes nothing.
-use Prim.Native.Nat.{ℕ, _+_, _-_, _<_}
+use Prim.Native.Nat.{ℕ, _+_, _-_, _<_, _≤_}
 use mathlib.Core.Path.{_≡_, refl, sym, ap, _∙_}
 use mathlib.Core.Bool.{true, false, not}
-use mathlib.Core.List.{List}
+use mathlib.Core.List.{List, _∷_, _++_}
 use mathlib.Core.Logic.{inr}
 use native.Mathlib.Omega.{arith}
 use borrow.Author.Needs.{needs}
 use borrow.Author.Tests.{lt-ltb, le-ltb}
-use lib.ListN.{getD}
+use lib.ListN.{length, getD}
 use Rattle.network.specs.declared.Check.the-variants.{Passes}
-use Rattle.network.specs.Network.{Net, maxLines, maxOffset, callsByOffset, callsByRide, callsAnywhere, word, callOf, lineOperand, stopOperand, rideOffset}
-use Rattle.network.specs.Grounds.{first, grounds, callGrounds}
+use Rattle.network.specs.Network.{Net, maxLines, maxOffset, callsByRide, operandBytes, callsAnywhere, word, callOf, lineOperand, stopOperand, rideOffset}
+use Rattle.network.specs.Grounds.{Ground, _at_when_, first, grounds, callGrounds, cutOff}
 use Rattle.network.specs.Stored.{Latest, Tells}
-use Rattle.network.proofs.Laws.Grounds.{call-grounds-alike, first-append-miss, first-none, first-hit, first-miss}
+use Rattle.network.proofs.Laws.Grounds.{first-append-miss, first-none, first-hit, first-miss}
 use Rattle.network.proofs.Laws.Latest.{latest-calls, latest-offset}
 use Rattle.network.proofs.reader.read_following_call.Statement.{statement}
 use Rattle.network.proofs.reader.read_following_call.Tie as tie
 
 -- What the row's place says of the line that the operands name
 module _ (n : Net) (p : ℕ) (behind latest : List ℕ) (l : Latest latest (n .calls)) (low : getD behind 0 0 < maxLines)
-    (passes : first (callGrounds callsByOffset n p behind) ≡ Passes) (before : ℕ) (is : before ≡ getD latest (getD behind 0 0) 0) where
-  shared-pass : first (callGrounds callsByRide n p behind) ≡ Passes
-  shared-pass = ap first (call-grounds-alike n p behind) ∙ passes
+    (enough : 4 ≤ length behind) (passes : first (callGrounds n p behind) ≡ Passes) (before : ℕ) (is : before ≡ getD latest (getD behind 0 0) 0) where
+  -- Ground 3 and those that 46 shares with 43 are passed
+  passed : (hs : List Ground) → first ((3 at p when cutOff callsByRide behind) ∷ callGrounds n p behind ++ hs) ≡ first hs
+  unfolding cutOff operandBytes
+  passed hs = first-miss _ _ _ _ (le-ltb (length behind) 4 enough) ∙ first-append-miss (callGrounds n p behind) hs passes
 
   none : before ≡ 0 → callsAnywhere (lineOperand behind) (n .calls) ≡ false
   unfolding lineOperand
@@ -47,8 +49,8 @@ unfolding Tells grounds
 returns c =
     let s = c .before .before .before .before in
     let b = s .args .behind .now in
-    λ n l q. first-append-miss (callGrounds callsByRide _ _ _) _ (shared-pass n (s .args .at) b (s .args .latest .now) l (s .pre .1) q (c .before .latest-of .result) (c .before .latest-of .ensures))
-    ∙ first-hit _ _ _ _ (ap not (none n (s .args .at) b (s .args .latest .now) l (s .pre .1) q (c .before .latest-of .result) (c .before .latest-of .ensures) (c .if1 .taken)))
+    λ n l q. passed n (s .args .at) b (s .args .latest .now) l (s .pre .1) (s .pre .0) q (c .before .latest-of .result) (c .before .latest-of .ensures) _
+    ∙ first-hit _ _ _ _ (ap not (none n (s .args .at) b (s .args .latest .now) l (s .pre .1) (s .pre .0) q (c .before .latest-of .result) (c .before .latest-of .ensures) (c .if1 .taken)))
 
 sub-offset : tie.Need-sub-offset
 sub-offset c = search needs
@@ -74,9 +76,9 @@ returns-2 c =
     let s = c .before .before .before .before .before .before in
     let b = s .args .behind .now in
     λ n l q. let above : 0 < c .before .before .before .latest-of .result = omega (arith, c .before .before .if1 .left) in
-    let made : rideOffset n b ≡ c .before .before .before .latest-of .result - 1 + c .before .word .result = ride n (s .args .at) b (s .args .latest .now) l (s .pre .1) q (c .before .before .before .latest-of .result) (c .before .before .before .latest-of .ensures) above ∙ ap (λ (o : ℕ). c .before .before .before .latest-of .result - 1 + o) (sym (c .before .word .ensures)) in
-    first-append-miss (callGrounds callsByRide _ _ _) _ (shared-pass n (s .args .at) b (s .args .latest .now) l (s .pre .1) q (c .before .before .before .latest-of .result) (c .before .before .before .latest-of .ensures))
-    ∙ first-miss _ _ _ _ (ap not (some n (s .args .at) b (s .args .latest .now) l (s .pre .1) q (c .before .before .before .latest-of .result) (c .before .before .before .latest-of .ensures) above))
+    let made : rideOffset n b ≡ c .before .before .before .latest-of .result - 1 + c .before .word .result = ride n (s .args .at) b (s .args .latest .now) l (s .pre .1) (s .pre .0) q (c .before .before .before .latest-of .result) (c .before .before .before .latest-of .ensures) above ∙ ap (λ (o : ℕ). c .before .before .before .latest-of .result - 1 + o) (sym (c .before .word .ensures)) in
+    passed n (s .args .at) b (s .args .latest .now) l (s .pre .1) (s .pre .0) q (c .before .before .before .latest-of .result) (c .before .before .before .latest-of .ensures) _
+    ∙ first-miss _ _ _ _ (ap not (some n (s .args .at) b (s .args .latest .now) l (s .pre .1) (s .pre .0) q (c .before .before .before .latest-of .result) (c .before .before .before .latest-of .ensures) above))
     ∙ first-hit _ _ _ _ (lt-ltb maxOffset (rideOffset n b) (rw made (omega (arith, c .if2 .taken))))
 
 shared-slice-read-t9 : tie.Need-shared-slice-read-t9
@@ -91,9 +93,9 @@ returns-3 c =
     let s = c .before .before .before .before .before .before .before in
     let b = s .args .behind .now in
     λ n l q. let above : 0 < c .before .before .before .before .latest-of .result = omega (arith, c .before .before .before .if1 .left) in
-    let made : rideOffset n b ≡ c .before .before .before .before .latest-of .result - 1 + c .before .before .word .result = ride n (s .args .at) b (s .args .latest .now) l (s .pre .1) q (c .before .before .before .before .latest-of .result) (c .before .before .before .before .latest-of .ensures) above ∙ ap (λ (o : ℕ). c .before .before .before .before .latest-of .result - 1 + o) (sym (c .before .before .word .ensures)) in (
-      first-append-miss (callGrounds callsByRide _ _ _) _ (shared-pass n (s .args .at) b (s .args .latest .now) l (s .pre .1) q (c .before .before .before .before .latest-of .result) (c .before .before .before .before .latest-of .ensures))
-          ∙ first-miss _ _ _ _ (ap not (some n (s .args .at) b (s .args .latest .now) l (s .pre .1) q (c .before .before .before .before .latest-of .result) (c .before .before .before .before .latest-of .ensures) above))
+    let made : rideOffset n b ≡ c .before .before .before .before .latest-of .result - 1 + c .before .before .word .result = ride n (s .args .at) b (s .args .latest .now) l (s .pre .1) (s .pre .0) q (c .before .before .before .before .latest-of .result) (c .before .before .before .before .latest-of .ensures) above ∙ ap (λ (o : ℕ). c .before .before .before .before .latest-of .result - 1 + o) (sym (c .before .before .word .ensures)) in (
+      passed n (s .args .at) b (s .args .latest .now) l (s .pre .1) (s .pre .0) q (c .before .before .before .before .latest-of .result) (c .before .before .before .before .latest-of .ensures) _
+          ∙ first-miss _ _ _ _ (ap not (some n (s .args .at) b (s .args .latest .now) l (s .pre .1) (s .pre .0) q (c .before .before .before .before .latest-of .result) (c .before .before .before .before .latest-of .ensures) above))
           ∙ first-miss _ _ _ _ (le-ltb maxOffset (rideOffset n b) (rw made (omega (arith, c .before .if2 .left))))
           ∙ first-none,
       inr (refl, ap (callOf b) (sym made)),

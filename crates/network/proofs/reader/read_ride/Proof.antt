@@ -1,17 +1,29 @@
 -- `network::reader::read_ride` meets its contract: a ground of a call refuses 46 as it does 43, and the rest is
 -- `read_following_call`'s. Assumes nothing.
-use mathlib.Core.Path.{sym, ap, _∙_}
+use mathlib.Core.Path.{_≡_, sym, _∙_}
+use mathlib.Core.Bool.{false}
 use native.Mathlib.Omega.{arith}
 use borrow.Author.Needs.{needs}
-use Rattle.network.specs.Network.{callsByRide}
-use Rattle.network.specs.Grounds.{first, grounds, callGrounds}
+use Rattle.network.specs.Network.{callsByOffset}
+use Rattle.network.specs.Grounds.{grounds, callGrounds, cutOff}
 use Rattle.network.specs.Stored.{Tells}
-use Rattle.network.proofs.Laws.Grounds.{call-grounds-alike, first-append-hit}
+use Rattle.network.proofs.Laws.Grounds.{cut-off-alike, not-cut-off-call, first-hit, first-miss, first-append-hit}
 use Rattle.network.proofs.reader.read_ride.Statement.{statement}
 use Rattle.network.proofs.reader.read_ride.Tie as tie
 
+call-cut-off-requires : tie.Need-call-cut-off-requires
+call-cut-off-requires c κs = search needs
+
+returns : tie.Need-returns
+unfolding Tells grounds
+returns c = λ n h m l. first-hit _ _ _ _ (cut-off-alike _ ∙ sym (c .before .call-cut-off .ensures) ∙ c .if1 .taken)
+
+-- Where ground 3 doesn't apply the operands are there
+not-cut : (c : tie.Else1) → cutOff callsByOffset (c .before .before .before .args .behind .now) ≡ false
+not-cut c = sym (c .before .call-cut-off .ensures) ∙ c .if1 .left
+
 check-call-requires : tie.Need-check-call-requires
-check-call-requires c κs = search needs
+check-call-requires c κs = (c .before .before .before .pre, not-cut-off-call _ (not-cut c))
 
 enum-known-check : tie.Need-enum-known-check
 enum-known-check c = search needs
@@ -21,26 +33,30 @@ enum-told c = search needs
 
 read-following-call-requires : tie.Need-read-following-call-requires
 read-following-call-requires c κs =
-    let (four, low) = c .before .before .check-call .ensures .1 (c .enum-told .given .1) in
-    (four, omega (arith, low, c .before .before .before .before .pre))
-
-returns : tie.Need-returns
-unfolding Tells grounds
-returns c =
-    λ n h m l. first-append-hit (callGrounds callsByRide _ _ _) _ _ _
-    (ap first (call-grounds-alike _ _ _) ∙ sym (c .before .before .before .check-call .ensures .0 n h m) ∙ c .before .check .given .1)
+    let t = c .before .before in
+    (not-cut-off-call _ (not-cut (t .before)), omega (arith, t .check-call .ensures .1 (c .enum-told .given .1), t .before .before .before .before .pre))
 
 returns-2 : tie.Need-returns-2
+unfolding Tells grounds
 returns-2 c =
-    λ n h m l. c .read-following-call .ensures n l (sym (c .before .before .before .check-call .ensures .0 n h m) ∙ c .before .enum-told .given .1)
+    let t = c .before .before .before in
+    λ n h m l. first-miss _ _ _ _ (cut-off-alike _ ∙ not-cut (t .before))
+    ∙ first-append-hit (callGrounds _ _ _) _ _ _ (sym (t .check-call .ensures .0 n h m) ∙ c .before .check .given .1)
+
+returns-3 : tie.Need-returns-3
+returns-3 c =
+    let t = c .before .before .before in
+    λ n h m l. c .read-following-call .ensures n l (sym (t .check-call .ensures .0 n h m) ∙ c .before .enum-told .given .1)
 
 pub read-ride-spec : {M : Type 1} → statement M
 read-ride-spec =
     tie.close
     (tie.spec
+    call-cut-off-requires
+    returns
     check-call-requires
     enum-known-check
     enum-told
     read-following-call-requires
-    returns
-    returns-2)
+    returns-2
+    returns-3)
