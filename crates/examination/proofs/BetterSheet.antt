@@ -10,7 +10,7 @@ use lib.IntN.{ℤ}
 use lib.ListN.{length}
 use Rattle.network.specs.Lists.{pick}
 use Rattle.network.specs.Network.{Net}
-use Rattle.network.specs.Rating.{IsRating, rating, ratingOver, isAbove}
+use Rattle.network.specs.Rating.{IsRating, rating, ratingBy, ratingOver, isAbove}
 use Rattle.network.specs.Reading.{Reading, accepted, refused}
 use Rattle.network.specs.Refusals.{Unfit}
 use Rattle.network.specs.Valid.{Valid}
@@ -49,7 +49,7 @@ module _ {read : Reading} {n : Net} (reads : read ≡ accepted n) (one other : L
 
   module _ (valid : Valid n) {least sum least′ sum′ : ℕ} (p : IsRating n one least sum) (q : IsRating n other least′ sum′) where
     chosen-by : (b : Bool) → isAbove (rating n other) (rating n one) ≡ b → Chosen least sum least′ sum′ (pick b second first)
-    unfolding rating ratingOver
+    unfolding rating ratingOver ratingBy
     chosen-by true e =
         let (l, s) = IsRating-unique valid p in
         let (l′, s′) = IsRating-unique valid q in

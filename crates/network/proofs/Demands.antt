@@ -4,6 +4,7 @@ use Prim.Native.Nat.{ℕ, _≤_, _<_}
 use mathlib.Core.Path.{_≡_, refl, sym, ap₂, _∙_}
 use mathlib.Core.Bool.{true, false}
 use mathlib.Core.List.{List, [], _∷_}
+use mathlib.Core.Logic.{_↔_}
 use borrow.Fn.World.{ArgsD, ResD}
 use borrow.Fn.Kinds.{endedOf}
 use contract.Lifetimes.{Lfts}
@@ -18,7 +19,7 @@ use Rattle.network.specs.Reading.{Outcome, values, refusal, readFile, ac
 use Rattle.network.specs.Gives.{Gives}
 use Rattle.network.specs.Refusals.{Refuses, Unfit, Not64, Demand1}
 use Rattle.network.specs.Valid.{Valid}
-use Rattle.network.specs.Rating.{IsRating, rating, ratingOver}
+use Rattle.network.specs.Rating.{IsRatingOver, IsRating, rating, ratingOver}
 use Rattle.network.specs.Rate.{rateAnswer, rateOutcome}
 use Rattle.network.specs.Classes.{Alike, unserved, classRow, weightRow, classCount, lowestStops}
 use Rattle.network.specs.ClassCall.{classAnswer, weightedRating, weightedOutcome}
@@ -30,7 +31,7 @@ use Rattle.network.proofs.Laws.Rating.{rating-is-rating, IsRating-uniqu
 use Rattle.network.proofs.Laws.Ranges.{served-range, class-range, calls-some, least-range, sum-range}
 use Rattle.network.proofs.Laws.Classes.{length-classRow, length-weightRow, lowest-rating}
 use Rattle.network.proofs.Laws.Classified.{entry-alike, entry-least, entry-unserved, weight-counts, classes-count}
-use Rattle.network.proofs.Laws.Weighted.{weighted-is-rate}
+use Rattle.network.proofs.Laws.Weighted.{lowest-is-rating, weighted-is-rate}
 use Rattle.network.proofs.reader.read as read
 use Rattle.network.proofs.reader.read.Kinds as read-kinds
 use Rattle.network.proofs.reader.read.Reads as read-contract
@@ -198,7 +199,9 @@ pub record Classified (n : Net) (answer : Outcome) (classes weights : List ℕ) 
   pub answered : answer ≡ values (count ∷ [])
   pub count-is : (count ≡ countBelow (λ s. eqb (getD classes s 0) s) stopCount) × (1 ≤ count) × (count ≤ stopCount)
   -- Demand 3, (5): every choice of whole-number starts rates the same over the lowest stops alone, with their weights, as over all stops
+  -- as computed, and over all trips
   pub rates-alike : (starts : List ℤ) → ratingOver n starts (lowestStops classes weights) ≡ rating n starts
+  pub is-rated-alike : (starts : List ℤ) {least sum : ℕ} → IsRatingOver n starts (lowestStops classes weights) least sum ↔ IsRating n starts least sum
 
 pub classified : {n : Net} → Valid n → Classified n (values (classCount n ∷ [])) (classRow n) (weightRow n)
 classified {n} valid =
@@ -212,6 +215,7 @@ classified {n} valid =
       answered = refl;
       count-is = (classes-count n, class-range valid .0, class-range valid .1);
       rates-alike = lowest-rating n valid;
+      is-rated-alike = lowest-is-rating valid;
     }
 
 module _ (κs : Lfts 3) (a : ArgsD classes.signature κs) (r : ResD classes.signature κs)

@@ -19,6 +19,7 @@ pub mod StopGap
 pub mod Rating
 pub mod Starts
 pub mod Permuted
+pub mod Tidy
 pub mod Order
 pub mod Gaps
 pub mod Representatives

@@ -1,6 +1,7 @@
 pub mod Lists
 pub mod Divisor
 pub mod Network
+pub mod Tidy
 pub mod Grounds
 pub mod Reading
 pub mod Gives

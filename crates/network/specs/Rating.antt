@@ -4,7 +4,7 @@
 use Prim.Native.Nat.{ℕ, suc, _*_, _<_, _≤_}
 use mathlib.Core.Path.{_≡_}
 use mathlib.Core.Bool.{Bool, true, false, not, _&&_, _||_}
-use mathlib.Core.List.{List, [], _∷_, _++_, map}
+use mathlib.Core.List.{List, [], _∷_, _++_, map, List·Memᴰ}
 use lib.Dec.{eqb, ltb}
 use lib.IntN.{ℤ, pos, _+ℤ_}
 use lib.ListN.{length, getD}
@@ -60,17 +60,34 @@ pub data IsStopGap (n : Net) (starts : List ℤ) (stop : ℕ) : ℕ → Type 0 w
       → ((j call : ℕ) → CallsThere n j stop call → j ≡ i)
       → IsStopGap n starts stop (getD (n .periods) i 0)
 
+-- A stop that counts in a rating, and how often in its sum
+pub record Counted : Type 0 where
+  pub stop : ℕ
+  pub weight : ℕ
+
 -- The served stops, ascending
 unfoldable pub servedList : Net → List ℕ
 servedList n = below (λ stop. isServed stop (n .calls)) (suc maxStop)
 
--- The rating: the least gap over served stops, and the sum of their gaps (definition 2.1.6, equations 2.1.5 and 2.1.6)
-pub record IsRating (n : Net) (starts : List ℤ) (least sum : ℕ) : Type 0 where
+-- Each of these stops once
+unfoldable pub eachOnce : List ℕ → List Counted
+eachOnce stops = map (λ (s : ℕ). record { stop = s; weight = 1 }) stops
+
+-- The stops that count in the rating of a network: all served stops, each once
+unfoldable pub counted : Net → List Counted
+counted n = eachOnce (servedList n)
+
+-- The rating over these stops: their least gap, and the sum of their gaps, each with its weight (definition 2.1.6, equations 2.1.5 and 2.1.6)
+pub record IsRatingOver (n : Net) (starts : List ℤ) (stops : List Counted) (least sum : ℕ) : Type 0 where
   pub gap : ℕ → ℕ
-  pub is-gap : (stop : ℕ) → isServed stop (n .calls) ≡ true → IsStopGap n starts stop (gap stop)
-  pub attained : (stop : ℕ) × (isServed stop (n .calls) ≡ true) × (gap stop ≡ least)
-  pub is-least : (stop : ℕ) → isServed stop (n .calls) ≡ true → least ≤ gap stop
-  pub is-sum : sum ≡ sumOf gap (servedList n)
+  pub is-gap : (s : Counted) → List·Memᴰ s stops → IsStopGap n starts (s .stop) (gap (s .stop))
+  pub attained : (s : Counted) × List·Memᴰ s stops × (gap (s .stop) ≡ least)
+  pub is-least : (s : Counted) → List·Memᴰ s stops → least ≤ gap (s .stop)
+  pub is-sum : sum ≡ sumOf (λ (s : Counted). s .weight * gap (s .stop)) stops
+
+-- The rating of a network: over the stops that count
+abbrev pub IsRating : Net → List ℤ → ℕ → ℕ → Type 0
+IsRating n starts least sum = IsRatingOver n starts (counted n) least sum
 
 -- ---- The computed numbers
 
@@ -96,26 +113,21 @@ callsOfStop n stop = keep (λ (c : Call). eqb (c .stop) stop) (n .calls)
 unfoldable pub stopGap : Net → List ℤ → ℕ → ℕ
 stopGap n starts stop = gapOfStop n starts (callsOfStop n stop)
 
--- A stop that counts in a rating, and how often in its sum
-pub record Counted : Type 0 where
-  pub stop : ℕ
-  pub weight : ℕ
-
--- All served stops, each once
-unfoldable pub eachOnce : List ℕ → List Counted
-eachOnce stops = map (λ (s : ℕ). record { stop = s; weight = 1 }) stops
-
--- The rating over the stops that count
-unfoldable pub ratingOver : Net → List ℤ → List Counted → Rating
-ratingOver n starts counted =
+-- The rating of stops with these gaps
+unfoldable pub ratingBy : (ℕ → ℕ) → List Counted → Rating
+ratingBy gap stops =
     record {
       some = true;
-      least = leastOf (map (λ (s : Counted). stopGap n starts (s .stop)) counted);
-      sum = sumOf (λ (s : Counted). s .weight * stopGap n starts (s .stop)) counted;
+      least = leastOf (map (λ (s : Counted). gap (s .stop)) stops);
+      sum = sumOf (λ (s : Counted). s .weight * gap (s .stop)) stops;
     }
 
+-- The rating over these stops, and of a network
+unfoldable pub ratingOver : Net → List ℤ → List Counted → Rating
+ratingOver n starts stops = ratingBy (stopGap n starts) stops
+
 unfoldable pub rating : Net → List ℤ → Rating
-rating n starts = ratingOver n starts (eachOnce (servedList n))
+rating n starts = ratingOver n starts (counted n)
 
 -- ---- The order of ratings
 

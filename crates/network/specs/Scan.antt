@@ -7,10 +7,10 @@ use lib.Dec.{eqb, ltb}
 use lib.ListN.{getD, take}
 use Rattle.network.specs.declared.Call.{Call}
 use Rattle.network.specs.declared.Rating.{Rating}
-use Rattle.network.specs.Lists.{pick, keep, below, sumOf, leastOf}
+use Rattle.network.specs.Lists.{pick, keep, below}
 use Rattle.network.specs.Network.{maxStop}
 use Rattle.network.specs.Valid.{noCall}
-use Rattle.network.specs.Rating.{Counted, noRating}
+use Rattle.network.specs.Rating.{Counted, noRating, ratingBy}
 
 -- One more than the latest of the first `k` calls that is at the stop, 0 where none is
 unfoldable pub lastAt : ℕ → List Call → ℕ → ℕ
@@ -39,15 +39,10 @@ countedStops counts weights =
 abbrev pub maxWeight : ℕ
 maxWeight = 2000
 
--- The rating of stops with these gaps, none where there are none
-unfoldable pub ratingOfGaps : (ℕ → ℕ) → List Counted → Rating
-ratingOfGaps gap [] = noRating
-ratingOfGaps gap (s ∷ rest) =
-    record {
-      some = true;
-      least = leastOf (map (λ (t : Counted). gap (t .stop)) (s ∷ rest));
-      sum = sumOf (λ (t : Counted). t .weight * gap (t .stop)) (s ∷ rest);
-    }
+-- The rating of the stops passed so far, none before the first
+unfoldable pub ratingSoFar : (ℕ → ℕ) → List Counted → Rating
+ratingSoFar gap [] = noRating
+ratingSoFar gap (s ∷ rest) = ratingBy gap (s ∷ rest)
 
 -- A rating with one stop more
 unfoldable pub withStop : Rating → ℕ → ℕ → Rating

@@ -120,7 +120,7 @@ pub fn rating_over(
     weights: &[u16; Network::STOPS],
 ) -> Rating
     requires { ⌜ ((stop : ℕ) → stop < net.stopCount → 0 < getD (now counts) stop 0 → (getD (now gaps) stop 0 ≤ net.maxPeriod) × (getD (now weights) stop 0 ≤ scan.maxWeight)) ⌝ }
-    ensures { λ r. ⌜ r ≡ scan.ratingOfGaps (λ stop. getD (now (gaps .entry)) stop 0) (scan.countedStops (now (counts .entry)) (now (weights .entry))) ⌝ }
+    ensures { λ r. ⌜ r ≡ rating.ratingBy (λ stop. getD (now (gaps .entry)) stop 0) (scan.countedStops (now (counts .entry)) (now (weights .entry))) ⌝ }
 {
     let mut rating = Rating::NONE;
     for stop in 0..Network::STOPS {
@@ -128,7 +128,12 @@ pub fn rating_over(
             rating = rating.with_stop(gaps[stop], weights[stop] as u32);
         }
     }
-    rating
+    // Where no stop counts, both numbers are 0.
+    Rating {
+        some: true,
+        least: rating.least,
+        sum: rating.sum,
+    }
 }
 
 // The served stops: 1 for each stop with a call, 0 for the others.

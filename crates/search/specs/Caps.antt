@@ -10,8 +10,8 @@ use Rattle.network.specs.declared.Rating.{Rating}
 use Rattle.network.specs.Lists.{keep, sumOf, leastOf}
 use Rattle.network.specs.Divisor.{gcd}
 use Rattle.network.specs.Network.{Net, cycle}
-use Rattle.network.specs.Rating.{periodOf, pairGaps, callsOfStop, eachOnce, servedList}
-use Rattle.network.specs.Scan.{leastFrom, ratingOfGaps}
+use Rattle.network.specs.Rating.{periodOf, pairGaps, callsOfStop, counted, ratingBy}
+use Rattle.network.specs.Scan.{leastFrom}
 
 -- The halves of g, rounded down, over all pairs of different calls
 unfoldable pub halves : Net → List Call → List ℕ
@@ -41,4 +41,4 @@ upperValue n caps starts stop = leastFrom (caps stop) (pairGaps n starts (placed
 
 -- The upper rating: the least upper value, and the sum of upper values
 unfoldable pub upperRating : Net → (ℕ → ℕ) → List ℤ → Rating
-upperRating n caps starts = ratingOfGaps (upperValue n caps starts) (eachOnce (servedList n))
+upperRating n caps starts = ratingBy (upperValue n caps starts) (counted n)

@@ -33,7 +33,8 @@ abbrev pub productsFrom : ℕ → List ℕ → ℕ
 productsFrom k [] = 0
 productsFrom k (t ∷ rest) = k * t + productsFrom (k * t) rest
 
--- How many tries the walk can make; it is 1 + T1 + T1×T2 + .. over the periods after the first, `bound-is-sum` of proofs/Demand3.antt
+-- How many tries the walk can make; it is 1 + T1 + T1×T2 + .. over the periods after the first, `triesBound-products` of
+-- proofs/Laws/Optimal.antt
 unfoldable pub triesBound : Net → ℕ
 triesBound n = mostTries (startCounts (n .periods))
 

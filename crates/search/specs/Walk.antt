@@ -20,8 +20,8 @@ abbrev pub atFirst : State
 atFirst = record { tries = 0; stopped = false; best = noRating; starts = [] }
 
 -- One more try made; the walk stopped; a full timetable become the best
-unfoldable pub counted : State → State
-counted s = record { tries = s .tries + 1; stopped = s .stopped; best = s .best; starts = s .starts }
+unfoldable pub tryMade : State → State
+tryMade s = record { tries = s .tries + 1; stopped = s .stopped; best = s .best; starts = s .starts }
 
 unfoldable pub stop : State → State
 stop s = record { tries = s .tries; stopped = true; best = s .best; starts = s .starts }
@@ -43,7 +43,7 @@ stopIf false step s = step s
 -- stands and sends the walk onward
 unfoldable pub oneTry : ℕ → (Rating → Bool) → (State → State) → State → State
 oneTry budget dropped onward s =
-    unless (s .stopped) (λ t. stopIf (eqb (t .tries) budget) (λ u. unless (dropped (u .best)) onward (counted u)) t) s
+    unless (s .stopped) (λ t. stopIf (eqb (t .tries) budget) (λ u. unless (dropped (u .best)) onward (tryMade u)) t) s
 
 -- A step for each of `count` starts from `from` on, ascending
 unfoldable pub eachStart : (ℕ → State → State) → ℕ → ℕ → State → State

@@ -13,7 +13,7 @@ use Rattle.network.specs.declared.RateAnswer.the-variants as answer
 use Rattle.network.specs.Lists.{pick}
 use Rattle.network.specs.Network.{Net}
 use Rattle.network.specs.Rate.{rateAnswer, ratingValues, onSheet, rateOutcome}
-use Rattle.network.specs.Rating.{noRating, rating, ratingOver, isAbove}
+use Rattle.network.specs.Rating.{noRating, rating, ratingBy, ratingOver, isAbove}
 use Rattle.network.specs.Reading.{Reading, accepted, refused, values, refusal}
 use Rattle.network.proofs.Laws.Lists.{zero-ne-one}
 use Rattle.search.specs.Search.{searchOutcome}
@@ -46,11 +46,11 @@ rated-on (accepted n) sheet {least} {sum} e = go (eqb (length sheet) (length (n 
 -- ---- better-of-two
 
 rating-whole : (n : Net) (sheet : List ℤ) → record { some = true; least = rating n sheet .least; sum = rating n sheet .sum } ≡ rating n sheet
-unfolding rating ratingOver
+unfolding rating ratingOver ratingBy
 rating-whole n sheet = refl
 
 rating-some : (n : Net) (sheet : List ℤ) → rating n sheet .some ≡ true
-unfolding rating ratingOver
+unfolding rating ratingOver ratingBy
 rating-some n sheet = refl
 
 pub ratingOn-of-rate : (read : Reading) (sheet : List ℤ) (r : RateAnswer) → rateAnswer r ≡ rateOutcome read sheet

@@ -15,7 +15,7 @@ use borrow.Author.Tests.{eq-eqb, ne-eqb}
 use Rattle.network.specs.Lists.{pick, countBelow, below, sumOf, leastOf}
 use Rattle.network.specs.Network.{Net, maxStop, isServed}
 use Rattle.network.specs.Valid.{Valid}
-use Rattle.network.specs.Rating.{Counted, servedList, eachOnce, ratingOver, rating, stopGap}
+use Rattle.network.specs.Rating.{Counted, servedList, eachOnce, counted, ratingBy, ratingOver, rating, stopGap}
 use Rattle.network.specs.Classes.{Alike, isAlike, lowestAlike, isLowest, classRow, weightRow, classCount, lowestStops}
 use Rattle.network.proofs.Laws.Lists.{zero-ne-one, and-both}
 use Rattle.network.proofs.Laws.Tables.{IsFirst, firstBelow-is-first, length-table, getD-table, below-of-member, below-same}
@@ -143,7 +143,7 @@ module _ {n : Net} (v : Valid n) where
     lowest-sum w = sumOf-representatives _ (lowestAlike n) (suc maxStop) represents (stopGap n starts) same-gap w
 
 pub lowest-rating : (n : Net) → Valid n → (starts : List ℤ) → ratingOver n starts (lowestStops (classRow n) (weightRow n)) ≡ rating n starts
-unfolding rating ratingOver eachOnce
+unfolding rating ratingOver ratingBy counted eachOnce
 lowest-rating n v starts = ap₂ (λ (l s : ℕ). record { some = true; least = l; sum = s }) least sum
   where
     gap : ℕ → ℕ

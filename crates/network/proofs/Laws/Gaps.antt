@@ -18,13 +18,13 @@ pub use Rattle.network.proofs.Laws.Least.{leastOf-map-has, leastOf-map-
 pub use Rattle.network.proofs.Laws.Scan.{leastFrom-append, leastFrom-min, pairGaps-snoc}
 pub use Rattle.network.proofs.Laws.Scan.{callsBefore-hit, callsBefore-miss, callsBefore-lastAt, lastAt-le, lastAt-landed, step-back}
 pub use Rattle.network.proofs.Laws.Scan.{Scanned, scanned-none, scanned-passed, getD-zeros, keep-append, keep-all}
-pub use Rattle.network.proofs.Laws.Rate.{ratingOfGaps-same, counted-served}
+pub use Rattle.network.proofs.Laws.Rate.{ratingBy-same, counted-of-member, counted-served}
 -- an accepted network and its common cycle
 pub use Rattle.network.proofs.Laws.Valid.{accepted-valid, cycle-multiple, cycle-pos}
 -- a stop and the rating, over all trips
 pub use Rattle.network.proofs.Laws.StopGap.{stopGap-is-stop-gap, IsStopGap-unique, IsStopGap-served}
-pub use Rattle.network.proofs.Laws.Rating.{servedList-all, servedList-has, servedList-some, rating-least, rating-sum}
-pub use Rattle.network.proofs.Laws.Rating.{rating-is-rating, IsRating-unique, ratingOver-cong, rating-cong}
+pub use Rattle.network.proofs.Laws.Rating.{servedList-all, servedList-has, servedList-some, counted-served-stop, counted-some, ratingBy-counted, rating-least, rating-sum}
+pub use Rattle.network.proofs.Laws.Rating.{ratingOver-is-rating, IsRatingOver-same, rating-is-rating, IsRating-unique, ratingOver-cong, rating-cong}
 -- starts that rate alike
 pub use Rattle.network.proofs.Laws.Starts.{SameResidues, stopGap-residues, rating-residues}
 pub use Rattle.network.proofs.Laws.Starts.{stopGap-moved-together, rating-moved-together}

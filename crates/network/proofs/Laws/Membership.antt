@@ -3,7 +3,7 @@
 use Prim.Native.Nat.{ℕ, suc, _<_, _≤_, suc-le-suc}
 use mathlib.Core.Path.{_≡_, refl, sym, ap, _∙_}
 use mathlib.Core.Bool.{Bool, true, false, _||_}
-use mathlib.Core.List.{List, [], _∷_, List·Memᴰ, List·Memᴰ·head, List·Memᴰ·tail, List·Memᴰ·not-nil, List·Memᴰ·cases-cons, Memᴰ·cast}
+use mathlib.Core.List.{List, [], _∷_, map, Memᴰ·of-map, List·Memᴰ, List·Memᴰ·head, List·Memᴰ·tail, List·Memᴰ·not-nil, List·Memᴰ·cases-cons, Memᴰ·cast}
 use mathlib.Core.Logic.{_⊎_, inl, inr}
 use native.Mathlib.Nat.{le-antisymm, zero-lt-suc}
 use native.Mathlib.Omega.{arith, min-cases}
@@ -104,6 +104,11 @@ leastOf-le {a} (x ∷ []) (List·Memᴰ·head e) = omega arith
 leastOf-le {a} (x ∷ []) (List·Memᴰ·tail m) = absurd (List·Memᴰ·not-nil m)
 leastOf-le {a} (x ∷ y ∷ xs) (List·Memᴰ·head e) = omega arith
 leastOf-le {a} (x ∷ y ∷ xs) (List·Memᴰ·tail m) = omega (arith, leastOf-le (y ∷ xs) m)
+
+-- The least of a number for each element is some element's
+pub leastOf-map-member : {A : Type 0} (f : A → ℕ) (xs : List A) → 0 < length xs → (a : A) × List·Memᴰ a xs × (f a ≡ leastOf (map f xs))
+leastOf-map-member f [] h = absurd (omega arith)
+leastOf-map-member f (x ∷ xs) h = let (a, m, e) = Memᴰ·of-map f (x ∷ xs) (leastOf-member (f x) (map f xs)) in (a, m, e)
 
 pub leastOf-same-members : (xs ys : List ℕ) → ((a : ℕ) → List·Memᴰ a xs → List·Memᴰ a ys) → ((a : ℕ) → List·Memᴰ a ys → List·Memᴰ a xs)
     → leastOf xs ≡ leastOf ys

@@ -14,7 +14,7 @@ use Rattle.network.specs.declared.Call.{Call}
 use Rattle.network.specs.Lists.{pick, any, keep, below, leastOf}
 use Rattle.network.specs.Network.{Net, maxStop, isServed}
 use Rattle.network.specs.Valid.{noCall, Valid}
-use Rattle.network.specs.Rating.{periodOf, gapOfCalls, gapOfStop, callsOfStop, stopGap, servedList, rating}
+use Rattle.network.specs.Rating.{periodOf, gapOfCalls, gapOfStop, callsOfStop, stopGap, servedList, eachOnce, counted, rating}
 use Rattle.network.proofs.Laws.Members.{Has, All, AllPairs, all-cons, all-head, all-tail, pairs-cons, pairs-head, pairs-tail}
 use Rattle.network.proofs.Laws.Least.{leastOf-same}
 use Rattle.network.proofs.Laws.Pairs.{gapOfCalls-symmetric, gapOfStop-le-pair, gapOfStop-attained, gapOfStop-none}
@@ -133,9 +133,9 @@ module _ (n : Net) (starts : List ℤ) where
 
 -- Two networks with the same periods, the calls in another order
 module _ (n m : Net) (valid : Valid n) (periods : n .periods ≡ m .periods) (π : List·Permᴰ (n .calls) (m .calls)) where
-  servedList-permuted : servedList n ≡ servedList m
-  unfolding servedList isServed
-  servedList-permuted = ap (λ p. below p (suc maxStop)) (fun-ext (λ stop. any-permuted (λ (c : Call). eqb (c .stop) stop) π))
+  counted-permuted : counted n ≡ counted m
+  unfolding counted servedList isServed
+  counted-permuted = ap (λ p. eachOnce (below p (suc maxStop))) (fun-ext (λ stop. any-permuted (λ (c : Call). eqb (c .stop) stop) π))
 
   pub stopGap-permuted : (starts : List ℤ) (stop : ℕ) → stopGap n starts stop ≡ stopGap m starts stop
   unfolding stopGap callsOfStop
@@ -144,4 +144,4 @@ module _ (n m : Net) (valid : Valid n) (periods : n .periods ≡ m .periods) (π
       ∙ gapOfStop-periods n m periods starts (callsOfStop m stop)
 
   pub rating-permuted : (starts : List ℤ) → rating n starts ≡ rating m starts
-  rating-permuted starts = rating-cong n m starts starts servedList-permuted (stopGap-permuted starts)
+  rating-permuted starts = rating-cong n m starts starts counted-permuted (stopGap-permuted starts)

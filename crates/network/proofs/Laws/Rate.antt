@@ -1,9 +1,9 @@
 -- What the pass over the calls and the pass over the stops compute is the rating: the rows hold the stops' gaps, and count the stops that
 -- the definition counts. Assumes nothing.
 use Prim.Native.Nat.{ℕ, suc, _*_, _<_, _≤_}
-use mathlib.Core.Path.{_≡_, refl, sym, ap, ap₂, _∙_}
+use mathlib.Core.Path.{_≡_, refl, ap, ap₂, _∙_}
 use mathlib.Core.Bool.{true}
-use mathlib.Core.List.{List, [], _∷_, map, List·Memᴰ, List·Memᴰ·head, List·Memᴰ·tail, map-map}
+use mathlib.Core.List.{List, [], _∷_, map, List·Memᴰ, List·Memᴰ·head, List·Memᴰ·tail, Memᴰ·of-map}
 use native.Mathlib.Nat.{le-trans, zero-lt-suc}
 use native.Mathlib.Omega.{arith}
 use borrow.Author.Tests.{ltb-true}
@@ -22,65 +22,52 @@ use Rattle.network.specs.Rating.{
   stopGap,
   eachOnce,
   servedList,
+  counted,
+  ratingBy,
   ratingOver,
-  rating,
 }
-use Rattle.network.specs.Scan.{countedStops, ratingOfGaps}
+use Rattle.network.specs.Scan.{countedStops}
 use Rattle.network.proofs.Laws.Scan.{keep-all, gapOfStop-le-period}
-use Rattle.network.proofs.Laws.Tables.{below-of-member, below-same, sumOf-same, sumOf-map}
+use Rattle.network.proofs.Laws.Tables.{below-of-member, below-same, sumOf-same}
 
 -- Two functions that agree on a list's elements
 pub map-same : {A B : Type 0} (f g : A → B) (xs : List A) → ((x : A) → List·Memᴰ x xs → f x ≡ g x) → map f xs ≡ map g xs
 map-same f g [] h = refl
 map-same f g (x ∷ xs) h = ap₂ _∷_ (h x (List·Memᴰ·head refl)) (map-same f g xs (λ y m. h y (List·Memᴰ·tail m)))
 
--- A stop that counts with its weight
-abbrev weighted : (ℕ → ℕ) → ℕ → Counted
-weighted w s = record { stop = s; weight = w s }
-
 -- A rating depends on the gaps of the stops that count alone
-pub ratingOfGaps-same :
-    (f g w : ℕ → ℕ) (xs : List ℕ)
-    → ((s : ℕ) → List·Memᴰ s xs → f s ≡ g s)
-    → ratingOfGaps f (map (λ (s : ℕ). record { stop = s; weight = w s }) xs) ≡ ratingOfGaps g (map (λ (s : ℕ). record { stop = s; weight = w s }) xs)
-unfolding ratingOfGaps
-ratingOfGaps-same f g w [] h = refl
-ratingOfGaps-same f g w (x ∷ xs) h =
-    ap₂ (λ (l v : ℕ). record { some = true; least = l; sum = v })
-    (ap leastOf
-    (map-map (λ (t : Counted). f (t .stop)) (weighted w) (x ∷ xs)
-    ∙ map-same f g (x ∷ xs) h
-    ∙ sym (map-map (λ (t : Counted). g (t .stop)) (weighted w) (x ∷ xs))))
-    (sumOf-map (λ (t : Counted). t .weight * f (t .stop)) (weighted w) (x ∷ xs)
-    ∙ sumOf-same (λ s. w s * f s) (λ s. w s * g s) (x ∷ xs) (λ s m. ap (λ (v : ℕ). w s * v) (h s m))
-    ∙ sym (sumOf-map (λ (t : Counted). t .weight * g (t .stop)) (weighted w) (x ∷ xs)))
+pub ratingBy-same : (f g : ℕ → ℕ) (stops : List Counted) → ((s : Counted) → List·Memᴰ s stops → f (s .stop) ≡ g (s .stop)) → ratingBy f stops ≡ ratingBy g stops
+unfolding ratingBy
+ratingBy-same f g stops h =
+    ap₂ (λ (l v : ℕ). record { some = true; least = l; sum = v }) (ap leastOf (map-same _ _ stops h))
+    (sumOf-same _ _ stops (λ s m. ap (λ (v : ℕ). s .weight * v) (h s m)))
 
-some-rating : (n : Net) (starts : List ℤ) (xs : List Counted) → 0 < length xs → ratingOfGaps (stopGap n starts) xs ≡ ratingOver n starts xs
-unfolding ratingOfGaps ratingOver
-some-rating n starts [] k = absurd (omega arith)
-some-rating n starts (x ∷ xs) k = refl
+-- A stop that a row counts is below 64, and has a number there
+pub counted-of-member : (counts weights : List ℕ) (s : Counted) → List·Memᴰ s (countedStops counts weights)
+    → (s .stop < 64) × (0 < getD counts (s .stop) 0)
+unfolding countedStops
+counted-of-member counts weights s m =
+    let (i, k, e) = Memᴰ·of-map (λ (j : ℕ). record { stop = j; weight = getD weights j 0 }) (below (λ j. ltb 0 (getD counts j 0)) (suc maxStop)) m in
+    let b = below-of-member (λ j. ltb 0 (getD counts j 0)) (suc maxStop) k in
+    let is : i ≡ s .stop = ap (λ (c : Counted). c .stop) e in
+    rw (← is) (omega (arith, b .0), ltb-true 0 (getD counts i 0) (b .1))
 
 -- The rows of gaps and counts give the rating over the stops that count
 pub rating-of-rows :
     (n : Net) (starts : List ℤ) (gaps counts weights : List ℕ)
     → ((stop : ℕ) → stop < 64 → 0 < getD counts stop 0 → getD gaps stop 0 ≡ stopGap n starts stop)
-    → 0 < length (countedStops counts weights)
-    → ratingOfGaps (λ s. getD gaps s 0) (countedStops counts weights) ≡ ratingOver n starts (countedStops counts weights)
-unfolding countedStops
-rating-of-rows n starts gaps counts weights h some =
-    ratingOfGaps-same (λ s. getD gaps s 0) (stopGap n starts) (λ s. getD weights s 0) (below (λ s. ltb 0 (getD counts s 0)) (suc maxStop))
-    (λ s m.
-    let b = below-of-member (λ s'. ltb 0 (getD counts s' 0)) (suc maxStop) m in
-    h s (omega (arith, b .0)) (ltb-true 0 (getD counts s 0) (b .1)))
-    ∙ some-rating n starts _ some
+    → ratingBy (λ s. getD gaps s 0) (countedStops counts weights) ≡ ratingOver n starts (countedStops counts weights)
+unfolding ratingOver
+rating-of-rows n starts gaps counts weights h =
+    ratingBy-same _ _ (countedStops counts weights) (λ s m. let b = counted-of-member counts weights s m in h (s .stop) (b .0) (b .1))
 
 -- The served stops, each once
 pub counted-served :
     (n : Net) (counts weights : List ℕ)
     → ((stop : ℕ) → stop < 64 → ltb 0 (getD counts stop 0) ≡ isServed stop (n .calls))
     → ((stop : ℕ) → stop < 64 → getD weights stop 0 ≡ 1)
-    → countedStops counts weights ≡ eachOnce (servedList n)
-unfolding countedStops eachOnce servedList
+    → countedStops counts weights ≡ counted n
+unfolding countedStops counted eachOnce servedList
 counted-served n counts weights h k =
     map-same _ (λ (s : ℕ). record { stop = s; weight = 1 }) (below (λ s. ltb 0 (getD counts s 0)) (suc maxStop))
     (λ s m.

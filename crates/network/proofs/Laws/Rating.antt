@@ -3,20 +3,21 @@
 use Prim.Native.Nat.{ℕ, suc, _+_, _*_, _≤_, _<_}
 use mathlib.Core.Path.{_≡_, refl, sym, ap, ap₂, subst, fun-ext, _∙_}
 use mathlib.Core.Bool.{true}
-use mathlib.Core.List.{List, [], _∷_, map}
+use mathlib.Core.List.{List, [], _∷_, map, List·Memᴰ, Memᴰ·map, Memᴰ·of-map}
 use native.Mathlib.Nat.{le-antisymm, one-mul}
 use native.Mathlib.Omega.{arith}
 use lib.Dec.{eqb}
 use lib.IntN.{ℤ}
-use lib.ListN.{length, getD}
+use lib.ListN.{length, getD, length-map}
 use Rattle.network.specs.declared.Call.{Call}
 use Rattle.network.specs.declared.Rating.{Rating}
-use Rattle.network.specs.Lists.{sumOf, leastOf}
+use Rattle.network.specs.Lists.{below, sumOf, leastOf}
 use Rattle.network.specs.Network.{Net, maxStop, isServed, callsAnywhere}
 use Rattle.network.specs.Valid.{noCall, Valid}
-use Rattle.network.specs.Rating.{servedList, IsRating, stopGap, Counted, eachOnce, ratingOver, rating}
-use Rattle.network.proofs.Laws.Members.{Has, All, has-any, below-all, below-has, sumOf-cong}
-use Rattle.network.proofs.Laws.Least.{leastOf-map-has, leastOf-map-le}
+use Rattle.network.specs.Rating.{Counted, servedList, eachOnce, counted, IsRatingOver, IsRating, stopGap, ratingBy, ratingOver, rating}
+use Rattle.network.proofs.Laws.Members.{Has, All, has-any, below-all, below-has}
+use Rattle.network.proofs.Laws.Membership.{leastOf-map-member, leastOf-le}
+use Rattle.network.proofs.Laws.Tables.{below-of-member, sumOf-same}
 use Rattle.network.proofs.Laws.StopGap.{served-of-call, call-of-served, stopGap-is-stop-gap, IsStopGap-same}
 
 -- ---- the served stops
@@ -40,6 +41,20 @@ module _ {n : Net} (valid : Valid n) where
       let (i, l, f) = servedList-has (getD (n .calls) k noCall .stop) served in
       omega arith
 
+-- ---- the stops that count
+
+-- A stop that counts is served
+pub counted-served-stop : (n : Net) {s : Counted} → List·Memᴰ s (counted n) → isServed (s .stop) (n .calls) ≡ true
+unfolding counted eachOnce servedList
+counted-served-stop n {s} m =
+    let (i, k, e) = Memᴰ·of-map (λ (j : ℕ). record { stop = j; weight = 1 }) (below (λ stop. isServed stop (n .calls)) (suc maxStop)) m in
+    let is : i ≡ s .stop = ap (λ (c : Counted). c .stop) e in
+    rw (← is) (below-of-member (λ stop. isServed stop (n .calls)) (suc maxStop) k .1)
+
+pub counted-some : {n : Net} → Valid n → 0 < length (counted n)
+unfolding counted eachOnce
+counted-some valid = rw length-map (servedList-some valid)
+
 -- ---- the rating as the least and the sum over the served stops
 
 map-each-once : (f : ℕ → ℕ) (stops : List ℕ) → map (λ (s : Counted). f (s .stop)) (eachOnce stops) ≡ map f stops
@@ -52,64 +67,71 @@ unfolding eachOnce sumOf
 sum-each-once f [] = refl
 sum-each-once f (s ∷ stops) = ap₂ _+_ (one-mul (f s)) (sum-each-once f stops)
 
+-- By any values of the stops, gaps or upper values
+pub ratingBy-counted : (f : ℕ → ℕ) (n : Net) → ratingBy f (counted n) ≡ record { some = true; least = leastOf (map f (servedList n)); sum = sumOf f (servedList n) }
+unfolding ratingBy counted
+ratingBy-counted f n =
+    ap₂ (λ (l v : ℕ). record { some = true; least = l; sum = v }) (ap leastOf (map-each-once f (servedList n))) (sum-each-once f (servedList n))
+
 module _ (n : Net) (starts : List ℤ) where
   pub rating-least : rating n starts .least ≡ leastOf (map (stopGap n starts) (servedList n))
   unfolding rating ratingOver
-  rating-least = ap leastOf (map-each-once (stopGap n starts) (servedList n))
+  rating-least = ap (λ (r : Rating). r .least) (ratingBy-counted (stopGap n starts) n)
 
   pub rating-sum : rating n starts .sum ≡ sumOf (stopGap n starts) (servedList n)
   unfolding rating ratingOver
-  rating-sum = sum-each-once (stopGap n starts) (servedList n)
+  rating-sum = ap (λ (r : Rating). r .sum) (ratingBy-counted (stopGap n starts) n)
 
 -- Networks and starts with the same gaps have the same ratings
 pub ratingOver-cong : (n m : Net) (starts moved : List ℤ) → ((stop : ℕ) → stopGap n starts stop ≡ stopGap m moved stop)
-    → (counted : List Counted) → ratingOver n starts counted ≡ ratingOver m moved counted
+    → (stops : List Counted) → ratingOver n starts stops ≡ ratingOver m moved stops
 unfolding ratingOver
-ratingOver-cong n m starts moved f counted = ap over (fun-ext f)
-  where
-    over : (ℕ → ℕ) → Rating
-    over gap =
-        record {
-          some = true;
-          least = leastOf (map (λ (s : Counted). gap (s .stop)) counted);
-          sum = sumOf (λ (s : Counted). s .weight * gap (s .stop)) counted;
-        }
+ratingOver-cong n m starts moved f stops = ap (λ gap. ratingBy gap stops) (fun-ext f)
 
-pub rating-cong : (n m : Net) (starts moved : List ℤ) → servedList n ≡ servedList m
+pub rating-cong : (n m : Net) (starts moved : List ℤ) → counted n ≡ counted m
     → ((stop : ℕ) → stopGap n starts stop ≡ stopGap m moved stop) → rating n starts ≡ rating m moved
 unfolding rating
-rating-cong n m starts moved e f =
-    ratingOver-cong n m starts moved f (eachOnce (servedList n)) ∙ ap (λ l. ratingOver m moved (eachOnce l)) e
+rating-cong n m starts moved e f = ratingOver-cong n m starts moved f (counted n) ∙ ap (ratingOver m moved) e
 
--- ---- over all trips
+-- ---- over all trips, for any stops that are served
+
+module _ {n : Net} (valid : Valid n) (stops : List Counted) (served : (s : Counted) → List·Memᴰ s stops → isServed (s .stop) (n .calls) ≡ true) where
+  pub ratingOver-is-rating : 0 < length stops → (starts : List ℤ)
+      → IsRatingOver n starts stops (ratingOver n starts stops .least) (ratingOver n starts stops .sum)
+  unfolding ratingOver ratingBy
+  ratingOver-is-rating some starts =
+      let gap : Counted → ℕ = λ s. stopGap n starts (s .stop) in
+      let (s, m, e) = leastOf-map-member gap stops some in
+      record {
+        gap = stopGap n starts;
+        is-gap = λ s m. stopGap-is-stop-gap n valid starts (s .stop) (served s m);
+        attained = (s, m, e);
+        is-least = λ s m. leastOf-le (map gap stops) (Memᴰ·map gap m);
+        is-sum = refl;
+      }
+
+IsRatingOver-least-le : {n : Net} {starts : List ℤ} {stops : List Counted} {l s m t : ℕ} → IsRatingOver n starts stops l s → IsRatingOver n starts stops m t
+    → l ≤ m
+IsRatingOver-least-le {l = l} r q =
+    let (s, m, f) = q .attained in
+    subst (λ v. l ≤ v) (IsStopGap-same (r .is-gap s m) (q .is-gap s m) ∙ f) (r .is-least s m)
+
+-- Two ratings over the same stops are one
+pub IsRatingOver-same : {n : Net} {starts : List ℤ} {stops : List Counted} {l s m t : ℕ} → IsRatingOver n starts stops l s → IsRatingOver n starts stops m t
+    → (l ≡ m) × (s ≡ t)
+IsRatingOver-same {stops = stops} r q = (
+  le-antisymm (IsRatingOver-least-le r q) (IsRatingOver-least-le q r),
+  r .is-sum
+      ∙ sumOf-same _ _ stops (λ s m. ap (λ (v : ℕ). s .weight * v) (IsStopGap-same (r .is-gap s m) (q .is-gap s m)))
+      ∙ sym (q .is-sum),
+)
+
+-- ---- the rating of a network
 
 pub rating-is-rating : (n : Net) → Valid n → (starts : List ℤ) → IsRating n starts (rating n starts .least) (rating n starts .sum)
-rating-is-rating n valid starts =
-    let (i, h, e) = leastOf-map-has (stopGap n starts) 0 (servedList n) (servedList-some valid) in
-    record {
-      gap = stopGap n starts;
-      is-gap = stopGap-is-stop-gap n valid starts;
-      attained = (getD (servedList n) i 0, servedList-all n i h, e ∙ sym (rating-least n starts));
-      is-least = λ stop served.
-          let (k, l, f) = servedList-has valid stop served in
-          let below = leastOf-map-le (stopGap n starts) 0 (servedList n) k l in
-          rw (rating-least n starts) (subst (λ s. leastOf (map (stopGap n starts) (servedList n)) ≤ stopGap n starts s) f below);
-      is-sum = rating-sum n starts;
-    }
-
-IsRating-least-le : {n : Net} {starts : List ℤ} {l s m t : ℕ} → IsRating n starts l s → IsRating n starts m t → l ≤ m
-IsRating-least-le {l = l} r q =
-    let (stop, e, f) = q .attained in
-    subst (λ v. l ≤ v) (IsStopGap-same (r .is-gap stop e) (q .is-gap stop e) ∙ f) (r .is-least stop e)
-
-IsRating-sum-same : {n : Net} {starts : List ℤ} {l s m t : ℕ} → IsRating n starts l s → IsRating n starts m t → s ≡ t
-IsRating-sum-same {n = n} r q = r .is-sum ∙ sumOf-cong 0 (r .gap) (q .gap) (servedList n) same ∙ sym (q .is-sum)
-  where
-    same : All 0 (λ stop. r .gap stop ≡ q .gap stop) (servedList n)
-    same i h = let e = servedList-all n i h in IsStopGap-same (r .is-gap _ e) (q .is-gap _ e)
+unfolding rating
+rating-is-rating n valid starts = ratingOver-is-rating valid (counted n) (λ s m. counted-served-stop n m) (counted-some valid) starts
 
 pub IsRating-unique : {n : Net} {starts : List ℤ} {least sum : ℕ} → Valid n → IsRating n starts least sum
     → (least ≡ rating n starts .least) × (sum ≡ rating n starts .sum)
-IsRating-unique {n} {starts} valid r =
-    let q = rating-is-rating n valid starts in
-    (le-antisymm (IsRating-least-le r q) (IsRating-least-le q r), IsRating-sum-same r q)
+IsRating-unique {n} {starts} valid r = IsRatingOver-same r (rating-is-rating n valid starts)

@@ -18,8 +18,8 @@ use Rattle.network.specs.declared.Call.{Call}
 use Rattle.network.specs.Lists.{pick, keep, below, sumOf, leastOf}
 use Rattle.network.specs.Network.{Net}
 use Rattle.network.specs.Valid.{noCall}
-use Rattle.network.specs.Rating.{periodOf, gapOfCalls, pairGaps, gapOfStop, Counted}
-use Rattle.network.specs.Scan.{lastAt, callsBefore, LeadsBack, leastFrom, ratingOfGaps, withStop}
+use Rattle.network.specs.Rating.{periodOf, gapOfCalls, pairGaps, gapOfStop, Counted, ratingBy}
+use Rattle.network.specs.Scan.{lastAt, callsBefore, LeadsBack, leastFrom, ratingSoFar, withStop}
 use Rattle.network.proofs.Laws.Members as members
 use Rattle.network.proofs.Laws.Tables.{sumOf-append}
 use Rattle.network.proofs.Laws.Divisor.{gcd-le-left}
@@ -327,16 +327,23 @@ leastOf-snoc x xs y =
     ∙ ap (λ (v : ℕ). min v y) (sym (leastOf-cons x xs))
 
 -- One stop more
-pub ratingOfGaps-snoc :
+pub ratingSoFar-snoc :
     (gap : ℕ → ℕ) (xs : List Counted) (s : Counted)
-    → ratingOfGaps gap (xs ++ (s ∷ [])) ≡ withStop (ratingOfGaps gap xs) (gap (s .stop)) (s .weight)
-unfolding ratingOfGaps withStop leastOf sumOf
-ratingOfGaps-snoc gap [] s = ap (λ (v : ℕ). record { some = true; least = gap (s .stop); sum = v }) (omega arith)
-ratingOfGaps-snoc gap (x ∷ xs) s =
+    → ratingSoFar gap (xs ++ (s ∷ [])) ≡ withStop (ratingSoFar gap xs) (gap (s .stop)) (s .weight)
+unfolding ratingSoFar ratingBy withStop leastOf sumOf
+ratingSoFar-snoc gap [] s = ap (λ (v : ℕ). record { some = true; least = gap (s .stop); sum = v }) (omega arith)
+ratingSoFar-snoc gap (x ∷ xs) s =
     ap₂ (λ (l v : ℕ). record { some = true; least = l; sum = v })
     (ap leastOf (map-append (λ (t : Counted). gap (t .stop)) (x ∷ xs) (s ∷ []))
     ∙ leastOf-snoc (gap (x .stop)) (map (λ (t : Counted). gap (t .stop)) xs) (gap (s .stop)))
     (sumOf-append (λ (t : Counted). t .weight * gap (t .stop)) (x ∷ xs) (s ∷ []) ∙ omega arith)
+
+-- At the end it is the rating, of which both numbers are 0 where no stop counts
+pub rating-of-so-far : (gap : ℕ → ℕ) (xs : List Counted)
+    → record { some = true; least = ratingSoFar gap xs .least; sum = ratingSoFar gap xs .sum } ≡ ratingBy gap xs
+unfolding ratingSoFar ratingBy leastOf sumOf
+rating-of-so-far gap [] = refl
+rating-of-so-far gap (x ∷ xs) = refl
 
 -- The stops below a bound that a row counts
 abbrev pub countedBelow : List ℕ → List ℕ → ℕ → List Counted
@@ -355,14 +362,14 @@ module _ (counts weights : List ℕ) (bound : ℕ) where
   pub rating-counted :
       (gap : ℕ → ℕ)
       → 0 < getD counts bound 0
-      → ratingOfGaps gap (countedBelow counts weights (bound + 1)) ≡ withStop (ratingOfGaps gap (countedBelow counts weights bound)) (gap bound) (getD weights bound 0)
+      → ratingSoFar gap (countedBelow counts weights (bound + 1)) ≡ withStop (ratingSoFar gap (countedBelow counts weights bound)) (gap bound) (getD weights bound 0)
   rating-counted gap h =
-      ap (ratingOfGaps gap) (counted-next true (lt-ltb 0 (getD counts bound 0) h))
-      ∙ ratingOfGaps-snoc gap (countedBelow counts weights bound) (record { stop = bound; weight = getD weights bound 0 })
+      ap (ratingSoFar gap) (counted-next true (lt-ltb 0 (getD counts bound 0) h))
+      ∙ ratingSoFar-snoc gap (countedBelow counts weights bound) (record { stop = bound; weight = getD weights bound 0 })
 
   -- one that doesn't
   pub rating-passed :
       (gap : ℕ → ℕ)
       → getD counts bound 0 ≤ 0
-      → ratingOfGaps gap (countedBelow counts weights (bound + 1)) ≡ ratingOfGaps gap (countedBelow counts weights bound)
-  rating-passed gap h = ap (ratingOfGaps gap) (counted-next false (le-ltb 0 (getD counts bound 0) h) ∙ append-nil _)
+      → ratingSoFar gap (countedBelow counts weights (bound + 1)) ≡ ratingSoFar gap (countedBelow counts weights bound)
+  rating-passed gap h = ap (ratingSoFar gap) (counted-next false (le-ltb 0 (getD counts bound 0) h) ∙ append-nil _)

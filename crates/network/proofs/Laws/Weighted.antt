@@ -2,8 +2,9 @@
 -- accepted and refused files alike, since a class has one gap. Assumes nothing.
 use Prim.Native.Nat.{ℕ, suc, _<_, _≤_}
 use mathlib.Core.Path.{_≡_, refl, sym, ap, _∙_}
-use mathlib.Core.Bool.{Bool, true, false}
-use mathlib.Core.List.{List, [], _∷_, map}
+use mathlib.Core.Bool.{Bool, true, false, and-eq-true-iff}
+use mathlib.Core.List.{List, [], _∷_, map, List·Memᴰ, Memᴰ·of-map}
+use mathlib.Core.Logic.{_↔_}
 use native.Mathlib.Omega.{arith}
 use lib.Dec.{eqb, ltb}
 use lib.IntN.{ℤ}
@@ -16,12 +17,14 @@ use Rattle.network.specs.Network.{Net, maxStop, callsAnywhere, isServed}
 use Rattle.network.specs.Reading.{Reading, accepted, refused, Outcome, values, refusal, readFile}
 use Rattle.network.specs.Valid.{IsBytes, noCall, Valid}
 use Rattle.network.specs.Rate.{ratingValues, onSheet, rateOutcome}
+use Rattle.network.specs.Rating.{Counted, IsRatingOver, IsRating, rating}
 use Rattle.network.specs.Scan.{countedStops}
 use Rattle.network.specs.Classes.{lowestAlike, isLowest, classRow, weightRow, classCount, lowestStops}
 use Rattle.network.specs.ClassCall.{rowsFit, classOutcome, classRowAfter, weightRowAfter, weightedRating, weightedOutcome}
 use Rattle.network.proofs.Laws.Lists.{countBelow-le}
 use Rattle.network.proofs.Laws.Membership.{any-of-member, member-of-any, place-of-member}
-use Rattle.network.proofs.Laws.Tables.{member-of-below, below-same}
+use Rattle.network.proofs.Laws.Tables.{below-of-member, member-of-below, below-same}
+use Rattle.network.proofs.Laws.Rating.{ratingOver-is-rating, IsRatingOver-same, rating-is-rating, IsRating-unique}
 use Rattle.network.proofs.Laws.Valid.{accepted-valid}
 use Rattle.network.proofs.Laws.Classes.{lowestAlike-le, lowestAlike-isLowest, isInClassOf, classRow-at, weightRow-at, lowestStops-rows, lowest-rating}
 
@@ -75,6 +78,27 @@ lowestStops-some {n} v =
     (lowestAlike-isLowest v (c .stop) served) in
     let (i, l, _) = place-of-member (below (isLowest n) (suc maxStop)) 0 lowest in
     rw (lowestStops-rows, length-map) (omega (arith, l))
+
+-- .. and a lowest stop is served
+lowestStops-served : (n : Net) (s : Counted) → List·Memᴰ s (lowestStops (classRow n) (weightRow n)) → isServed (s .stop) (n .calls) ≡ true
+unfolding isLowest
+lowestStops-served n s m =
+    let (i, k, e) = Memᴰ·of-map (λ (j : ℕ). record { stop = j; weight = getD (weightRow n) j 0 }) (below (isLowest n) (suc maxStop)) (rw lowestStops-rows at m) in
+    let is : i ≡ s .stop = ap (λ (c : Counted). c .stop) e in
+    rw (← is) (and-eq-true-iff _ _ .0 (below-of-member (isLowest n) (suc maxStop) k .1) .0)
+
+-- Over all trips: the lowest stops with their weights have the rating of the network, and no other
+pub lowest-is-rating : {n : Net} → Valid n → (starts : List ℤ) {least sum : ℕ}
+    → IsRatingOver n starts (lowestStops (classRow n) (weightRow n)) least sum ↔ IsRating n starts least sum
+lowest-is-rating {n} v starts = (
+  λ r. let (l, s) = IsRatingOver-same r lowest in rw (l, s) (rating-is-rating n v starts),
+  λ r. let (l, s) = IsRating-unique v r in rw (l, s) lowest,
+)
+  where
+    lowest : IsRatingOver n starts (lowestStops (classRow n) (weightRow n)) (rating n starts .least) (rating n starts .sum)
+    lowest =
+        rw (← lowest-rating n v starts)
+        (ratingOver-is-rating v (lowestStops (classRow n) (weightRow n)) (lowestStops-served n) (lowestStops-some v) starts)
 
 pub weight-small : (n : Net) (stop : ℕ) → stop < 64 → getD (weightRow n) stop 0 ≤ 64
 weight-small n stop h = rw (weightRow-at n stop 0 (omega arith)) (go (isLowest n stop))

@@ -15,16 +15,15 @@ use Rattle.network.specs.declared.Rating.{Rating}
 use Rattle.network.specs.Divisor.{gcd}
 use Rattle.network.specs.Lists.{pick, below, sumOf, leastOf}
 use Rattle.network.specs.Network.{Net, isServed, maxStop, maxPeriod}
-use Rattle.network.specs.Rating.{pairGaps, callsOfStop, eachOnce, servedList, noRating}
+use Rattle.network.specs.Rating.{pairGaps, callsOfStop, servedList, counted, ratingBy, noRating}
 use Rattle.network.specs.Reading.{accepted}
-use Rattle.network.specs.Scan.{leastFrom, lastAt, LeadsBack, countedStops, ratingOfGaps}
+use Rattle.network.specs.Scan.{leastFrom, lastAt, LeadsBack, countedStops}
 use Rattle.network.specs.Stored.{netOf, Sound}
 use Rattle.network.specs.Valid.{Valid, noCall}
-use Rattle.network.proofs.Laws.Gaps.{servedList-some}
-use Rattle.network.proofs.Laws.Gaps.{ratingOfGaps-same, counted-served}
+use Rattle.network.proofs.Laws.Gaps.{ratingBy-same, counted-of-member, counted-served, ratingBy-counted}
 use Rattle.network.proofs.Laws.Gaps.{getD-zeros}
 use Rattle.network.proofs.Laws.Stored.{held-lines, held-calls, held-period, held-call}
-use Rattle.network.proofs.Laws.Tables.{below-of-member, sumOf-append}
+use Rattle.network.proofs.Laws.Tables.{sumOf-append}
 use Rattle.search.specs.declared.Walk as code
 use Rattle.search.specs.Caps.{cap, placedCalls, upperValue, upperRating}
 use Rattle.search.specs.Held.{Represents, Laid, startsOf, stateOf, walkFrom, tryAt, withReciprocal}
@@ -34,7 +33,6 @@ use Rattle.search.specs.Walk.{State, atFirst, eachStart}
 use Rattle.search.proofs.Laws.CapScan.{cap-le}
 use Rattle.search.proofs.Laws.Layout.{keep-none, length-byLine-all}
 use Rattle.search.proofs.Laws.Linked.{byLine-all}
-use Rattle.search.proofs.Laws.Lowered.{ratingOfGaps-each-once}
 use Rattle.search.proofs.Laws.Tries.{walkFrom-next}
 
 -- ---- no line placed
@@ -57,14 +55,14 @@ sumOf-below-le f p (suc n) h = rw (sumOf-append f (below p n) (pick (p n) (n ∷
 
 module _ (n : Net) (valid : Valid n) where
   abbrev ratingOfCaps : Rating
-  ratingOfCaps = ratingOfGaps (cap n) (eachOnce (servedList n))
+  ratingOfCaps = ratingBy (cap n) (counted n)
 
   sum-of-caps-low : sumOf (cap n) (servedList n) ≤ 4194240
   unfolding servedList
   sum-of-caps-low = omega (arith, sumOf-below-le (cap n) (λ stop. isServed stop (n .calls)) (suc maxStop) (cap-le n valid))
 
   caps-rating-is : ratingOfCaps ≡ record { some = true; least = leastOf (map (cap n) (servedList n)); sum = sumOf (cap n) (servedList n) }
-  caps-rating-is = ratingOfGaps-each-once (cap n) (servedList n) (servedList-some valid)
+  caps-rating-is = ratingBy-counted (cap n) n
 
   -- the rating that the rows of caps and of served stops give
   pub caps-rating :
@@ -72,19 +70,17 @@ module _ (n : Net) (valid : Valid n) where
       → ((stop : ℕ) → stop < 64 → getD caps stop 0 ≡ cap n stop)
       → ((stop : ℕ) → stop < 64 → ltb 0 (getD served stop 0) ≡ isServed stop (n .calls))
       → ((stop : ℕ) → stop < 64 → getD weights stop 0 ≡ 1)
-      → ratingOfGaps (λ stop. getD caps stop 0) (countedStops served weights) ≡ ratingOfGaps (cap n) (eachOnce (servedList n))
-  unfolding eachOnce servedList
+      → ratingBy (λ stop. getD caps stop 0) (countedStops served weights) ≡ ratingBy (cap n) (counted n)
   caps-rating caps served weights h k e =
-      ap (ratingOfGaps (λ stop. getD caps stop 0)) (counted-served n served weights k e)
-      ∙ ratingOfGaps-same (λ stop. getD caps stop 0) (cap n) (λ s. 1) (servedList n)
-      (λ s m. h s (omega (arith, below-of-member (λ stop. isServed stop (n .calls)) (suc maxStop) m .0)))
+      ratingBy-same (λ stop. getD caps stop 0) (cap n) (countedStops served weights) (λ s m. h (s .stop) (counted-of-member served weights s m .0))
+      ∙ ap (ratingBy (cap n)) (counted-served n served weights k e)
 
   -- before the first try
   pub unplaced-represents :
       (caps : List ℕ) (r : Rating)
       → length caps ≡ 64
       → ((stop : ℕ) → stop < 64 → getD caps stop 0 ≡ cap n stop)
-      → r ≡ ratingOfGaps (cap n) (eachOnce (servedList n))
+      → r ≡ ratingBy (cap n) (counted n)
       → Represents n 0 (record { starts = replicate 16 0; values = caps; least = r .least; sum = r .sum })
   unfolding upperRating
   unplaced-represents caps r row h e =
@@ -97,7 +93,7 @@ module _ (n : Net) (valid : Valid n) where
         rating-of =
             ap (λ (q : Rating). record { some = true; least = q .least; sum = q .sum }) (e ∙ caps-rating-is)
             ∙ sym caps-rating-is
-            ∙ ap (λ gap. ratingOfGaps gap (eachOnce (servedList n))) (sym (fun-ext (upperValue-none n (cap n))));
+            ∙ ap (λ gap. ratingBy gap (counted n)) (sym (fun-ext (upperValue-none n (cap n))));
       }
 
 -- ---- the rows of the calls in line order

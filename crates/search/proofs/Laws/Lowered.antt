@@ -1,10 +1,9 @@
 -- A rating with the value of one stop lowered: its least is the least of what it was and the new value, and its sum has the new value in
 -- place of the old, since the stop is served and counts once. Assumes nothing.
-use Prim.Native.Nat.{ℕ, suc, _+_, _-_, _*_, _≤_, _<_, min}
+use Prim.Native.Nat.{ℕ, suc, _+_, _-_, _≤_, _<_, min}
 use mathlib.Core.Path.{_≡_, refl, sym, ap, ap₂, _∙_}
 use mathlib.Core.Bool.{Bool, true}
-use mathlib.Core.List.{List, [], _∷_, map, map-map}
-use native.Mathlib.Nat.{one-mul}
+use mathlib.Core.List.{List, map}
 use native.Mathlib.Decide.{ℕ-discrete}
 use native.Mathlib.Omega.{arith}
 use borrow.Author.Tests.{eq-eqb, ne-eqb}
@@ -14,10 +13,9 @@ use Rattle.network.specs.declared.Rating.{Rating}
 use Rattle.network.specs.Lists.{pick, below, sumOf, leastOf}
 use Rattle.network.specs.Network.{Net, maxStop, isServed}
 use Rattle.network.specs.Valid.{Valid}
-use Rattle.network.specs.Rating.{Counted, eachOnce, servedList}
-use Rattle.network.specs.Scan.{ratingOfGaps}
-use Rattle.network.proofs.Laws.Gaps.{Has, leastOf-map-has, leastOf-map-le, servedList-has, servedList-some}
-use Rattle.network.proofs.Laws.Tables.{sumOf-same, sumOf-add, sumOf-map, sumOf-below-only}
+use Rattle.network.specs.Rating.{servedList, counted, ratingBy}
+use Rattle.network.proofs.Laws.Gaps.{Has, leastOf-map-has, leastOf-map-le, servedList-has, ratingBy-counted}
+use Rattle.network.proofs.Laws.Tables.{sumOf-same, sumOf-add, sumOf-below-only}
 use Rattle.network.proofs.Laws.Gaps.{call-of-served}
 
 module _ (f g : ℕ → ℕ) (s : ℕ) (others : (t : ℕ) → (t ≡ s → ⊥) → g t ≡ f t) where
@@ -58,19 +56,7 @@ module _ (f g : ℕ → ℕ) (s : ℕ) (others : (t : ℕ) → (t ≡ s → ⊥)
       between t (yes d) = omega (arith, ap f d, ap g d)
       between t (no d) = omega (arith, others t d)
 
--- ---- the rating over stops that each count once
-
-pub ratingOfGaps-each-once : (f : ℕ → ℕ) (xs : List ℕ) → 0 < length xs
-    → ratingOfGaps f (eachOnce xs) ≡ record { some = true; least = leastOf (map f xs); sum = sumOf f xs }
-unfolding ratingOfGaps eachOnce
-ratingOfGaps-each-once f [] h = absurd (omega arith)
-ratingOfGaps-each-once f (x ∷ xs) h =
-    ap₂ (λ (l v : ℕ). record { some = true; least = l; sum = v })
-    (ap leastOf (map-map (λ (t : Counted). f (t .stop)) once (x ∷ xs)))
-    (sumOf-map (λ (t : Counted). t .weight * f (t .stop)) once (x ∷ xs) ∙ sumOf-same _ f (x ∷ xs) (λ t m. one-mul (f t)))
-  where
-    once : ℕ → Counted
-    once t = record { stop = t; weight = 1 }
+-- ---- the rating over the stops that count, each once
 
 module _ (n : Net) (valid : Valid n) (f : ℕ → ℕ) (s : ℕ) (served : isServed s (n .calls) ≡ true) where
   sumOf-served-other : (g : ℕ → ℕ) → ((t : ℕ) → (t ≡ s → ⊥) → g t ≡ f t) → sumOf g (servedList n) + f s ≡ sumOf f (servedList n) + g s
@@ -80,29 +66,24 @@ module _ (n : Net) (valid : Valid n) (f : ℕ → ℕ) (s : ℕ) (served : isSer
       sumOf-one-other f g s others (λ stop. isServed stop (n .calls)) (suc maxStop)
       (omega (arith, valid .call-stop k (c .stated), c .at-stop)) served
 
-  ratingOfGaps-served : (v : ℕ → ℕ)
-      → ratingOfGaps v (eachOnce (servedList n))
-      ≡ record { some = true; least = leastOf (map v (servedList n)); sum = sumOf v (servedList n) }
-  ratingOfGaps-served v = ratingOfGaps-each-once v (servedList n) (servedList-some valid)
-
-  pub value-le-sum : f s ≤ ratingOfGaps f (eachOnce (servedList n)) .sum
+  pub value-le-sum : f s ≤ ratingBy f (counted n) .sum
   value-le-sum =
       let e = sumOf-served-other (λ t. pick (eqb t s) 0 (f t)) (λ t d. rw (ne-eqb t s d)) in
-      omega (arith, rw (eq-eqb s s refl) at e, ap (λ (r : Rating). r .sum) (ratingOfGaps-served f))
+      omega (arith, rw (eq-eqb s s refl) at e, ap (λ (r : Rating). r .sum) (ratingBy-counted f n))
 
   pub rating-lowered :
       (g : ℕ → ℕ)
       → ((t : ℕ) → (t ≡ s → ⊥) → g t ≡ f t)
       → g s ≤ f s
-      → ratingOfGaps g (eachOnce (servedList n))
+      → ratingBy g (counted n)
       ≡ record {
         some = true;
-        least = min (ratingOfGaps f (eachOnce (servedList n)) .least) (g s);
-        sum = (ratingOfGaps f (eachOnce (servedList n)) .sum + g s) - f s;
+        least = min (ratingBy f (counted n) .least) (g s);
+        sum = (ratingBy f (counted n) .sum + g s) - f s;
       }
   rating-lowered g others lower =
-      ratingOfGaps-served g
+      ratingBy-counted g n
       ∙ ap₂ (λ (l v : ℕ). record { some = true; least = l; sum = v })
       (leastOf-one-lower f g s others lower (servedList n) (servedList-has valid s served)
-      ∙ ap (λ (r : Rating). min (r .least) (g s)) (sym (ratingOfGaps-served f)))
-      (omega (arith, sumOf-served-other g others, ap (λ (r : Rating). r .sum) (ratingOfGaps-served f)))
+      ∙ ap (λ (r : Rating). min (r .least) (g s)) (sym (ratingBy-counted f n)))
+      (omega (arith, sumOf-served-other g others, ap (λ (r : Rating). r .sum) (ratingBy-counted f n)))

@@ -11,7 +11,7 @@ use lib.ListN.{length, drop}
 use Rattle.network.specs.declared.Rating.{Rating}
 use Rattle.network.specs.Network.{Net}
 use Rattle.network.specs.Valid.{Valid}
-use Rattle.network.specs.Rating.{IsRating, ratingOver, rating, isAbove}
+use Rattle.network.specs.Rating.{IsRating, ratingBy, ratingOver, rating, isAbove}
 use Rattle.network.proofs.Laws.Gaps.{All, rating-is-rating, IsRating-unique, below-of-not-isAbove}
 use Rattle.search.specs.Caps.{cap, upperRating}
 use Rattle.search.specs.Walk.{atFirst, mostTries}
@@ -67,13 +67,13 @@ module _ {n : Net} (valid : Valid n) (budget : ℕ) (some : searched n budget .b
   searched-rated : searched n budget .best ≡ rating n (searched n budget .starts)
   unfolding searched
   searched-rated =
-      let b = best-is-chosen (upperRating n (cap n)) budget (upperRating-some valid (cap n)) (startCounts (n .periods)) notAbove in
+      let b = best-is-chosen (upperRating n (cap n)) budget (upperRating-some n (cap n)) (startCounts (n .periods)) notAbove in
       b .rated some ∙ upper-full valid _ (Chosen-length (b .chosen some) ∙ length-startCounts (n .periods))
 
   pub searched-length : length (searched n budget .starts) ≡ length (n .periods)
   unfolding searched
   searched-length =
-      let b = best-is-chosen (upperRating n (cap n)) budget (upperRating-some valid (cap n)) (startCounts (n .periods)) notAbove in
+      let b = best-is-chosen (upperRating n (cap n)) budget (upperRating-some n (cap n)) (startCounts (n .periods)) notAbove in
       Chosen-length (b .chosen some) ∙ length-startCounts (n .periods)
 
   pub searched-rating : IsRating n (searched n budget .starts) (searched n budget .best .least) (searched n budget .best .sum)
@@ -84,7 +84,7 @@ module _ {n : Net} (valid : Valid n) (budget : ℕ) (ended : searched n budget .
   unfolding searched
   searched-some =
       let (starts, c) = Chosen-exists (startCounts (n .periods)) (startCounts-pos (n .periods) (valid .period-pos)) in
-      finished-has-best (upperRating n (cap n)) budget (upperRating-some valid (cap n)) (startCounts (n .periods))
+      finished-has-best (upperRating n (cap n)) budget (upperRating-some n (cap n)) (startCounts (n .periods))
       (λ placed tail c. upper-sound n (cap n) placed tail) ended starts c
 
   -- No starts are rated above it
@@ -93,13 +93,13 @@ module _ {n : Net} (valid : Valid n) (budget : ℕ) (ended : searched n budget .
   searched-none-above starts e =
       ap (λ (r : Rating). isAbove r (searched n budget .best))
       (sym (upper-full valid (reduced (n .periods) starts) (reduced-length valid starts e) ∙ reduced-rating valid starts e))
-      ∙ none-above-best (upperRating n (cap n)) budget (upperRating-some valid (cap n)) (startCounts (n .periods))
+      ∙ none-above-best (upperRating n (cap n)) budget (upperRating-some n (cap n)) (startCounts (n .periods))
       (λ placed tail c. upper-sound n (cap n) placed tail) ended (reduced (n .periods) starts)
       (chosen-of-tried _ _ (reduced-chosen valid starts e))
 
   pub searched-best : (starts : List ℤ) → length starts ≡ length (n .periods) → {least sum : ℕ} → IsRating n starts least sum
       → (least < searched n budget .best .least) ⊎ ((least ≡ searched n budget .best .least) × (sum ≤ searched n budget .best .sum))
-  unfolding rating ratingOver
+  unfolding rating ratingOver ratingBy
   searched-best starts e r =
       let (l, s) = IsRating-unique valid r in
       rw (l, s) (below-of-not-isAbove (rating n starts) (searched n budget .best) refl searched-some (searched-none-above starts e))

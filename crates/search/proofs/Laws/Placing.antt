@@ -15,8 +15,8 @@ use lib.Seq.{getD-set-same, getD-set-other, getD-take, length-take-le, take-leng
 use Rattle.network.specs.declared.Call.{Call}
 use Rattle.network.specs.declared.Rating.{Rating}
 use Rattle.network.specs.Network.{Net, isServed, maxPeriod}
-use Rattle.network.specs.Rating.{gapOfCalls, eachOnce, servedList, isAbove}
-use Rattle.network.specs.Scan.{leastFrom, callsBefore, ratingOfGaps}
+use Rattle.network.specs.Rating.{gapOfCalls, counted, ratingBy, isAbove}
+use Rattle.network.specs.Scan.{leastFrom, callsBefore}
 use Rattle.network.specs.Valid.{Valid, noCall}
 use Rattle.network.proofs.Laws.Lists.{take-set-next, any-take-found}
 use Rattle.network.proofs.Laws.Gaps.{leastFrom-le}
@@ -27,7 +27,7 @@ use Rattle.search.specs.Held.{startsOf, Represents}
 use Rattle.search.proofs.Laws.Layout.{byLine-line-lt, length-byLine-all, length-byLine-le}
 use Rattle.search.proofs.Laws.Linked.{byLine-all}
 use Rattle.search.proofs.Laws.Values.{value-hit, value-miss, value-falls, value-placed, value-local}
-use Rattle.search.proofs.Laws.Upper.{ratingOfGaps-not-above}
+use Rattle.search.proofs.Laws.Upper.{ratingBy-not-above}
 use Rattle.search.proofs.Laws.Walk.{not-above-transitive}
 use Rattle.search.proofs.Laws.Lowered.{value-le-sum, rating-lowered}
 
@@ -43,7 +43,7 @@ pub record Lowering (n : Net) (starts : List ℤ) (values : List ℕ) (least sum
   pub sum-low : sum ≤ 4194240
   pub rating-of :
       _≡_ {A = Rating} (record { some = true; least = least; sum = sum })
-      (ratingOfGaps (valueAfter n (cap n) starts (inOrder n) i) (eachOnce (servedList n)))
+      (ratingBy (valueAfter n (cap n) starts (inOrder n) i) (counted n))
 
 -- ---- one call more
 
@@ -108,9 +108,9 @@ module _
             _≡_ {A = Rating}
             (record {
               some = true;
-              least = min (ratingOfGaps (valueAfter n (cap n) starts (inOrder n) i) (eachOnce (servedList n)) .least) (valueAfter n (cap n) starts (inOrder n) (i + 1) stopHere);
+              least = min (ratingBy (valueAfter n (cap n) starts (inOrder n) i) (counted n) .least) (valueAfter n (cap n) starts (inOrder n) (i + 1) stopHere);
               sum =
-                  ratingOfGaps (valueAfter n (cap n) starts (inOrder n) i) (eachOnce (servedList n)) .sum + valueAfter n (cap n) starts (inOrder n) (i + 1) stopHere
+                  ratingBy (valueAfter n (cap n) starts (inOrder n) i) (counted n) .sum + valueAfter n (cap n) starts (inOrder n) (i + 1) stopHere
                   - valueAfter n (cap n) starts (inOrder n) i stopHere;
             })
             (record { some = true; least = min least value; sum = sum + value - old })
@@ -155,7 +155,7 @@ lowering-first n valid line start p h rep =
       row = rep .values-row;
       value-of = λ stop b s. rep .value-of stop b s ∙ same stop;
       sum-low = rep .sum-low;
-      rating-of = rep .rating-of ∙ ap (λ f. ratingOfGaps f (eachOnce (servedList n))) (fun-ext same);
+      rating-of = rep .rating-of ∙ ap (λ f. ratingBy f (counted n)) (fun-ext same);
     }
   where
     same : (stop : ℕ) → upperValue n (cap n) (startsOf line (p .starts)) stop
@@ -179,7 +179,7 @@ lowering-last n valid line starts values least sum h row low now =
       starts-low = low;
       value-of = λ stop b s. now .value-of stop b s ∙ sym (same stop);
       sum-low = now .sum-low;
-      rating-of = now .rating-of ∙ ap (λ f. ratingOfGaps f (eachOnce (servedList n))) (sym (fun-ext same));
+      rating-of = now .rating-of ∙ ap (λ f. ratingBy f (counted n)) (sym (fun-ext same));
     }
   where
     same : (stop : ℕ) → upperValue n (cap n) (startsOf (line + 1) starts) stop
@@ -200,7 +200,7 @@ pub given-up :
 unfolding upperRating
 given-up n valid line start p h rep values least sum i now l best short =
     not-above-transitive _ _ best
-    (ap₂ isAbove at-end (now .rating-of) ∙ ratingOfGaps-not-above (after end) (after i) falls (eachOnce (servedList n)))
+    (ap₂ isAbove at-end (now .rating-of) ∙ ratingBy-not-above (after end) (after i) falls (counted n))
     short
   where
     starts : List ℕ
@@ -215,10 +215,10 @@ given-up n valid line start p h rep values least sum i now l best short =
     in-row : line < length (p .starts)
     in-row = omega (arith, rep .starts-row, valid .lines)
 
-    at-end : upperRating n (cap n) (startsOf line (p .starts) ++ (pos start ∷ [])) ≡ ratingOfGaps (after end) (eachOnce (servedList n))
+    at-end : upperRating n (cap n) (startsOf line (p .starts) ++ (pos start ∷ [])) ≡ ratingBy (after end) (counted n)
     at-end =
         ap (upperRating n (cap n)) (sym (startsOf-next (p .starts) line start in-row))
-        ∙ ap (λ f. ratingOfGaps f (eachOnce (servedList n)))
+        ∙ ap (λ f. ratingBy f (counted n))
         (fun-ext (value-of-prefix n valid (line + 1) starts starts (omega arith) (omega (arith, in-row, length-set (p .starts) line start)) (λ j b. refl)))
 
     falls : (stop : ℕ) → after end stop ≤ after i stop

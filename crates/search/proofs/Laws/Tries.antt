@@ -17,7 +17,7 @@ use Rattle.network.specs.Valid.{Valid}
 use Rattle.network.proofs.Laws.Lists.{zero-ne-one}
 use Rattle.search.specs.declared.Walk as code
 use Rattle.search.specs.Caps.{cap, upperRating}
-use Rattle.search.specs.Walk.{State, counted, stop, becomesBest, unless, stopIf, oneTry, eachStart, walk}
+use Rattle.search.specs.Walk.{State, tryMade, stop, becomesBest, unless, stopIf, oneTry, eachStart, walk}
 use Rattle.search.specs.Search.{startCounts, notAbove}
 use Rattle.search.specs.Held.{startsOf, stateOf, walkFrom, tryAt, CanTry, CanPlace, PlacedMore, GivenUp}
 use Rattle.search.specs.declared.Placed.{Placed}
@@ -89,12 +89,12 @@ module _ (n : Net) (budget : ℕ) where
       more = record { tries = w .tries + 1; stopped = w .stopped; best = w .best; starts = w .starts }
 
       pub try-dropped : isAbove upper (w .best) ≡ false → stateOf n more ≡ tryAt n budget k placed x (stateOf n w)
-      unfolding tryAt oneTry stateOf unless stopIf counted notAbove
+      unfolding tryAt oneTry stateOf unless stopIf tryMade notAbove
       try-dropped f = rw (e, ne-eqb (w .tries) budget b, f) refl
 
       pub try-onward : isAbove upper (w .best) ≡ true
           → walkFrom n budget (suc k) (placed ++ (pos x ∷ [])) (stateOf n more) ≡ tryAt n budget k placed x (stateOf n w)
-      unfolding tryAt oneTry stateOf unless stopIf counted notAbove
+      unfolding tryAt oneTry stateOf unless stopIf tryMade notAbove
       try-onward f = rw (e, ne-eqb (w .tries) budget b, f) refl
 
       -- on the last line

@@ -18,11 +18,11 @@ use Rattle.network.specs.Network.{Net}
 use Rattle.network.specs.Valid.{noCall, Valid}
 use Rattle.network.specs.Gap.{gapOf}
 use Rattle.network.specs.Rating.{arrivalOf, periodOf, gapOfCalls, pairGaps, gapOfStop, callsOfStop, stopGap}
-use Rattle.network.specs.Rating.{Counted, eachOnce, servedList, ratingOver, rating, isAbove}
-use Rattle.network.specs.Scan.{leastFrom, ratingOfGaps}
+use Rattle.network.specs.Rating.{Counted, counted, ratingBy, ratingOver, rating, isAbove}
+use Rattle.network.specs.Scan.{leastFrom}
 use Rattle.network.proofs.Laws.Members.{All, AllPairs, all-tail, keep-pairs, keep-has-pair}
-use Rattle.network.proofs.Laws.Gaps.{gapOfStop-le-pair, gapOfStop-attained, leastOf-cons, leastOf-leastFrom, leastFrom-le, servedList-some}
-use Rattle.network.proofs.Laws.Gaps.{Above, above-of-isAbove, none-is-not-above}
+use Rattle.network.proofs.Laws.Gaps.{gapOfStop-le-pair, gapOfStop-attained, leastOf-cons, leastOf-leastFrom, leastFrom-le}
+use Rattle.network.proofs.Laws.Gaps.{Above, above-of-isAbove}
 use Rattle.search.specs.Caps.{capOfCalls, cap, placedCalls, upperValue, upperRating}
 use Rattle.search.proofs.Laws.Caps.{callsOfStop-stated, cap-sound}
 
@@ -115,27 +115,21 @@ module _ {A : Type 0} (f g : A → ℕ) (h : (x : A) → f x ≤ g x) where
   sumOf-le (x ∷ xs) = omega (arith, h x, sumOf-le xs)
 
 -- Where no gap is larger, the rating is not above
-pub ratingOfGaps-not-above : (f g : ℕ → ℕ) → ((stop : ℕ) → f stop ≤ g stop) → (counted : List Counted)
-    → isAbove (ratingOfGaps f counted) (ratingOfGaps g counted) ≡ false
-unfolding ratingOfGaps
-ratingOfGaps-not-above f g h [] = none-is-not-above _
-ratingOfGaps-not-above f g h (s ∷ rest) =
-    not-above-of-le _ _ refl refl (leastOf-map-le-map (λ t. f (t .stop)) (λ t. g (t .stop)) (λ t. h (t .stop)) (s ∷ rest))
-    (sumOf-le (λ t. t .weight * f (t .stop)) (λ t. t .weight * g (t .stop)) (λ t. mul-le-mul-left (t .weight) (h (t .stop))) (s ∷ rest))
+pub ratingBy-not-above : (f g : ℕ → ℕ) → ((stop : ℕ) → f stop ≤ g stop) → (stops : List Counted) → isAbove (ratingBy f stops) (ratingBy g stops) ≡ false
+unfolding ratingBy
+ratingBy-not-above f g h stops =
+    not-above-of-le _ _ refl refl (leastOf-map-le-map (λ t. f (t .stop)) (λ t. g (t .stop)) (λ t. h (t .stop)) stops)
+    (sumOf-le (λ t. t .weight * f (t .stop)) (λ t. t .weight * g (t .stop)) (λ t. mul-le-mul-left (t .weight) (h (t .stop))) stops)
 
 -- The upper rating of a partial timetable is an upper bound of those of all that go on from it
 pub upper-sound : (n : Net) (caps : ℕ → ℕ) (placed tail : List ℤ)
     → isAbove (upperRating n caps (placed ++ tail)) (upperRating n caps placed) ≡ false
 unfolding upperRating
-upper-sound n caps placed tail = ratingOfGaps-not-above _ _ (upperValue-append n placed tail caps) (eachOnce (servedList n))
+upper-sound n caps placed tail = ratingBy-not-above _ _ (upperValue-append n placed tail caps) (counted n)
 
-pub upperRating-some : {n : Net} → Valid n → (caps : ℕ → ℕ) (starts : List ℤ) → upperRating n caps starts .some ≡ true
-unfolding upperRating eachOnce ratingOfGaps
-upperRating-some {n} valid caps starts = go (servedList n) (servedList-some valid)
-  where
-    go : (stops : List ℕ) → 0 < length stops → ratingOfGaps (upperValue n caps starts) (eachOnce stops) .some ≡ true
-    go [] h = absurd (omega arith)
-    go (s ∷ stops) h = refl
+pub upperRating-some : (n : Net) (caps : ℕ → ℕ) (starts : List ℤ) → upperRating n caps starts .some ≡ true
+unfolding upperRating ratingBy
+upperRating-some n caps starts = refl
 
 -- ---- all lines placed
 
@@ -162,10 +156,5 @@ module _ {n : Net} (valid : Valid n) (starts : List ℤ) (full : length starts �
       ∙ leastFrom-cap n starts (callsOfStop n stop) (cap-sound valid starts stop)
 
   pub upper-full : upperRating n (cap n) starts ≡ rating n starts
-  unfolding upperRating rating eachOnce ratingOfGaps ratingOver
-  upper-full = go (servedList n) (servedList-some valid)
-    where
-      go : (stops : List ℕ) → 0 < length stops
-          → ratingOfGaps (upperValue n (cap n) starts) (eachOnce stops) ≡ ratingOver n starts (eachOnce stops)
-      go [] h = absurd (omega arith)
-      go (s ∷ stops) h = ap (λ gap. ratingOfGaps gap (eachOnce (s ∷ stops))) (fun-ext upperValue-full)
+  unfolding upperRating rating ratingOver
+  upper-full = ap (λ gap. ratingBy gap (counted n)) (fun-ext upperValue-full)

@@ -16,7 +16,7 @@ use Rattle.network.specs.Rating.{isAbove}
 use Rattle.network.proofs.Laws.Lists.{zero-ne-one}
 use Rattle.network.proofs.Laws.Gaps.{All, Above, above-of-isAbove, below-of-not-isAbove}
 use Rattle.network.proofs.Laws.Gaps.{isAbove-none, isAbove-irreflexive, isAbove-transitive}
-use Rattle.search.specs.Walk.{State, atFirst, counted, stop, becomesBest, unless, stopIf, oneTry, eachStart, walk, mostTries}
+use Rattle.search.specs.Walk.{State, atFirst, tryMade, stop, becomesBest, unless, stopIf, oneTry, eachStart, walk, mostTries}
 use Rattle.search.specs.Search.{notAbove}
 
 -- One start for each line that is left, below the number it is tried at
@@ -75,14 +75,14 @@ stopIf-cases Q false step s f g = g refl
 pub oneTry-cases : (Q : State → Type 0) (budget : ℕ) (dropped : Rating → Bool) (onward : State → State) (s : State)
     → (s .stopped ≡ true → Q s)
     → (s .stopped ≡ false → s .tries ≡ budget → Q (stop s))
-    → (s .stopped ≡ false → (s .tries ≡ budget → ⊥) → dropped (s .best) ≡ true → Q (counted s))
-    → (s .stopped ≡ false → (s .tries ≡ budget → ⊥) → dropped (s .best) ≡ false → Q (onward (counted s)))
+    → (s .stopped ≡ false → (s .tries ≡ budget → ⊥) → dropped (s .best) ≡ true → Q (tryMade s))
+    → (s .stopped ≡ false → (s .tries ≡ budget → ⊥) → dropped (s .best) ≡ false → Q (onward (tryMade s)))
     → Q (oneTry budget dropped onward s)
 unfolding oneTry
 oneTry-cases Q budget dropped onward s f g h k =
     unless-cases Q (s .stopped) _ s f (λ e.
     stopIf-cases Q (eqb (s .tries) budget) _ s (λ e′. g e (eqb-true _ _ e′)) (λ e′.
-    unless-cases Q (dropped (s .best)) onward (counted s) (h e (eqb-false _ _ e′)) (k e (eqb-false _ _ e′))))
+    unless-cases Q (dropped (s .best)) onward (tryMade s) (h e (eqb-false _ _ e′)) (k e (eqb-false _ _ e′))))
 
 -- ---- a stopped walk stays as it is
 
@@ -115,7 +115,7 @@ record Within (budget most : ℕ) (s t : State) : Type 0 where
 module _ (upper : List ℤ → Rating) (drops : Rating → Rating → Bool) (budget : ℕ) where
   walk-within : (counts : List ℕ) (placed : List ℤ) (s : State)
       → Within budget (mostTries counts) s (walk upper drops budget counts placed s)
-  unfolding walk mostTries becomesBest stop counted
+  unfolding walk mostTries becomesBest stop tryMade
   walk-within [] placed s = record { few = omega arith; enough = λ e h. e }
   walk-within (count ∷ rest) placed s =
       eachStart-holds _ (λ x. Within budget (x * (1 + mostTries rest)) s) count s
@@ -125,7 +125,7 @@ module _ (upper : List ℤ → Rating) (drops : Rating → Rating → Bool) (bud
       (λ e e′. record { few = omega arith; enough = λ f h. absurd (omega arith) })
       (λ e e′ d. record { few = omega arith; enough = λ f h. e })
       (λ e e′ d.
-      let v = walk-within rest (placed ++ (pos x ∷ [])) (counted t) in
+      let v = walk-within rest (placed ++ (pos x ∷ [])) (tryMade t) in
       record { few = omega (arith, v .few); enough = λ f h. v .enough e (omega arith) }))
 
   pub walk-tries-le : (counts : List ℕ) (placed : List ℤ) (s : State)
@@ -138,7 +138,7 @@ module _ (upper : List ℤ → Rating) (drops : Rating → Rating → Bool) (bud
 
   -- What a stop, a try that is made and a full choice keep, the walk keeps
   module _ (I : State → Type 0) (over : (s : State) → s .stopped ≡ false → s .tries ≡ budget → I s → I (stop s))
-      (made : (s : State) → s .stopped ≡ false → (s .tries ≡ budget → ⊥) → I s → I (counted s)) where
+      (made : (s : State) → s .stopped ≡ false → (s .tries ≡ budget → ⊥) → I s → I (tryMade s)) where
     pub walk-keeps : (counts : List ℕ) (placed : List ℤ)
         → ((tail : List ℤ) → Chosen counts tail → (s : State) → I s → I (becomesBest (upper (placed ++ tail)) (placed ++ tail) s))
         → (s : State) → I s → I (walk upper drops budget counts placed s)
@@ -148,18 +148,18 @@ module _ (upper : List ℤ → Rating) (drops : Rating → Rating → Bool) (bud
         eachStart-holds _ (λ x. I) count s i
         (λ x l t j. oneTry-cases I budget _ _ t (λ e. j) (λ e f. over t e f j) (λ e f d. made t e f j)
         (λ e f d. walk-keeps rest (placed ++ (pos x ∷ [])) (λ tail c. rw append-assoc (full (pos x ∷ tail) (next l c)))
-        (counted t) (made t e f j)))
+        (tryMade t) (made t e f j)))
 
   pub walk-tries-le-budget : (counts : List ℕ) (placed : List ℤ) (s : State) → s .tries ≤ budget
       → walk upper drops budget counts placed s .tries ≤ budget
-  unfolding becomesBest stop counted
+  unfolding becomesBest stop tryMade
   walk-tries-le-budget counts placed =
       walk-keeps (λ s. s .tries ≤ budget) (λ s e f h. h) (λ s e f h. omega arith) counts placed (λ tail c s h. h)
 
   -- A walk that ends stopped has made all its tries
   pub walk-stopped-at-budget : (counts : List ℕ) (placed : List ℤ) (s : State) → s .stopped ≡ false
       → walk upper drops budget counts placed s .stopped ≡ true → walk upper drops budget counts placed s .tries ≡ budget
-  unfolding becomesBest stop counted
+  unfolding becomesBest stop tryMade
   walk-stopped-at-budget counts placed s e =
       walk-keeps (λ t. t .stopped ≡ true → t .tries ≡ budget) (λ t f g h f′. g) (λ t f g h f′. absurd (zero-ne-one (cc))) counts placed
       (λ tail c t h. h) s (λ f. absurd (zero-ne-one (cc)))
@@ -240,7 +240,7 @@ record Covered (upper : List ℤ → Rating) (counts : List ℕ) (placed : List 
 module _ (upper : List ℤ → Rating) (budget : ℕ) (all : List ℕ) (sound : IsUpper upper all) where
   walk-covers : (counts : List ℕ) (placed : List ℤ) → ((tail : List ℤ) → Chosen counts tail → Chosen all (placed ++ tail))
       → (s : State) → isAbove (upper placed) (s .best) ≡ true → Covered upper counts placed s (walk upper notAbove budget counts placed s)
-  unfolding walk notAbove becomesBest stop counted
+  unfolding walk notAbove becomesBest stop tryMade
   walk-covers [] placed fits s above =
       record {
         kept = λ r h. not-above-of-above r (upper placed) (s .best) above h;
@@ -263,8 +263,8 @@ module _ (upper : List ℤ → Rating) (budget : ℕ) (all : List ℕ) (sound : 
             (λ tail c. not-above-transitive _ _ _ (sound placed′ tail (fits′ tail c)) (not-true _ d));
       })
       (λ e e′ d.
-      let u : State = walk upper notAbove budget rest placed′ (counted t) in
-      let v : Covered upper rest placed′ (counted t) u = walk-covers rest placed′ fits′ (counted t) (not-false _ d) in
+      let u : State = walk upper notAbove budget rest placed′ (tryMade t) in
+      let v : Covered upper rest placed′ (tryMade t) u = walk-covers rest placed′ fits′ (tryMade t) (not-false _ d) in
       record {
         kept = λ r h. v .kept r (w .kept r h);
         met = λ f. completions-next (NotAbove upper (u .best)) placed x rest (λ tail c. v .kept _ (w .met e tail c)) (v .met f);
@@ -290,7 +290,7 @@ some-of-descending budget lines count t h f = go (t .best .some) (λ n. f n .0)
 module _ (upper : List ℤ → Rating) (budget : ℕ) (rates : (starts : List ℤ) → upper starts .some ≡ true) where
   walk-descends : (counts : List ℕ) → All 0 (λ count. 0 < count) counts → (placed : List ℤ) (s : State)
       → Descending budget (length counts) 0 s → walk upper notAbove budget counts placed s .best .some ≡ true
-  unfolding walk notAbove becomesBest stop counted
+  unfolding walk notAbove becomesBest stop tryMade
   walk-descends [] positive placed s w = rates placed
   walk-descends (count ∷ rest) positive placed s w =
       some-of-descending budget _ count (walk upper notAbove budget (count ∷ rest) placed s) (positive 0 (zero-lt-suc _))
@@ -302,7 +302,7 @@ module _ (upper : List ℤ → Rating) (budget : ℕ) (rates : (starts : List �
       (λ e f d n.
       let placed′ : List ℤ = placed ++ (pos x ∷ []) in
       let below : All 0 (λ c. 0 < c) rest = λ i h. positive (suc i) (omega arith) in
-      absurd (zero-ne-one (cc (walk-descends rest below placed′ (counted t) (λ n′. (refl, e, omega (arith, v n′ .2)))))))))
+      absurd (zero-ne-one (cc (walk-descends rest below placed′ (tryMade t) (λ n′. (refl, e, omega (arith, v n′ .2)))))))))
 
   module _ (counts : List ℕ) where
     -- The first tries reach a full timetable
@@ -313,7 +313,7 @@ module _ (upper : List ℤ → Rating) (budget : ℕ) (rates : (starts : List �
     -- Whether the walk stopped or not, and by whatever test tries are dropped, its best is a choice
     pub best-is-chosen : (drops : Rating → Rating → Bool)
         → BestIsChosen upper counts (walk upper drops budget counts [] atFirst .best) (walk upper drops budget counts [] atFirst .starts)
-    unfolding becomesBest stop counted
+    unfolding becomesBest stop tryMade
     best-is-chosen drops =
         walk-keeps upper drops budget (λ s. BestIsChosen upper counts (s .best) (s .starts)) (λ s e f b. b) (λ s e f b. b) counts []
         (λ tail c s b. record { rated = λ e. refl; chosen = λ e. c; none = λ e. absurd (zero-ne-one (cc (rates tail))) }) atFirst

@@ -1,11 +1,11 @@
 -- `network::classes::weighted_rating` meets its contract: the rows give the rating over the lowest stops with their weights. Assumes nothing.
-use Prim.Native.Nat.{ℕ, _<_}
+use Prim.Native.Nat.{ℕ}
 use mathlib.Core.Path.{_≡_, ap, _∙_}
 use mathlib.Core.List.{List}
 use native.Mathlib.Omega.{arith}
 use borrow.Author.Needs.{needs}
 use lib.Dec.{eqb}
-use lib.ListN.{length, getD}
+use lib.ListN.{getD}
 use Rattle.network.specs.Network.{Net}
 use Rattle.network.specs.Rating.{ratingOver}
 use Rattle.network.specs.Scan.{countedStops}
@@ -13,7 +13,7 @@ use Rattle.network.specs.Stored.{netOf}
 use Rattle.network.specs.Classes.{classRow, weightRow, lowestStops}
 use Rattle.network.specs.ClassCall.{weightedRating}
 use Rattle.network.proofs.Laws.Rate.{rating-of-rows, stopGap-le-maxPeriod}
-use Rattle.network.proofs.Laws.Weighted.{counted-lowest, lowestStops-some, weight-small}
+use Rattle.network.proofs.Laws.Weighted.{counted-lowest, weight-small}
 use Rattle.network.proofs.classes.weighted_rating.Statement.{statement}
 use Rattle.network.proofs.classes.weighted_rating.Tie as tie
 
@@ -39,9 +39,6 @@ module _ (c : tie.After-lowest-row) where
       ap (countedStops (c .lowest-row .result)) weights-are
       ∙ counted-lowest net (c .lowest-row .result)
       (λ stop h. c .lowest-row .ensures stop h ∙ ap (λ (l : List ℕ). eqb (getD l stop 0) stop) (filled .fill-rows .ensures .1 .0))
-
-  some-counted : 0 < length (countedStops (c .lowest-row .result) weights)
-  some-counted = rw counted (lowestStops-some (start .pre .1))
 
 slice-aggregate-fill-rows : tie.Need-slice-aggregate-fill-rows
 slice-aggregate-fill-rows c = search needs
@@ -72,7 +69,7 @@ returns c =
     let g = c .before .before .before .before in
     let r = g .before .before in
     c .rating-over .ensures
-    ∙ rating-of-rows (net r) (start r .args .sheet .now) (g .stop-gaps .result) (r .lowest-row .result) (weights r) (g .stop-gaps .ensures) (some-counted r)
+    ∙ rating-of-rows (net r) (start r .args .sheet .now) (g .stop-gaps .result) (r .lowest-row .result) (weights r) (g .stop-gaps .ensures)
     ∙ ap (ratingOver (net r) (start r .args .sheet .now)) (counted r)
 
 pub weighted-rating-spec : {M : Type 1} → statement M

@@ -3,12 +3,11 @@ use Prim.Native.Nat.{ℕ, _<_}
 use mathlib.Core.Path.{_≡_, ap, _∙_}
 use native.Mathlib.Omega.{arith}
 use borrow.Author.Needs.{needs}
-use lib.ListN.{length, getD, replicate, getD-replicate, length-map}
-use Rattle.network.specs.Rating.{ratingOver, rating, eachOnce, servedList}
+use lib.ListN.{getD, replicate, getD-replicate}
+use Rattle.network.specs.Rating.{counted, ratingOver, rating}
 use Rattle.network.specs.Scan.{countedStops}
 use Rattle.network.specs.Stored.{netOf}
 use Rattle.network.proofs.Laws.Rate.{rating-of-rows, counted-served, stopGap-le-maxPeriod}
-use Rattle.network.proofs.Laws.Rating.{servedList-some}
 use Rattle.network.proofs.rate.sheet_rating.Statement.{statement}
 use Rattle.network.proofs.rate.sheet_rating.Tie as tie
 
@@ -16,12 +15,8 @@ ones-are : (stop : ℕ) → stop < 64 → _≡_ {A = ℕ} (getD (replicate 64 1)
 ones-are stop h = getD-replicate 64 stop 1 0 h
 
 -- The served stops are counted, each once
-counted : (c : tie.After-served-row) → countedStops (c .served-row .result) (replicate 64 1) ≡ eachOnce (servedList (netOf (c .before .args .network)))
-counted c = counted-served (netOf (c .before .args .network)) (c .served-row .result) (replicate 64 1) (c .served-row .ensures) ones-are
-
-some-counted : (c : tie.After-served-row) → 0 < length (countedStops (c .served-row .result) (replicate 64 1))
-unfolding eachOnce
-some-counted c = rw (counted c, length-map) (servedList-some (c .before .pre .1))
+each-once : (c : tie.After-served-row) → countedStops (c .served-row .result) (replicate 64 1) ≡ counted (netOf (c .before .args .network))
+each-once c = counted-served (netOf (c .before .args .network)) (c .served-row .result) (replicate 64 1) (c .served-row .ensures) ones-are
 
 served-row-requires : tie.Need-served-row-requires
 served-row-requires c κs = search needs
@@ -43,8 +38,7 @@ returns c =
     c .rating-over .ensures
     ∙ rating-of-rows n (r .before .args .sheet .now) (c .before .before .before .before .stop-gaps .result) (r .served-row .result) (replicate 64 1)
     (c .before .before .before .before .stop-gaps .ensures)
-    (some-counted r)
-    ∙ ap (ratingOver n (r .before .args .sheet .now)) (counted r)
+    ∙ ap (ratingOver n (r .before .args .sheet .now)) (each-once r)
 
 pub sheet-rating-spec : {M : Type 1} → statement M
 sheet-rating-spec =

@@ -1,6 +1,7 @@
 -- `network::ratings::rating_over` meets its contract. The loop's invariant: the rating is that of the stops passed, and its sum is small.
 -- Assumes nothing.
 use Prim.Native.Nat.{ℕ, _+_, _*_, _-_, _<_, _≤_}
+use mathlib.Core.Bool.{true}
 use mathlib.Core.Path.{_≡_, refl, sym, ap, _∙_}
 use mathlib.Core.Logic.{⊎-elim}
 use native.Mathlib.Nat.{mul-le-mul}
@@ -8,15 +9,15 @@ use native.Mathlib.Omega.{arith}
 use lib.ListN.{getD}
 use Rattle.network.specs.declared.Rating.{Rating}
 use Rattle.network.specs.Lists.{below}
-use Rattle.network.specs.Scan.{ratingOfGaps, countedStops, withStop}
-use Rattle.network.proofs.Laws.Scan.{countedBelow, rating-counted, rating-passed}
+use Rattle.network.specs.Scan.{ratingSoFar, countedStops, withStop}
+use Rattle.network.proofs.Laws.Scan.{countedBelow, rating-counted, rating-passed, rating-of-so-far}
 use Rattle.network.proofs.ratings.rating_over.Statement.{statement}
 use Rattle.network.proofs.ratings.rating_over.Tie as tie
 
 abbrev Inv-loop : tie.InvT-loop
 Inv-loop gaps counts weights rating₀ stop₀ rating stop =
     (stop ≤ 64)
-    × (rating ≡ ratingOfGaps (λ s. getD gaps s 0) (countedBelow counts weights stop))
+    × (rating ≡ ratingSoFar (λ s. getD gaps s 0) (countedBelow counts weights stop))
     × (rating .sum ≤ stop * 2880000)
 
 abbrev μ-loop : tie.MeasureT-loop
@@ -35,7 +36,7 @@ adds-little :
 adds-little s stop h k = mul-le-mul (s .pre stop h k .1) (s .pre stop h k .0)
 
 loop-holds : tie.Need-loop-holds Inv-loop μ-loop
-unfolding ratingOfGaps below
+unfolding ratingSoFar below
 loop-holds c = (omega arith, refl, omega arith)
 
 element-copy-out-if1 : tie.Need-element-copy-out-if1 Inv-loop μ-loop
@@ -99,9 +100,11 @@ returns : tie.Need-returns Inv-loop μ-loop
 unfolding countedStops
 returns c =
     let s = c .before .before in
-    c .before .loop .inv .1
-    ∙ ap (λ (k : ℕ). ratingOfGaps (λ j. getD (s .args .gaps .now) j 0) (countedBelow (s .args .counts .now) (s .args .weights .now) k))
-    (let e : c .before .loop .stop ≡ 64 = omega arith in e)
+    let at-end : c .before .loop .stop ≡ 64 = omega arith in
+    ap (λ (r : Rating). record { some = true; least = r .least; sum = r .sum })
+    (c .before .loop .inv .1
+    ∙ ap (λ (k : ℕ). ratingSoFar (λ j. getD (s .args .gaps .now) j 0) (countedBelow (s .args .counts .now) (s .args .weights .now) k)) at-end)
+    ∙ rating-of-so-far _ _
 
 pub rating-over-spec : {M : Type 1} → statement M
 rating-over-spec =
