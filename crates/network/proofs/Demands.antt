@@ -3,7 +3,7 @@
 use Prim.Native.Nat.{ℕ, _≤_, _<_}
 use mathlib.Core.Path.{_≡_, refl, sym, ap₂, _∙_}
 use mathlib.Core.Bool.{true, false}
-use mathlib.Core.List.{List, [], _∷_}
+use mathlib.Core.List.{List, [], _∷_, List·Memᴰ}
 use mathlib.Core.Logic.{_↔_}
 use borrow.Fn.World.{ArgsD, ResD}
 use borrow.Fn.Kinds.{endedOf}
@@ -19,7 +19,8 @@ use Rattle.network.specs.Reading.{Outcome, values, refusal, readFile, ac
 use Rattle.network.specs.Gives.{Gives}
 use Rattle.network.specs.Refusals.{Refuses, Unfit, Not64, Demand1}
 use Rattle.network.specs.Valid.{Valid}
-use Rattle.network.specs.Rating.{IsRatingOver, IsRating, rating, ratingOver}
+use Rattle.network.specs.Rating.{Counted, counted, IsRatingOver, IsRating, rating, ratingOver}
+use Rattle.network.specs.ByLines.{IsStopGapOfLines}
 use Rattle.network.specs.Rate.{rateAnswer, rateOutcome}
 use Rattle.network.specs.Classes.{Alike, unserved, classRow, weightRow, classCount, lowestStops}
 use Rattle.network.specs.ClassCall.{classAnswer, weightedRating, weightedOutcome}
@@ -27,6 +28,7 @@ use Rattle.network.proofs.Laws.Valid.{accepted-valid, cycle-multiple, c
 use Rattle.network.proofs.Laws.Reading.{gives-what-is-read, readFile-gives}
 use Rattle.network.proofs.Laws.Refusals.{read-refuses, read-refuses-only, sheet-refuses, sheet-refuses-only, sheet-answers}
 use Rattle.network.proofs.Laws.Refusals.{class-refuses, class-refuses-only, classes-as-found, weights-as-found, class-answers}
+use Rattle.network.proofs.Laws.ByLines.{stop-gap-by-lines}
 use Rattle.network.proofs.Laws.Rating.{rating-is-rating, IsRating-unique}
 use Rattle.network.proofs.Laws.Ranges.{served-range, class-range, calls-some, least-range, sum-range}
 use Rattle.network.proofs.Laws.Classes.{length-classRow, length-weightRow, lowest-rating}
@@ -122,6 +124,8 @@ pub record RatedAs (n : Net) (sheet : List ℤ) (answer : Outcome) : Type 0 wher
   pub sum : ℕ
   pub answered : answer ≡ values (least ∷ sum ∷ [])
   pub is-rating : IsRating n sheet least sum
+  -- each stop's gap in document 01's own words: the least over its pairs of different lines, with one line only that line's period
+  pub by-lines : (s : Counted) → List·Memᴰ s (counted n) → IsStopGapOfLines n sheet (s .stop) (is-rating .gap (s .stop))
   pub only-rating : (l s : ℕ) → IsRating n sheet l s → answer ≡ values (l ∷ s ∷ [])
   pub ranges : (least ≤ maxPeriod) × (sum ≤ 92160)
 
@@ -132,6 +136,7 @@ rated-as {n} valid sheet =
       sum = rating n sheet .sum;
       answered = refl;
       is-rating = rating-is-rating n valid sheet;
+      by-lines = λ s m. stop-gap-by-lines valid .0 (rating-is-rating n valid sheet .is-gap s m);
       only-rating = λ l s q.
           let (e, f) = IsRating-unique valid q in ap₂ (λ (x y : ℕ). values (x ∷ y ∷ [])) (sym e) (sym f);
       ranges = (least-range valid sheet, sum-range valid sheet);

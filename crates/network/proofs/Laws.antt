@@ -16,6 +16,7 @@ pub mod Latest
 pub mod Gap
 pub mod Pairs
 pub mod StopGap
+pub mod ByLines
 pub mod Rating
 pub mod Starts
 pub mod Permuted

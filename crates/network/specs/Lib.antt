@@ -10,6 +10,7 @@ pub mod Valid
 pub mod Stored
 pub mod Gap
 pub mod Rating
+pub mod ByLines
 pub mod Classes
 pub mod Scan
 pub mod Rate

@@ -1,4 +1,4 @@
--- Document 01, "Gap and rating": the gap of two lines at a stop, the gap of a stop and the rating, over all trips of all lines (source 000,
+-- Document 01, "Gap and rating": the gap of two calls, the gap of a stop and the rating, over all trips of all lines (source 000,
 -- definitions 2.1.4 to 2.1.6); beside them the numbers computed by theorem 3.1.2; and the order of ratings (definition 2.4.1). A timetable is
 -- a list of starts, integers of any size, one for each line.
 use Prim.Native.Nat.{ℕ, suc, _*_, _<_, _≤_}
@@ -13,7 +13,7 @@ use Rattle.network.specs.declared.Rating.{Rating}
 use Rattle.network.specs.Lists.{pick, keep, below, sumOf, leastOf}
 use Rattle.network.specs.Network.{Net, maxStop, isServed}
 use Rattle.network.specs.Valid.{noCall}
-use Rattle.network.specs.Gap.{trip, distance, gapOf}
+use Rattle.network.specs.Gap.{IsGap, gapOf}
 
 -- One arrival of a call: its line's start plus its offset (equation 2.1.1)
 unfoldable pub arrivalOf : List ℤ → Call → ℤ
@@ -25,40 +25,36 @@ periodOf n c = getD (n .periods) (c .line) 0
 
 -- ---- Over all trips
 
--- The file has a call of the line at the stop: its `call`th
-pub record CallsThere (n : Net) (line stop call : ℕ) : Type 0 where
+-- The file's `call`th call is at the stop
+pub record CallsThere (n : Net) (stop call : ℕ) : Type 0 where
   pub stated : call < length (n .calls)
-  pub of-line : getD (n .calls) call noCall .line ≡ line
   pub at-stop : getD (n .calls) call noCall .stop ≡ stop
 
--- The line reaches the stop at that minute: at its start plus its offset there, plus some whole multiple of its period
-pub record Reaches (n : Net) (starts : List ℤ) (line stop : ℕ) (minute : ℤ) : Type 0 where
-  pub call : ℕ
-  pub there : CallsThere n line stop call
-  pub turn : ℤ
-  pub on-time : minute ≡ trip (arrivalOf starts (getD (n .calls) call noCall)) (getD (n .periods) line 0) turn
+-- The gap ("Sicherheitsabstand", safety distance) of two calls of the file: the smallest distance between a trip of the one and a trip of the
+-- other (definition 2.1.4)
+abbrev pub IsCallsGap : Net → List ℤ → ℕ → ℕ → ℕ → Type 0
+IsCallsGap n starts c d gap =
+    IsGap (arrivalOf starts (getD (n .calls) c noCall)) (periodOf n (getD (n .calls) c noCall)) (arrivalOf starts (getD (n .calls) d noCall))
+    (periodOf n (getD (n .calls) d noCall)) gap
 
--- The gap ("Sicherheitsabstand", safety distance) of two lines at a stop: the smallest distance between an arrival of one and an arrival
--- of the other (definition 2.1.4)
-pub record IsLinesGap (n : Net) (starts : List ℤ) (stop i j : ℕ) (gap : ℕ) : Type 0 where
-  pub attained : (x : ℤ) × (y : ℤ) × Reaches n starts i stop x × Reaches n starts j stop y × (distance x y ≡ gap)
-  pub least : (x y : ℤ) → Reaches n starts i stop x → Reaches n starts j stop y → gap ≤ distance x y
-
--- The gap of a stop (definition 2.1.5)
+-- The gap of a stop (definition 2.1.5). Its calls are of different lines, so that this is document 01's gap over pairs of different lines:
+-- specs/ByLines.antt has it in those words, and `stop-gap-by-lines` of proofs/Laws/ByLines.antt says that they agree
 pub data IsStopGap (n : Net) (starts : List ℤ) (stop : ℕ) : ℕ → Type 0 where
-  -- the least over its pairs of different lines
-  least-of-lines :
-      {gap : ℕ} (i j : ℕ)
-      → (i ≡ j → ⊥)
-      → IsLinesGap n starts stop i j gap
-      → ((k l v : ℕ) → (k ≡ l → ⊥) → IsLinesGap n starts stop k l v → gap ≤ v)
+  -- the least over its pairs of different calls
+  least-of-calls :
+      {gap : ℕ} (c d : ℕ)
+      → (c ≡ d → ⊥)
+      → CallsThere n stop c
+      → CallsThere n stop d
+      → IsCallsGap n starts c d gap
+      → ((e f v : ℕ) → (e ≡ f → ⊥) → CallsThere n stop e → CallsThere n stop f → IsCallsGap n starts e f v → gap ≤ v)
       → IsStopGap n starts stop gap
-  -- with one line only, that line's period
-  period-of-line :
-      (i : ℕ)
-      → ((call : ℕ) × CallsThere n i stop call)
-      → ((j call : ℕ) → CallsThere n j stop call → j ≡ i)
-      → IsStopGap n starts stop (getD (n .periods) i 0)
+  -- with one call only, its line's period
+  period-of-call :
+      (c : ℕ)
+      → CallsThere n stop c
+      → ((d : ℕ) → CallsThere n stop d → d ≡ c)
+      → IsStopGap n starts stop (periodOf n (getD (n .calls) c noCall))
 
 -- A stop that counts in a rating, and how often in its sum
 pub record Counted : Type 0 where

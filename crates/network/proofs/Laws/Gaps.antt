@@ -3,12 +3,12 @@
 -- two lines: theorem 3.1.2, and no two arrivals closer than the gap
 pub use Rattle.network.proofs.Laws.Gap.{theorem-3-1-2, IsGap-unique, gapOf-symmetric, gapOf-half}
 pub use Rattle.network.proofs.Laws.Gap.{residue-lt, residue-of-add, residue-eq-of-multiple, multiple-of-residue-eq}
-pub use Rattle.network.proofs.Laws.StopGap.{lines-gap-of-calls, IsLinesGap-unique, IsLinesGap-symmetric}
-pub use Rattle.network.proofs.Laws.StopGap.{never-closer, stopGap-le-calls}
+pub use Rattle.network.proofs.Laws.ByLines.{lines-gap-of-calls, IsLinesGap-unique, IsLinesGap-symmetric}
+pub use Rattle.network.proofs.Laws.ByLines.{never-closer, stop-gap-by-lines}
 -- the calls of a stop: its gap is the least over their pairs, at most half of any g; with one call, the period
 pub use Rattle.network.proofs.Laws.Pairs.{gapOfCalls-symmetric, gapOfCalls-half, IsPairGap, gapOfStop-le-pair, gapOfStop-attained}
 pub use Rattle.network.proofs.Laws.Pairs.{gapOfStop-half, gapOfStop-single, gapOfStop-cong, gapOfStop-periods}
-pub use Rattle.network.proofs.Laws.StopGap.{callsOfStop-lines-differ, callsOfStop-period-pos, call-of-served}
+pub use Rattle.network.proofs.Laws.StopGap.{callsOfStop-period-pos, call-of-served, stopGap-le-calls}
 -- leasts over lists, in which these are stated
 pub use Rattle.network.proofs.Laws.Members.{Has, All, AllPairs}
 pub use Rattle.network.proofs.Laws.Least.{leastOf-cons, leastOf-append, leastOf-has, leastOf-le, leastOf-unique, leastOf-same}

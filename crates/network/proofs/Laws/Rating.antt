@@ -37,7 +37,7 @@ module _ {n : Net} (valid : Valid n) where
   unfolding callsAnywhere
   servedList-some =
       let (k, h, e) = has-any noCall (λ (c : Call). eqb (c .line) 0) (n .calls) (valid .every-line-calls 0 (valid .some-line)) in
-      let served = served-of-call n (getD (n .calls) k noCall .stop) (record { stated = h; of-line = refl; at-stop = refl }) in
+      let served = served-of-call n (getD (n .calls) k noCall .stop) (record { stated = h; at-stop = refl }) in
       let (i, l, f) = servedList-has (getD (n .calls) k noCall .stop) served in
       omega arith
 

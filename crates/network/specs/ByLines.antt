@@ -1,0 +1,46 @@
+-- Document 01, "Gap and rating", in its own words: the gap of two lines at a stop, and the gap of a stop as the least over its pairs of different
+-- lines (source 000, definitions 2.1.4 and 2.1.5). No line calls twice at a stop, so that it is the gap by calls of specs/Rating.antt.
+use Prim.Native.Nat.{ℕ, _<_, _≤_}
+use mathlib.Core.Path.{_≡_}
+use mathlib.Core.List.{List}
+use lib.IntN.{ℤ}
+use lib.ListN.{length, getD}
+use Rattle.network.specs.Network.{Net}
+use Rattle.network.specs.Valid.{noCall}
+use Rattle.network.specs.Gap.{trip, distance}
+use Rattle.network.specs.Rating.{arrivalOf}
+
+-- The file has a call of the line at the stop: its `call`th
+pub record LineCallsThere (n : Net) (line stop call : ℕ) : Type 0 where
+  pub stated : call < length (n .calls)
+  pub of-line : getD (n .calls) call noCall .line ≡ line
+  pub at-stop : getD (n .calls) call noCall .stop ≡ stop
+
+-- The line reaches the stop at that minute: at its start plus its offset there, plus some whole multiple of its period
+pub record Reaches (n : Net) (starts : List ℤ) (line stop : ℕ) (minute : ℤ) : Type 0 where
+  pub call : ℕ
+  pub there : LineCallsThere n line stop call
+  pub turn : ℤ
+  pub on-time : minute ≡ trip (arrivalOf starts (getD (n .calls) call noCall)) (getD (n .periods) line 0) turn
+
+-- The gap ("Sicherheitsabstand", safety distance) of two lines at a stop: the smallest distance between an arrival of one and an arrival
+-- of the other (definition 2.1.4)
+pub record IsLinesGap (n : Net) (starts : List ℤ) (stop i j : ℕ) (gap : ℕ) : Type 0 where
+  pub attained : (x : ℤ) × (y : ℤ) × Reaches n starts i stop x × Reaches n starts j stop y × (distance x y ≡ gap)
+  pub least : (x y : ℤ) → Reaches n starts i stop x → Reaches n starts j stop y → gap ≤ distance x y
+
+-- The gap of a stop (definition 2.1.5)
+pub data IsStopGapOfLines (n : Net) (starts : List ℤ) (stop : ℕ) : ℕ → Type 0 where
+  -- the least over its pairs of different lines
+  least-of-lines :
+      {gap : ℕ} (i j : ℕ)
+      → (i ≡ j → ⊥)
+      → IsLinesGap n starts stop i j gap
+      → ((k l v : ℕ) → (k ≡ l → ⊥) → IsLinesGap n starts stop k l v → gap ≤ v)
+      → IsStopGapOfLines n starts stop gap
+  -- with one line only, that line's period
+  period-of-line :
+      (i : ℕ)
+      → ((call : ℕ) × LineCallsThere n i stop call)
+      → ((j call : ℕ) → LineCallsThere n j stop call → j ≡ i)
+      → IsStopGapOfLines n starts stop (getD (n .periods) i 0)
