@@ -224,51 +224,66 @@ module _ (N : List ℤ → Type 0) (placed : List ℤ) where
       go (inl e) = rw e (rw append-assoc at (g tail c))
       go (inr l) = f (pos y ∷ tail) (next l c)
 
--- These starts are rated no higher than the best
-abbrev NotAbove : (List ℤ → Rating) → Rating → List ℤ → Type 0
-NotAbove upper best starts = isAbove (upper starts) best ≡ false
-
 -- An upper rating is never below a completion's
 abbrev pub IsUpper : (List ℤ → Rating) → List ℕ → Type 0
 IsUpper upper counts = (placed tail : List ℤ) → Chosen counts (placed ++ tail) → isAbove (upper (placed ++ tail)) (upper placed) ≡ false
 
--- From one state of the walk to another the best has got no lower; and if the walk hasn't stopped, no completion is above the best
-record Covered (upper : List ℤ → Rating) (counts : List ℕ) (placed : List ℤ) (s t : State) : Type 0 where
-  kept : (r : Rating) → isAbove r (s .best) ≡ false → isAbove r (t .best) ≡ false
-  met : t .stopped ≡ false → (tail : List ℤ) → Chosen counts tail → NotAbove upper (t .best) (placed ++ tail)
+-- What a test for dropping must keep: a try that is dropped has no completion that isn't; what is dropped beside a best is dropped beside a full
+-- timetable that isn't; and a full timetable is dropped beside itself
+pub record Cuts (upper : List ℤ → Rating) (drops : Rating → Rating → Bool) (all : List ℕ) : Type 0 where
+  pub completions : (placed tail : List ℤ) → Chosen all (placed ++ tail) → (b : Rating)
+      → drops (upper placed) b ≡ true → drops (upper (placed ++ tail)) b ≡ true
+  pub better : (starts : List ℤ) → Chosen all starts → (r b : Rating) → drops (upper starts) b ≡ false → drops r b ≡ true → drops r (upper starts) ≡ true
+  pub itself : (starts : List ℤ) → Chosen all starts → drops (upper starts) (upper starts) ≡ true
 
-module _ (upper : List ℤ → Rating) (budget : ℕ) (all : List ℕ) (sound : IsUpper upper all) where
+-- From one state of the walk to another what was dropped stays so; and if the walk hasn't stopped, every completion is dropped beside the best
+record Covered (upper : List ℤ → Rating) (drops : Rating → Rating → Bool) (counts : List ℕ) (placed : List ℤ) (s t : State) : Type 0 where
+  kept : (r : Rating) → drops r (s .best) ≡ true → drops r (t .best) ≡ true
+  met : t .stopped ≡ false → (tail : List ℤ) → Chosen counts tail → drops (upper (placed ++ tail)) (t .best) ≡ true
+
+module _ (upper : List ℤ → Rating) (drops : Rating → Rating → Bool) (budget : ℕ) (all : List ℕ) (cuts : Cuts upper drops all) where
   walk-covers : (counts : List ℕ) (placed : List ℤ) → ((tail : List ℤ) → Chosen counts tail → Chosen all (placed ++ tail))
-      → (s : State) → isAbove (upper placed) (s .best) ≡ true → Covered upper counts placed s (walk upper notAbove budget counts placed s)
-  unfolding walk notAbove becomesBest stop tryMade
+      → (s : State) → drops (upper placed) (s .best) ≡ false → Covered upper drops counts placed s (walk upper drops budget counts placed s)
+  unfolding walk becomesBest stop tryMade
   walk-covers [] placed fits s above =
+      let full : Chosen all placed = rw append-nil at (fits [] none-left) in
       record {
-        kept = λ r h. not-above-of-above r (upper placed) (s .best) above h;
-        met = λ e. completions-none-left (NotAbove upper (upper placed)) placed (isAbove-irreflexive _);
+        kept = λ r h. cuts .better placed full r (s .best) above h;
+        met = λ e. completions-none-left (λ starts. drops (upper starts) (upper placed) ≡ true) placed (cuts .itself placed full);
       }
   walk-covers (count ∷ rest) placed fits s above =
-      eachStart-holds _ (λ x. Covered upper (x ∷ rest) placed s) count s
-      (record { kept = λ r h. h; met = λ e. completions-none-tried (NotAbove upper (s .best)) placed rest })
+      eachStart-holds _ (λ x. Covered upper drops (x ∷ rest) placed s) count s
+      (record { kept = λ r h. h; met = λ e. completions-none-tried (λ starts. drops (upper starts) (s .best) ≡ true) placed rest })
       (λ x l t w.
       let placed′ : List ℤ = placed ++ (pos x ∷ []) in
       let fits′ : (tail : List ℤ) → Chosen rest tail → Chosen all (placed′ ++ tail)
       = λ tail c. rw append-assoc (fits (pos x ∷ tail) (next l c)) in
-      oneTry-cases (Covered upper (suc x ∷ rest) placed s) budget _ _ t
+      oneTry-cases (Covered upper drops (suc x ∷ rest) placed s) budget _ _ t
       (λ e. record { kept = w .kept; met = λ f. absurd (zero-ne-one (cc)) })
       (λ e e′. record { kept = w .kept; met = λ f. absurd (zero-ne-one (cc)) })
       (λ e e′ d.
       record {
         kept = w .kept;
-        met = λ f. completions-next (NotAbove upper (t .best)) placed x rest (w .met e)
-            (λ tail c. not-above-transitive _ _ _ (sound placed′ tail (fits′ tail c)) (not-true _ d));
+        met = λ f. completions-next (λ starts. drops (upper starts) (t .best) ≡ true) placed x rest (w .met e)
+            (λ tail c. cuts .completions placed′ tail (fits′ tail c) (t .best) d);
       })
       (λ e e′ d.
-      let u : State = walk upper notAbove budget rest placed′ (tryMade t) in
-      let v : Covered upper rest placed′ (tryMade t) u = walk-covers rest placed′ fits′ (tryMade t) (not-false _ d) in
+      let u : State = walk upper drops budget rest placed′ (tryMade t) in
+      let v : Covered upper drops rest placed′ (tryMade t) u = walk-covers rest placed′ fits′ (tryMade t) d in
       record {
         kept = λ r h. v .kept r (w .kept r h);
-        met = λ f. completions-next (NotAbove upper (u .best)) placed x rest (λ tail c. v .kept _ (w .met e tail c)) (v .met f);
+        met = λ f. completions-next (λ starts. drops (upper starts) (u .best) ≡ true) placed x rest (λ tail c. v .kept _ (w .met e tail c)) (v .met f);
       }))
+
+-- The usual test is such a cut
+pub notAbove-cuts : (upper : List ℤ → Rating) (all : List ℕ) → IsUpper upper all → Cuts upper notAbove all
+unfolding notAbove
+notAbove-cuts upper all sound =
+    record {
+      completions = λ placed tail c b d. rw (not-above-transitive _ _ b (sound placed tail c) (not-true _ d)) refl;
+      better = λ starts c r b e f. rw (not-above-of-above r (upper starts) b (not-false _ e) (not-true _ f)) refl;
+      itself = λ starts c. rw (isAbove-irreflexive (upper starts)) refl;
+    }
 
 -- A best is the upper rating of the starts beside it, which are a choice; without a best there are no starts
 pub record BestIsChosen (upper : List ℤ → Rating) (counts : List ℕ) (best : Rating) (starts : List ℤ) : Type 0 where
@@ -323,8 +338,11 @@ module _ (upper : List ℤ → Rating) (budget : ℕ) (rates : (starts : List �
     module _ (sound : IsUpper upper counts) (finished : walk upper notAbove budget counts [] atFirst .stopped ≡ false)
         (starts : List ℤ) (choice : Chosen counts starts) where
       pub none-above-best : isAbove (upper starts) (walk upper notAbove budget counts [] atFirst .best) ≡ false
+      unfolding notAbove
       none-above-best =
-          walk-covers upper budget counts sound counts [] (λ tail c. c) atFirst (isAbove-none _ ∙ rates []) .met finished starts choice
+          not-true _
+          (walk-covers upper notAbove budget counts (notAbove-cuts upper counts sound) counts [] (λ tail c. c) atFirst (rw (isAbove-none (upper []) ∙ rates []) refl) .met
+          finished starts choice)
 
       pub finished-has-best : walk upper notAbove budget counts [] atFirst .best .some ≡ true
       finished-has-best = some-of-not-above (upper starts) _ (rates starts) none-above-best
