@@ -1,7 +1,7 @@
 -- Tests, sums and leasts over lists and ranges, for the definitions of document 01.
 use Prim.Native.Nat.{ℕ, zero, suc, _+_, min}
 use mathlib.Core.Bool.{Bool, true, false, _&&_, _||_}
-use mathlib.Core.List.{List, [], _∷_, _++_}
+use mathlib.Core.List.{List, [], _∷_, _++_, map}
 
 -- The first where the test holds, else the second
 abbrev pub pick : {A : Type 0} → Bool → A → A → A
@@ -43,3 +43,8 @@ unfoldable pub leastOf : List ℕ → ℕ
 leastOf [] = 0
 leastOf (x ∷ []) = x
 leastOf (x ∷ y ∷ rest) = min x (leastOf (y ∷ rest))
+
+-- The numbers of all pairs of different elements
+unfoldable pub pairsOf : {A : Type 0} → (A → A → ℕ) → List A → List ℕ
+pairsOf f [] = []
+pairsOf f (a ∷ rest) = map (f a) rest ++ pairsOf f rest

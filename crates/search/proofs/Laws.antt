@@ -1,10 +1,8 @@
 -- The laws of the definitions of `specs/`.
 pub mod Cover
 pub mod Caps
-pub mod PairScan
 pub mod CapScan
 pub mod Upper
-pub mod Chosen
 pub mod Reduced
 pub mod Walk
 pub mod Layout

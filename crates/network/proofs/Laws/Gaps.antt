@@ -15,7 +15,7 @@ pub use Rattle.network.proofs.Laws.Least.{leastOf-cons, leastOf-append,
 pub use Rattle.network.proofs.Laws.Scan.{leastOf-cons as leastOf-leastFrom, leastFrom-le}
 pub use Rattle.network.proofs.Laws.Least.{leastOf-map-has, leastOf-map-le}
 -- the least gap of a call to those before it at its stop, and the rating of rows of gaps
-pub use Rattle.network.proofs.Laws.Scan.{leastFrom-append, leastFrom-min, pairGaps-snoc}
+pub use Rattle.network.proofs.Laws.Scan.{leastFrom-append, leastFrom-min, pairsOf-snoc, pairGaps-snoc}
 pub use Rattle.network.proofs.Laws.Scan.{callsBefore-hit, callsBefore-miss, callsBefore-lastAt, lastAt-le, lastAt-landed, step-back}
 pub use Rattle.network.proofs.Laws.Scan.{Scanned, scanned-none, scanned-passed, getD-zeros, keep-append, keep-all}
 pub use Rattle.network.proofs.Laws.Rate.{ratingBy-same, counted-of-member, counted-served}

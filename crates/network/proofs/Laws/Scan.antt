@@ -15,7 +15,7 @@ use lib.Arith.{lt-of-le-ne}
 use lib.ListN.{length, getD, take, set, length-append, length-set, replicate, length-replicate}
 use lib.Seq.{take-suc, getD-set-same, getD-set-other}
 use Rattle.network.specs.declared.Call.{Call}
-use Rattle.network.specs.Lists.{pick, keep, below, sumOf, leastOf}
+use Rattle.network.specs.Lists.{pick, keep, below, sumOf, leastOf, pairsOf}
 use Rattle.network.specs.Network.{Net}
 use Rattle.network.specs.Valid.{noCall}
 use Rattle.network.specs.Rating.{periodOf, gapOfCalls, pairGaps, gapOfStop, Counted, ratingBy}
@@ -127,24 +127,37 @@ leastOf-cons x [] = refl
 leastOf-cons x (y ∷ ys) =
     ap (min x) (leastOf-cons y ys) ∙ min-comm x (leastFrom y ys) ∙ sym (leastFrom-min y x ys) ∙ ap (λ (w : ℕ). leastFrom w ys) (min-comm y x)
 
+-- ---- one element more, whatever number a pair has
+
+module _ {A : Type 0} (f : A → A → ℕ) where
+  pub pairsOf-snoc :
+      (v : ℕ) (xs : List A) (a : A)
+      → leastFrom v (pairsOf f (xs ++ (a ∷ []))) ≡ leastFrom (leastFrom v (pairsOf f xs)) (map (λ x. f x a) xs)
+  unfolding pairsOf leastFrom
+  pairsOf-snoc v [] a = refl
+  pairsOf-snoc v (x ∷ xs) a =
+      let w = leastFrom v (map (f x) xs) in
+      leastFrom-append v (map (f x) (xs ++ (a ∷ []))) (pairsOf f (xs ++ (a ∷ [])))
+      ∙ ap (λ (u : ℕ). leastFrom u (pairsOf f (xs ++ (a ∷ []))))
+      (ap (leastFrom v) (map-append _ xs (a ∷ [])) ∙ leastFrom-append v (map (f x) xs) (f x a ∷ []))
+      ∙ pairsOf-snoc (min w (f x a)) xs a
+      ∙ ap (λ (u : ℕ). leastFrom u (map (λ y. f y a) xs))
+      (leastFrom-min w (f x a) (pairsOf f xs)
+      ∙ ap (λ (u : ℕ). min u (f x a)) (sym (leastFrom-append v (map (f x) xs) (pairsOf f xs))))
+
 -- ---- one call more at a stop
 
 module _ (n : Net) (starts : List ℤ) where
+  pairGaps-pairs : (cs : List Call) → pairGaps n starts cs ≡ pairsOf (gapOfCalls n starts) cs
+  unfolding pairGaps pairsOf
+  pairGaps-pairs [] = refl
+  pairGaps-pairs (c ∷ cs) = ap (λ l. map (gapOfCalls n starts c) cs ++ l) (pairGaps-pairs cs)
+
   pub pairGaps-snoc :
       (v : ℕ) (cs : List Call) (c : Call)
       → leastFrom v (pairGaps n starts (cs ++ (c ∷ [])))
       ≡ leastFrom (leastFrom v (pairGaps n starts cs)) (map (λ d. gapOfCalls n starts d c) cs)
-  unfolding pairGaps leastFrom
-  pairGaps-snoc v [] c = refl
-  pairGaps-snoc v (x ∷ xs) c =
-      let a = leastFrom v (map (gapOfCalls n starts x) xs) in
-      leastFrom-append v (map (gapOfCalls n starts x) (xs ++ (c ∷ []))) (pairGaps n starts (xs ++ (c ∷ [])))
-      ∙ ap (λ (w : ℕ). leastFrom w (pairGaps n starts (xs ++ (c ∷ []))))
-      (ap (leastFrom v) (map-append _ xs (c ∷ [])) ∙ leastFrom-append v (map (gapOfCalls n starts x) xs) (gapOfCalls n starts x c ∷ []))
-      ∙ pairGaps-snoc (min a (gapOfCalls n starts x c)) xs c
-      ∙ ap (λ (w : ℕ). leastFrom w (map (λ d. gapOfCalls n starts d c) xs))
-      (leastFrom-min a (gapOfCalls n starts x c) (pairGaps n starts xs)
-      ∙ ap (λ (w : ℕ). min w (gapOfCalls n starts x c)) (sym (leastFrom-append v (map (gapOfCalls n starts x) xs) (pairGaps n starts xs))))
+  pairGaps-snoc v cs c = rw (pairGaps-pairs (cs ++ (c ∷ [])), pairGaps-pairs cs) (pairsOf-snoc (gapOfCalls n starts) v cs c)
 
   pub gapOfCalls-le-period : (c d : Call) → 0 < periodOf n c → gapOfCalls n starts c d ≤ periodOf n c
   unfolding gapOfCalls

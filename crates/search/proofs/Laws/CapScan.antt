@@ -10,7 +10,7 @@ use native.Mathlib.Omega.{arith}
 use lib.Dec.{eqb}
 use lib.ListN.{length, getD, take, length-take}
 use Rattle.network.specs.declared.Call.{Call}
-use Rattle.network.specs.Lists.{pick, keep, sumOf}
+use Rattle.network.specs.Lists.{pick, keep, sumOf, pairsOf}
 use Rattle.network.specs.Divisor.{Divides}
 use Rattle.network.specs.Network.{Net, cycle, maxPeriod}
 use Rattle.network.specs.Rating.{periodOf, callsOfStop}
@@ -19,10 +19,9 @@ use Rattle.network.specs.Valid.{Valid, noCall}
 use Rattle.network.proofs.Laws.Divisor.{gcd-le-left, pos-of-divides, div-mul-of-divides}
 use Rattle.network.proofs.Laws.Gaps.{callsBefore-hit, callsBefore-miss, leastFrom-append, leastFrom-le, leastOf-leastFrom as leastOf-cons, keep-all}
 use Rattle.network.proofs.Laws.Tables.{sumOf-append}
-use Rattle.network.proofs.Laws.Gaps.{cycle-multiple, cycle-pos}
+use Rattle.network.proofs.Laws.Gaps.{cycle-multiple, cycle-pos, pairsOf-snoc}
 use Rattle.search.specs.Caps.{halves, evenSpacing, capOfCalls, cap}
 use Rattle.search.specs.CapScan.{halfOf, visitsOf, leastHalf, boundsOf}
-use Rattle.search.proofs.Laws.PairScan.{pairsOf, pairsOf-snoc}
 
 -- ---- forward through the calls at a stop
 

@@ -6,7 +6,7 @@ use mathlib.Core.Bool.{true, false}
 use mathlib.Core.List.{List, [], _∷_}
 use mathlib.Core.Logic.{_⊎_}
 use native.Mathlib.Omega.{arith}
-use lib.IntN.{ℤ, pos, negsuc}
+use lib.IntN.{ℤ}
 use lib.ListN.{length, drop}
 use Rattle.network.specs.declared.Rating.{Rating}
 use Rattle.network.specs.Network.{Net}
@@ -18,20 +18,12 @@ use Rattle.search.specs.Walk.{atFirst, mostTries}
 use Rattle.search.specs.Search.{startCounts, notAbove, searched, triesBound}
 use Rattle.search.specs.Search.{stopped, productsFrom}
 use Rattle.search.proofs.Laws.Upper.{upper-sound, upper-full, upperRating-some}
-use Rattle.search.proofs.Laws.Chosen as tried
 use Rattle.search.proofs.Laws.Reduced.{reduced, reduced-length, reduced-chosen, reduced-rating}
 use Rattle.search.proofs.Laws.Tries.{length-startCounts}
-use Rattle.search.proofs.Laws.Walk.{Chosen, none-left, next, Chosen-length, Chosen-exists, best-is-chosen}
+use Rattle.search.proofs.Laws.Walk.{Chosen-length, Chosen-exists, best-is-chosen}
 use Rattle.search.proofs.Laws.Walk.{walk-tries-le, walk-tries-le-budget, walk-stopped-at-budget, walk-finishes, none-above-best, finished-has-best}
 
 -- ---- the choices of the walk
-
-chosen-of-tried : (counts : List ℕ) (starts : List ℤ) → tried.Chosen counts starts → Chosen counts starts
-chosen-of-tried [] [] c = none-left
-chosen-of-tried [] (x ∷ xs) c = absurd c
-chosen-of-tried (count ∷ counts) [] c = absurd c
-chosen-of-tried (count ∷ counts) (pos x ∷ xs) c = next (c .0) (chosen-of-tried counts xs (c .1))
-chosen-of-tried (count ∷ counts) (negsuc x ∷ xs) c = absurd c
 
 startCounts-pos : (periods : List ℕ) → All 0 (λ t. 0 < t) periods → All 0 (λ t. 0 < t) (startCounts periods)
 unfolding startCounts
@@ -95,7 +87,7 @@ module _ {n : Net} (valid : Valid n) (budget : ℕ) (ended : searched n budget .
       (sym (upper-full valid (reduced (n .periods) starts) (reduced-length valid starts e) ∙ reduced-rating valid starts e))
       ∙ none-above-best (upperRating n (cap n)) budget (upperRating-some n (cap n)) (startCounts (n .periods))
       (λ placed tail c. upper-sound n (cap n) placed tail) ended (reduced (n .periods) starts)
-      (chosen-of-tried _ _ (reduced-chosen valid starts e))
+      (reduced-chosen valid starts e)
 
   pub searched-best : (starts : List ℤ) → length starts ≡ length (n .periods) → {least sum : ℕ} → IsRating n starts least sum
       → (least < searched n budget .best .least) ⊎ ((least ≡ searched n budget .best .least) × (sum ≤ searched n budget .best .sum))

@@ -14,8 +14,8 @@ use Rattle.network.specs.Rating.{rating}
 use Rattle.network.proofs.Laws.Members.{All, all-tail}
 use Rattle.network.proofs.Laws.Gaps.{residue-lt, rating-residues, rating-moved-together}
 use Rattle.search.specs.Search.{startCounts}
-use Rattle.search.proofs.Laws.Chosen.{Chosen}
 use Rattle.search.proofs.Laws.Cover.{residue-of-residue}
+use Rattle.search.proofs.Laws.Walk.{Chosen, none-left, next}
 
 -- Each start reduced by its line's period
 residues : List ℕ → List ℤ → List ℤ
@@ -49,19 +49,20 @@ residues-same (t ∷ periods) (x ∷ starts) f e (suc i) h =
 chosen-residues : (periods : List ℕ) (starts : List ℤ) → All 0 (λ t. 0 < t) periods → length starts ≡ length periods
     → Chosen periods (residues periods starts)
 unfolding residues
-chosen-residues [] starts f e = tt
+chosen-residues [] starts f e = none-left
 chosen-residues (t ∷ periods) [] f e = absurd (omega arith)
 chosen-residues (t ∷ periods) (x ∷ starts) f e =
-    (residue-lt x t (f 0 (zero-lt-suc _)), chosen-residues periods starts (all-tail 0 (λ t. 0 < t) t periods f) (omega arith))
+    next (residue-lt x t (f 0 (zero-lt-suc _))) (chosen-residues periods starts (all-tail 0 (λ t. 0 < t) t periods f) (omega arith))
 
 chosen-reduced : (periods : List ℕ) (starts : List ℤ) → All 0 (λ t. 0 < t) periods → length starts ≡ length periods
     → Chosen (startCounts periods) (reduced periods starts)
 unfolding reduced fromFirst residues startCounts residue
-chosen-reduced [] starts f e = tt
+chosen-reduced [] starts f e = none-left
 chosen-reduced (t ∷ periods) [] f e = absurd (omega arith)
 chosen-reduced (t ∷ periods) (x ∷ starts) f e =
     let first = ap (λ y. residue y t) (+ℤ-invr x) in
-    (omega (arith, first, zero-mod t), chosen-residues (t ∷ periods) (fromFirst (x ∷ starts)) f (rw length-map e) .1)
+    next {x = residue (x +ℤ negℤ x) t} {count = 1} (omega (arith, first, zero-mod t))
+    (chosen-residues periods (map (λ y. y +ℤ negℤ x) starts) (all-tail 0 (λ t. 0 < t) t periods f) (rw length-map (omega arith)))
 
 module _ {n : Net} (valid : Valid n) (starts : List ℤ) (fits : length starts ≡ length (n .periods)) where
   fits-moved : length (fromFirst starts) ≡ length (n .periods)
