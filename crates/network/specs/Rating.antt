@@ -4,13 +4,13 @@
 use Prim.Native.Nat.{ℕ, suc, _*_, _<_, _≤_}
 use mathlib.Core.Path.{_≡_}
 use mathlib.Core.Bool.{Bool, true, false, not, _&&_, _||_}
-use mathlib.Core.List.{List, [], _∷_, _++_, map, List·Memᴰ}
+use mathlib.Core.List.{List, [], _∷_, map, List·Memᴰ}
 use lib.Dec.{eqb, ltb}
 use lib.IntN.{ℤ, pos, _+ℤ_}
 use lib.ListN.{length, getD}
 use Rattle.network.specs.declared.Call.{Call}
 use Rattle.network.specs.declared.Rating.{Rating}
-use Rattle.network.specs.Lists.{pick, keep, below, sumOf, leastOf}
+use Rattle.network.specs.Lists.{pick, keep, below, sumOf, leastOf, pairsOf}
 use Rattle.network.specs.Network.{Net, maxStop, isServed}
 use Rattle.network.specs.Valid.{noCall}
 use Rattle.network.specs.Gap.{IsGap, gapOf}
@@ -93,8 +93,7 @@ gapOfCalls n starts c d = gapOf (arrivalOf starts c) (periodOf n c) (arrivalOf s
 
 -- The gaps of all pairs of different calls
 unfoldable pub pairGaps : Net → List ℤ → List Call → List ℕ
-pairGaps n starts [] = []
-pairGaps n starts (c ∷ cs) = map (gapOfCalls n starts c) cs ++ pairGaps n starts cs
+pairGaps n starts cs = pairsOf (gapOfCalls n starts) cs
 
 -- The gap of a stop with these calls: the least over its pairs; with one call only, its line's period
 unfoldable pub gapOfStop : Net → List ℤ → List Call → ℕ

@@ -1,13 +1,13 @@
 -- Document 01, "Caps": the cap of a stop, its upper value with only some lines placed, and the upper rating. (An upper value is an upper
 -- bound of the stop's gap over all completions of a partial timetable, and the upper rating one of the rating.)
 use Prim.Native.Nat.{ℕ, _/_, min}
-use mathlib.Core.List.{List, [], _∷_, _++_, map}
+use mathlib.Core.List.{List, [], _∷_}
 use lib.Dec.{ltb}
 use lib.IntN.{ℤ}
 use lib.ListN.{length}
 use Rattle.network.specs.declared.Call.{Call}
 use Rattle.network.specs.declared.Rating.{Rating}
-use Rattle.network.specs.Lists.{keep, sumOf, leastOf}
+use Rattle.network.specs.Lists.{keep, sumOf, leastOf, pairsOf}
 use Rattle.network.specs.Divisor.{gcd}
 use Rattle.network.specs.Network.{Net, cycle}
 use Rattle.network.specs.Rating.{periodOf, pairGaps, callsOfStop, counted, ratingBy}
@@ -15,8 +15,7 @@ use Rattle.network.specs.Scan.{leastFrom}
 
 -- The halves of g, rounded down, over all pairs of different calls
 unfoldable pub halves : Net → List Call → List ℕ
-halves n [] = []
-halves n (c ∷ cs) = map (λ (d : Call). gcd (periodOf n c) (periodOf n d) / 2) cs ++ halves n cs
+halves n cs = pairsOf (λ (c d : Call). gcd (periodOf n c) (periodOf n d) / 2) cs
 
 -- The whole part of C / (sum of C/T over the lines)
 unfoldable pub evenSpacing : Net → List Call → ℕ

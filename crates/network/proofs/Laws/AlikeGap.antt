@@ -13,7 +13,7 @@ use lib.IntN.{ℤ, pos, _+ℤ_, _-ℤ_}
 use lib.ListN.{getD}
 use borrow.Author.Tests.{eqb-true, eqb-false, eq-eqb}
 use Rattle.network.specs.declared.Call.{Call}
-use Rattle.network.specs.Lists.{pick}
+use Rattle.network.specs.Lists.{pick, pairsOf}
 use Rattle.network.specs.Divisor.{gcd}
 use Rattle.network.specs.Network.{Net, callsAt}
 use Rattle.network.specs.Valid.{noCall, Valid}
@@ -65,7 +65,7 @@ module _ (n : Net) (starts : List ℤ) where
   -- the gaps of all pairs of different calls are those of any two of different lines, in either order
   gaps-of-members : (cs : List Call) → ((c : Call) → List·Memᴰ c cs → 0 < periodOf n c)
       → {c d : Call} → List·Memᴰ c cs → List·Memᴰ d cs → (c .line ≡ d .line → ⊥) → List·Memᴰ (gap c d) (gaps cs)
-  unfolding pairGaps
+  unfolding pairGaps pairsOf
   gaps-of-members [] q m k h = absurd (List·Memᴰ·not-nil m)
   gaps-of-members (x ∷ cs) q {c} {d} m k h =
       go (λ l o. gaps-of-members cs (λ e i. q e (List·Memᴰ·tail i)) l o h) (List·Memᴰ·cases-cons m) (List·Memᴰ·cases-cons k)
@@ -85,7 +85,7 @@ module _ (n : Net) (starts : List ℤ) where
   TwoWithGap cs v = (c : Call) × (d : Call) × List·Memᴰ c cs × List·Memᴰ d cs × (c .line ≡ d .line → ⊥) × (gap c d ≡ v)
 
   members-of-gaps : (cs : List Call) → EveryTwo (λ c d. c .line ≡ d .line → ⊥) cs → {v : ℕ} → List·Memᴰ v (gaps cs) → TwoWithGap cs v
-  unfolding pairGaps
+  unfolding pairGaps pairsOf
   members-of-gaps [] e m = absurd (List·Memᴰ·not-nil m)
   members-of-gaps (x ∷ cs) e {v} m = go (members-of-gaps cs (e .1)) (List·Memᴰ·append-cases (map (gap x) cs) m)
     where
@@ -96,7 +96,7 @@ module _ (n : Net) (starts : List ℤ) where
   gapOfStop-same : (cs ds : List Call) → Covered cs ds → Covered ds cs
       → ((v : ℕ) → List·Memᴰ v (gaps cs) → List·Memᴰ v (gaps ds)) → ((v : ℕ) → List·Memᴰ v (gaps ds) → List·Memᴰ v (gaps cs))
       → gapOfStop n starts cs ≡ gapOfStop n starts ds
-  unfolding gapOfStop pairGaps periodOf
+  unfolding gapOfStop pairGaps periodOf pairsOf
   gapOfStop-same [] [] f g h k = refl
   gapOfStop-same [] (d ∷ ds) f g h k = let (_, m, _) = g d (List·Memᴰ·head refl) in absurd (List·Memᴰ·not-nil m)
   gapOfStop-same (c ∷ cs) [] f g h k = let (_, m, _) = f c (List·Memᴰ·head refl) in absurd (List·Memᴰ·not-nil m)

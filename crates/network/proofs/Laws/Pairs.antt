@@ -9,7 +9,7 @@ use native.Mathlib.Decide.{decLt}
 use lib.IntN.{ℤ}
 use lib.ListN.{length, getD, length-map}
 use Rattle.network.specs.declared.Call.{Call}
-use Rattle.network.specs.Lists.{leastOf}
+use Rattle.network.specs.Lists.{leastOf, pairsOf}
 use Rattle.network.specs.Network.{Net}
 use Rattle.network.specs.Divisor.{gcd}
 use Rattle.network.specs.Valid.{noCall}
@@ -32,7 +32,7 @@ module _ (n : Net) (starts : List ℤ) where
 
   -- The gaps of the pairs are those of all pairs ..
   pairGaps-has : (cs : List Call) → AllPairs noCall (λ c d. Has 0 (pairGaps n starts cs) (gapOfCalls n starts c d)) cs
-  unfolding pairGaps
+  unfolding pairGaps pairsOf
   pairGaps-has [] j k h l = absurd (omega arith)
   pairGaps-has (c ∷ cs) j zero h l = absurd (omega arith)
   pairGaps-has (c ∷ cs) zero (suc k) h l =
@@ -47,7 +47,7 @@ module _ (n : Net) (starts : List ℤ) where
   IsPairGap cs v = (j : ℕ) × (k : ℕ) × (j < k) × (k < length cs) × (gapOfCalls n starts (getD cs j noCall) (getD cs k noCall) ≡ v)
 
   pairGaps-all : (cs : List Call) → All 0 (IsPairGap cs) (pairGaps n starts cs)
-  unfolding pairGaps
+  unfolding pairGaps pairsOf
   pairGaps-all [] = λ i h. absurd (omega arith)
   pairGaps-all (c ∷ cs) = all-append 0 (IsPairGap (c ∷ cs)) (map (gapOfCalls n starts c) cs) (pairGaps n starts cs) with-first
       (λ i h. let (j, k, l, m, e) = pairGaps-all cs i h in (suc j, suc k, suc-le-suc l, suc-le-suc m, e))
@@ -67,7 +67,7 @@ module _ (n : Net) (starts : List ℤ) where
       subst (λ v. leastOf all ≤ v) e (leastOf-le all i m)
 
   pub gapOfStop-attained : (cs : List Call) → 1 < length cs → IsPairGap cs (gapOfStop n starts cs)
-  unfolding gapOfStop pairGaps
+  unfolding gapOfStop pairGaps pairsOf
   gapOfStop-attained [] h = absurd (omega arith)
   gapOfStop-attained (c ∷ []) h = absurd (omega arith)
   gapOfStop-attained (c ∷ d ∷ cs) h =
@@ -102,7 +102,7 @@ module _ (n m : Net) (starts moved : List ℤ) where
   Agree c d = gapOfCalls n starts c d ≡ gapOfCalls m moved c d
 
   pairGaps-cong : (cs : List Call) → AllPairs noCall Agree cs → pairGaps n starts cs ≡ pairGaps m moved cs
-  unfolding pairGaps
+  unfolding pairGaps pairsOf
   pairGaps-cong [] f = refl
   pairGaps-cong (c ∷ cs) f =
       ap₂ _++_ (map-cong noCall (gapOfCalls n starts c) (gapOfCalls m moved c) cs (pairs-head noCall Agree c cs f))

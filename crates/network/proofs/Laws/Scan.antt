@@ -148,16 +148,12 @@ module _ {A : Type 0} (f : A → A → ℕ) where
 -- ---- one call more at a stop
 
 module _ (n : Net) (starts : List ℤ) where
-  pairGaps-pairs : (cs : List Call) → pairGaps n starts cs ≡ pairsOf (gapOfCalls n starts) cs
-  unfolding pairGaps pairsOf
-  pairGaps-pairs [] = refl
-  pairGaps-pairs (c ∷ cs) = ap (λ l. map (gapOfCalls n starts c) cs ++ l) (pairGaps-pairs cs)
-
   pub pairGaps-snoc :
       (v : ℕ) (cs : List Call) (c : Call)
       → leastFrom v (pairGaps n starts (cs ++ (c ∷ [])))
       ≡ leastFrom (leastFrom v (pairGaps n starts cs)) (map (λ d. gapOfCalls n starts d c) cs)
-  pairGaps-snoc v cs c = rw (pairGaps-pairs (cs ++ (c ∷ [])), pairGaps-pairs cs) (pairsOf-snoc (gapOfCalls n starts) v cs c)
+  unfolding pairGaps
+  pairGaps-snoc v cs c = pairsOf-snoc (gapOfCalls n starts) v cs c
 
   pub gapOfCalls-le-period : (c d : Call) → 0 < periodOf n c → gapOfCalls n starts c d ≤ periodOf n c
   unfolding gapOfCalls
@@ -167,7 +163,7 @@ module _ (n : Net) (starts : List ℤ) where
 
   -- the first call's period is above the gap of each of its pairs, so that it may stand beside them
   pub gapOfStop-from : (c : Call) (cs : List Call) → 0 < periodOf n c → gapOfStop n starts (c ∷ cs) ≡ leastFrom (periodOf n c) (pairGaps n starts (c ∷ cs))
-  unfolding gapOfStop pairGaps leastFrom
+  unfolding gapOfStop pairGaps leastFrom pairsOf
   gapOfStop-from c [] h = refl
   gapOfStop-from c (d ∷ cs) h =
       leastOf-cons (gapOfCalls n starts c d) _

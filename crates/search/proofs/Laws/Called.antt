@@ -13,7 +13,7 @@ use Rattle.network.specs.declared.Call.{Call}
 use Rattle.network.specs.declared.Network.{Network}
 use Rattle.network.specs.declared.Rating.{Rating}
 use Rattle.network.specs.Divisor.{gcd}
-use Rattle.network.specs.Lists.{pick, below, sumOf, leastOf}
+use Rattle.network.specs.Lists.{pick, below, sumOf, leastOf, pairsOf}
 use Rattle.network.specs.Network.{Net, isServed, maxStop, maxPeriod}
 use Rattle.network.specs.Rating.{pairGaps, callsOfStop, servedList, counted, ratingBy, noRating}
 use Rattle.network.specs.Reading.{accepted}
@@ -38,7 +38,7 @@ use Rattle.search.proofs.Laws.Tries.{walkFrom-next}
 -- ---- no line placed
 
 upperValue-none : (n : Net) (caps : ℕ → ℕ) (stop : ℕ) → upperValue n caps [] stop ≡ caps stop
-unfolding upperValue placedCalls pairGaps leastFrom
+unfolding upperValue placedCalls pairGaps leastFrom pairsOf
 upperValue-none n caps stop =
     ap (λ (cs : List Call). leastFrom (caps stop) (pairGaps n [] cs))
     (keep-none (λ (c : Call). ltb (c .line) 0) (λ c. le-ltb (c .line) 0 (omega arith)) (callsOfStop n stop))

@@ -63,7 +63,7 @@ module _ (n : Net) where
   -- ---- one call more
 
   pub leastHalf-first : (cs : List Call) (d : Call) → length cs ≡ 0 → leastHalf n (cs ++ (d ∷ [])) ≡ periodOf n d
-  unfolding leastHalf halves leastFrom
+  unfolding leastHalf halves leastFrom pairsOf
   leastHalf-first [] d h = refl
   leastHalf-first (c ∷ cs) d h = absurd (omega arith)
 
@@ -98,7 +98,7 @@ module _ (n : Net) where
   -- ---- the cap of the bounds
 
   pub cap-of-few : (cs : List Call) → length cs < 2 → leastHalf n cs ≡ capOfCalls n cs
-  unfolding capOfCalls leastHalf halves leastFrom
+  unfolding capOfCalls leastHalf halves leastFrom pairsOf
   cap-of-few [] h = refl
   cap-of-few (c ∷ []) h = refl
   cap-of-few (c ∷ d ∷ cs) h = absurd (omega arith)
@@ -113,7 +113,7 @@ module _ (n : Net) where
       → 2 ≤ length cs
       → 0 < periodOf n (getD cs 0 noCall)
       → min (leastHalf n cs) (cycle n / visitsOf n cs) ≡ capOfCalls n cs
-  unfolding capOfCalls leastHalf evenSpacing visitsOf halves halfOf leastFrom
+  unfolding capOfCalls leastHalf evenSpacing visitsOf halves halfOf leastFrom pairsOf
   cap-of-many [] h p = absurd (omega arith)
   cap-of-many (c ∷ []) h p = absurd (omega arith)
   cap-of-many (c ∷ d ∷ cs) h p =

@@ -8,7 +8,7 @@ use native.Mathlib.Omega.{arith}
 use lib.IntN.{ℤ}
 use lib.ListN.{length, getD, length-map}
 use Rattle.network.specs.declared.Call.{Call}
-use Rattle.network.specs.Lists.{sumOf, leastOf}
+use Rattle.network.specs.Lists.{sumOf, leastOf, pairsOf}
 use Rattle.network.specs.Divisor.{Divides, gcd}
 use Rattle.network.specs.Network.{Net, cycle}
 use Rattle.network.specs.Valid.{noCall, Valid}
@@ -35,7 +35,7 @@ half n c d = gcd (periodOf n c) (periodOf n d) / 2
 
 -- What is at most the half of every pair is at most all halves
 le-halves : (n : Net) (v : ℕ) (cs : List Call) → AllPairs noCall (λ c d. v ≤ half n c d) cs → All 0 (λ h. v ≤ h) (halves n cs)
-unfolding halves
+unfolding halves pairsOf
 le-halves n v [] f = λ i h. absurd (omega arith)
 le-halves n v (c ∷ cs) f =
     all-append 0 (λ h. v ≤ h) (map (half n c) cs) (halves n cs) first
@@ -56,7 +56,7 @@ module _ (n : Net) (starts : List ℤ) (c d : Call) (rest : List Call) where
   gap = gapOfStop n starts cs
 
   gap-le-least-half : gap ≤ leastOf (halves n cs)
-  unfolding halves
+  unfolding halves pairsOf
   gap-le-least-half =
       let (i, h, e) = leastOf-has (halves n cs) (zero-lt-suc _) in
       subst (λ v. gap ≤ v) e

@@ -13,7 +13,7 @@ use lib.IntN.{ℤ, pos, _+ℤ_}
 use lib.ListN.{length, length-append, List·getD-append}
 use Rattle.network.specs.declared.Call.{Call}
 use Rattle.network.specs.declared.Rating.{Rating}
-use Rattle.network.specs.Lists.{keep, sumOf, leastOf}
+use Rattle.network.specs.Lists.{keep, sumOf, leastOf, pairsOf}
 use Rattle.network.specs.Network.{Net}
 use Rattle.network.specs.Valid.{noCall, Valid}
 use Rattle.network.specs.Gap.{gapOf}
@@ -31,7 +31,7 @@ use Rattle.search.proofs.Laws.Caps.{callsOfStop-stated, cap-sound}
 module _ (n : Net) (starts : List ℤ) (v : ℕ) where
   leastFrom-pairs : (c d : Call) (rest : List Call)
       → leastFrom v (pairGaps n starts (c ∷ d ∷ rest)) ≡ min v (gapOfStop n starts (c ∷ d ∷ rest))
-  unfolding gapOfStop pairGaps
+  unfolding gapOfStop pairGaps pairsOf
   leastFrom-pairs c d rest = sym (leastOf-leastFrom v _) ∙ leastOf-cons v (pairGaps n starts (c ∷ d ∷ rest)) (zero-lt-suc _)
 
   leastFrom-pairs-le : (cs : List Call) → AllPairs noCall (λ c d. leastFrom v (pairGaps n starts cs) ≤ gapOfCalls n starts c d) cs
@@ -42,7 +42,7 @@ module _ (n : Net) (starts : List ℤ) (v : ℕ) where
 
   le-leastFrom-pairs : (w : ℕ) → w ≤ v → (cs : List Call) → AllPairs noCall (λ c d. w ≤ gapOfCalls n starts c d) cs
       → w ≤ leastFrom v (pairGaps n starts cs)
-  unfolding leastFrom pairGaps
+  unfolding leastFrom pairGaps pairsOf
   le-leastFrom-pairs w h [] f = h
   le-leastFrom-pairs w h (c ∷ []) f = h
   le-leastFrom-pairs w h (c ∷ d ∷ rest) f =
@@ -141,7 +141,7 @@ keep-every p d (x ∷ xs) f = rw (f 0 (zero-lt-suc _)) (ap (λ l. x ∷ l) (keep
 -- The cap counts for nothing beside the gaps of all pairs; with one call only it is the gap
 leastFrom-cap : (n : Net) (starts : List ℤ) (cs : List Call) → gapOfStop n starts cs ≤ capOfCalls n cs
     → leastFrom (capOfCalls n cs) (pairGaps n starts cs) ≡ gapOfStop n starts cs
-unfolding capOfCalls gapOfStop pairGaps leastFrom
+unfolding capOfCalls gapOfStop pairGaps leastFrom pairsOf
 leastFrom-cap n starts [] h = refl
 leastFrom-cap n starts (c ∷ []) h = refl
 leastFrom-cap n starts (c ∷ d ∷ cs) h =

@@ -13,7 +13,7 @@ use lib.IntN.{ℤ, pos, _+ℤ_}
 use lib.ListN.{length, getD, take, length-take}
 use lib.Seq.{getD-take}
 use Rattle.network.specs.declared.Call.{Call}
-use Rattle.network.specs.Lists.{pick, keep, leastOf}
+use Rattle.network.specs.Lists.{pick, keep, leastOf, pairsOf}
 use Rattle.network.specs.Network.{Net}
 use Rattle.network.specs.Valid.{noCall, Valid}
 use Rattle.network.specs.Gap.{gapOf}
@@ -73,13 +73,13 @@ leastFrom-leastOf v x xs =
 
 module _ (n : Net) (starts : List ℤ) (v : ℕ) where
   leastFrom-pairGaps-none : (cs : List Call) → length cs ≤ 1 → leastFrom v (pairGaps n starts cs) ≡ v
-  unfolding pairGaps leastFrom
+  unfolding pairGaps leastFrom pairsOf
   leastFrom-pairGaps-none [] h = refl
   leastFrom-pairGaps-none (c ∷ []) h = refl
   leastFrom-pairGaps-none (c ∷ d ∷ cs) h = absurd (omega arith)
 
   leastFrom-pairGaps-some : (cs : List Call) → 1 < length cs → leastFrom v (pairGaps n starts cs) ≡ min v (gapOfStop n starts cs)
-  unfolding pairGaps gapOfStop
+  unfolding pairGaps gapOfStop pairsOf
   leastFrom-pairGaps-some [] h = absurd (omega arith)
   leastFrom-pairGaps-some (c ∷ []) h = absurd (omega arith)
   leastFrom-pairGaps-some (c ∷ d ∷ cs) h = leastFrom-leastOf v (gapOfCalls n starts c d) _
