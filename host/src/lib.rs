@@ -6,7 +6,8 @@
 //! * [`papers`] is the independent implementation, one file for each section of
 //!   document 01.
 //! * [`files`] makes network files and sheets, good and bad, from a seed.
-//! * [`measure`] measures the engine's rate call beside the independent one.
+//! * [`plain`] is rate in quick Rust by hand, and [`measure`] measures the
+//!   engine's rate call beside it.
 //! * [`program`] runs the proved engine's program `best`.
 //! * [`small`] has networks so small that every timetable can be rated.
 
@@ -17,5 +18,6 @@ pub mod engine;
 pub mod files;
 pub mod measure;
 pub mod papers;
+pub mod plain;
 pub mod program;
 pub mod small;

@@ -1,69 +1,131 @@
-//! Measures the engine's rate call beside the independent one.
+//! Measures the engine's rate call beside the one in plain Rust.
 
 use crate::engine::{self, Sheet};
 use crate::files::{dense_file, sheet, sheet_bytes, Dice};
 use crate::papers::network::read;
-use crate::papers::sheets::rate_bytes;
+use crate::plain;
 use std::hint::black_box;
 
-/// Calls in one run, some ten milliseconds.
-const CALLS: usize = 5_000;
-/// The quickest of so many runs counts, the two sides taking turns, so that
-/// other work on the machine hits both.
-const RUNS: usize = 9;
+/// A run takes so many nanoseconds at least. Beside that the clock's own time
+/// is nothing.
+const RUN: f64 = 2e6;
+/// The quickest of so many runs counts, the two sides taking turns: some run
+/// has a moment without other work on the machine.
+const RUNS: usize = 15;
+/// The time of a call depends on where its rows lie on the stack, the engine's
+/// by a factor of about 2, and the system begins each process's stack
+/// elsewhere. So the runs are made at so many depths, which go over a page of
+/// 4,096 bytes, and the mean over the depths counts.
+const DEPTHS: usize = 16;
+const FRAME: usize = 4_096 / DEPTHS;
 const SHEETS: usize = 16;
 
-/// Prints a row for each number of lines and stops with the rate calls per
-/// second of both sides. The clock says the processor time in nanoseconds.
+/// Processor time of a rate call, in nanoseconds.
+#[derive(Default)]
+struct Times {
+    engine: f64,
+    rust: f64,
+}
+
+/// Prints a row for each number of lines and stops with the time of a rate call
+/// on both sides, and at last the geometric mean of the ratios. The clock says
+/// the processor time in nanoseconds.
 pub fn print_rates(clock: impl Fn() -> u64) {
-    println!("lines stops calls  engine rates/s  rust rates/s  engine/rust");
-    for lines in [1, 4, 8, 16] {
-        for stops in [8, 32, 64] {
+    println!("lines stops calls  engine ns/rate  rust ns/rate  ratio");
+    let mut logarithms = Vec::new();
+    for lines in [1, 2, 4, 8, 16] {
+        for stops in [1, 8, 32, 64] {
             let mut dice = Dice::new(1);
             let file = dense_file(&mut dice, lines, stops);
             let sheets: Vec<Vec<u8>> = (0..SHEETS)
                 .map(|_| sheet_bytes(&sheet(&mut dice, lines)))
                 .collect();
-            print_row(&file, &sheets, &clock);
+            let times = measure(&file, &sheets, &clock);
+            let ratio = times.engine / times.rust;
+            print_row(&file, &times, ratio);
+            logarithms.push(ratio.ln());
         }
     }
+    let mean = logarithms.iter().sum::<f64>() / logarithms.len() as f64;
+    println!("geometric mean {:38.2}", mean.exp());
 }
 
-fn print_row(file: &[u8], sheets: &[Vec<u8>], clock: &impl Fn() -> u64) {
+fn print_row(file: &[u8], times: &Times, ratio: f64) {
     let net = read(file).expect("a valid file");
-    let handed: Vec<Sheet> = sheets.iter().cloned().map(Sheet::of_bytes).collect();
-    // The two must say the same, or the comparison means nothing.
-    for (bytes, sheet) in sheets.iter().zip(&handed) {
-        let paper = rate_bytes(file, bytes).expect("a sheet that fits");
-        let found = engine::rate(file, sheet).expect("a sheet that fits");
-        assert_eq!((found.least, found.sum), (paper.least, paper.sum));
-    }
-    let (mut engine_time, mut rust_time) = (u64::MAX, u64::MAX);
-    for _ in 0..RUNS {
-        let engine_side = |at: usize| engine::rate(black_box(file), &handed[at]);
-        engine_time = engine_time.min(time_of(clock, engine_side));
-        let rust_side = |at: usize| rate_bytes(black_box(file), &sheets[at]);
-        rust_time = rust_time.min(time_of(clock, rust_side));
-    }
-    let [engine, rust] = [engine_time, rust_time].map(per_second);
     println!(
-        "{:5} {:5} {:5} {engine:15.0} {rust:13.0} {:12.2}",
+        "{:5} {:5} {:5} {:15.1} {:13.1} {ratio:6.2}",
         net.lines(),
         net.served_stops().len(),
         net.calls,
-        engine / rust
+        times.engine,
+        times.rust,
     );
 }
 
-/// The time of one run over all sheets in turn.
-fn time_of<T>(clock: &impl Fn() -> u64, call: impl Fn(usize) -> T) -> u64 {
-    let begin = clock();
-    for number in 0..CALLS {
-        black_box(call(number % SHEETS));
+/// The times of both sides, the reading of the file included.
+fn measure(file: &[u8], sheets: &[Vec<u8>], clock: &impl Fn() -> u64) -> Times {
+    let handed: Vec<Sheet> = sheets.iter().cloned().map(Sheet::of_bytes).collect();
+    // The two must say the same, or the comparison means nothing.
+    for (bytes, sheet) in sheets.iter().zip(&handed) {
+        let rust = plain::rate(file, bytes).expect("a sheet that fits");
+        let found = engine::rate(file, sheet).expect("a sheet that fits");
+        assert_eq!((found.least, found.sum), (rust.least, rust.sum));
     }
-    clock() - begin
+    let engine_side = |at: usize| engine::rate(black_box(file), &handed[at]);
+    let rust_side = |at: usize| plain::rate(black_box(file), &sheets[at]);
+    let engine_calls = calls_in_run(clock, &engine_side);
+    let rust_calls = calls_in_run(clock, &rust_side);
+    let run = || Times {
+        engine: time_of(engine_calls, clock, &engine_side),
+        rust: time_of(rust_calls, clock, &rust_side),
+    };
+    let mut mean = Times::default();
+    for depth in 0..DEPTHS {
+        let least = deeper(depth, &|| least_of_runs(&run));
+        mean.engine += least.engine / DEPTHS as f64;
+        mean.rust += least.rust / DEPTHS as f64;
+    }
+    mean
 }
 
-fn per_second(nanoseconds: u64) -> f64 {
-    CALLS as f64 * 1e9 / nanoseconds.max(1) as f64
+fn least_of_runs(run: &impl Fn() -> Times) -> Times {
+    let mut least = run();
+    for _ in 1..RUNS {
+        let times = run();
+        least.engine = least.engine.min(times.engine);
+        least.rust = least.rust.min(times.rust);
+    }
+    least
+}
+
+/// What a call gives with so many more frames on the stack.
+#[inline(never)]
+fn deeper(frames: usize, call: &dyn Fn() -> Times) -> Times {
+    // Looked at behind the call, so that it takes its place during it.
+    let mut frame = [0u8; FRAME];
+    black_box(&mut frame);
+    let times = match frames {
+        0 => call(),
+        _ => deeper(frames - 1, call),
+    };
+    black_box(&mut frame);
+    times
+}
+
+/// How many calls take as long as a run is to take.
+fn calls_in_run<T>(clock: &impl Fn() -> u64, call: &impl Fn(usize) -> T) -> usize {
+    let mut calls = SHEETS;
+    while calls as f64 * time_of(calls, clock, call) < RUN {
+        calls *= 2;
+    }
+    calls
+}
+
+/// The time of a call, by one run over all sheets in turn.
+fn time_of<T>(calls: usize, clock: &impl Fn() -> u64, call: &impl Fn(usize) -> T) -> f64 {
+    let begin = clock();
+    for number in 0..calls {
+        black_box(call(number % SHEETS));
+    }
+    (clock() - begin) as f64 / calls as f64
 }

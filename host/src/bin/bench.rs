@@ -3,8 +3,9 @@
 //! at the budget of 1,000,000 tries. Both must print the same line. Prints one
 //! row for each network with the processor time per try of both, in
 //! nanoseconds, the least of some runs, and at last the ratio of the sums.
-//! Behind that, a row for each network with the rate calls per second of the
-//! engine's library and of the papers.
+//! Behind that, a row for each network with the processor time per rate call of
+//! the engine's library and of `plain::rate`, and the geometric mean of the
+//! ratios. A ratio below 1 says that the engine is quicker.
 //!
 //! Run with `cargo run --release --offline --bin bench`, after `.ci/run`.
 
