@@ -5,6 +5,7 @@ pub mod CapScan
 pub mod Upper
 pub mod Reduced
 pub mod Walk
+pub mod Tighter
 pub mod Layout
 pub mod Appended
 pub mod Rows
