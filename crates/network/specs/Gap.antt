@@ -14,8 +14,7 @@ unfoldable pub distance : ℤ → ℤ → ℕ
 distance x y = natAbs (x -ℤ y)
 
 -- The gap ("Sicherheitsabstand", safety distance) of two lines at a stop, one of which arrives at `a` with period `t` and the other at
--- `b` with period `u`: some trip of each attains it, and no two trips are closer (definition 2.1.4, over all
--- integers)
+-- `b` with period `u`: some trip of each attains it, and no two trips are closer (definition 2.1.4, over all integers)
 pub record IsGap (a : ℤ) (t : ℕ) (b : ℤ) (u : ℕ) (gap : ℕ) : Type 0 where
   pub attained : (j : ℤ) × (k : ℤ) × (distance (trip a t j) (trip b u k) ≡ gap)
   pub least : (j k : ℤ) → gap ≤ distance (trip a t j) (trip b u k)
