@@ -12,7 +12,7 @@ pub use Rattle.examination.proofs.ExportDemands.{classes-export-asks-no
 pub use Rattle.examination.proofs.ExportDemands.{mark-export-asks-nothing}
 -- "faulty input and no other gets the refusal number and place that document 01 sets ..., and a refused call leaves each lent row exactly as it
 -- found it"
-pub use Rattle.network.proofs.Demands.{read-demand-1, file-gives, rate-demand-1, weighted-demand-1, classes-demand-1}
+pub use Rattle.network.proofs.Demands.{read-demand-1, file-gives, file-gives-no-other, rate-demand-1, weighted-demand-1, classes-demand-1}
 pub use Rattle.search.proofs.Demands.{search-demand-1}
 pub use Rattle.examination.proofs.Demands.{mark-demand-1}
 pub use Rattle.examination.proofs.ExportDemands.{read-export-demand-1, rate-export-demand-1, weighted-export-demand-1}

@@ -15,7 +15,7 @@ use lib.ListN.{length, getD}
 use Rattle.network.specs.Lists.{countBelow}
 use Rattle.network.specs.Divisor.{Divides}
 use Rattle.network.specs.Network.{Net, maxLines, maxPeriod, maxCycle, maxStop, stopCount, maxCalls, isServed, servedStops, cycle}
-use Rattle.network.specs.Reading.{Outcome, values, refusal, readFile, accepted, refused, readAnswer, readOutcome}
+use Rattle.network.specs.Reading.{Reading, Outcome, values, refusal, readFile, accepted, refused, readAnswer, readOutcome}
 use Rattle.network.specs.Gives.{Gives}
 use Rattle.network.specs.Refusals.{Refuses, Unfit, Not64, Demand1}
 use Rattle.network.specs.Valid.{Valid}
@@ -115,6 +115,9 @@ module _ (κs : Lfts 1) (a : ArgsD read.signature κs) (r : ResD read.signature 
 -- Every file gives one of the two, and no other: what `readFile` computes, in which the other theorems speak of a file
 pub file-gives : (file : List ℕ) → Gives file (readFile file)
 file-gives = readFile-gives
+
+pub file-gives-no-other : {file : List ℕ} {reading : Reading} → Gives file reading → readFile file ≡ reading
+file-gives-no-other = gives-what-is-read
 
 -- ---- Demand 2, its first half: an accepted file and a sheet with one start for each line
 

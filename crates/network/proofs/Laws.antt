@@ -28,6 +28,7 @@ pub mod Alike
 pub mod AlikeGap
 pub mod Classes
 pub mod Scan
+pub mod Filled
 pub mod Rate
 pub mod Offsets
 pub mod Kept

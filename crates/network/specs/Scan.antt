@@ -1,15 +1,18 @@
 -- How the engine computes the gaps of all stops in one pass over the calls: from each call it goes back through the calls at the same stop.
-use Prim.Native.Nat.{ℕ, zero, suc, _+_, _*_, _<_, min}
+use Prim.Native.Nat.{ℕ, zero, suc, _+_, _*_, _-_, _<_, _≤_, min}
 use mathlib.Core.Path.{_≡_}
 use mathlib.Core.Bool.{true}
 use mathlib.Core.List.{List, [], _∷_, map}
 use lib.Dec.{eqb, ltb}
-use lib.ListN.{getD, take}
+use lib.IntN.{ℤ}
+use lib.ListN.{length, getD, take}
 use Rattle.network.specs.declared.Call.{Call}
+use Rattle.network.specs.declared.Network.{Network}
 use Rattle.network.specs.declared.Rating.{Rating}
 use Rattle.network.specs.Lists.{pick, keep, below}
 use Rattle.network.specs.Network.{maxStop}
-use Rattle.network.specs.Valid.{noCall}
+use Rattle.network.specs.Stored.{netOf, Sound}
+use Rattle.network.specs.Valid.{Valid, noCall}
 use Rattle.network.specs.Rating.{Counted, noRating, ratingBy}
 
 -- One more than the latest of the first `k` calls that is at the stop, 0 where none is
@@ -48,3 +51,20 @@ ratingSoFar gap (s ∷ rest) = ratingBy gap (s ∷ rest)
 unfoldable pub withStop : Rating → ℕ → ℕ → Rating
 withStop r gap weight =
     record { some = true; least = pick (r .some) (min (r .least) gap) gap; sum = r .sum + weight * gap }
+
+-- Rows that are lent in place of a network: its periods, the lines and offsets of its calls, and the way back from each of the first `k` calls
+pub record Rows (periods lines offsets previous : List ℕ) (k : ℕ) : Type 0 where
+  pub network : Network
+  pub sound : Sound network
+  pub valid : Valid (netOf network)
+  pub periods-are : periods ≡ network .periods
+  pub line-of : (j : ℕ) → j < network .calls → getD lines j 0 ≡ getD (network .list) j noCall .line
+  pub offset-of : (j : ℕ) → j < network .calls → getD offsets j 0 ≡ getD (network .list) j noCall .offset
+  pub leads : LeadsBack previous (network .list) k
+
+-- A call of the network beside the first `k` calls, of which the latest is at its stop, and a sheet that fits
+pub record Beside (n : Network) (sheet : List ℤ) (call : Call) (k : ℕ) : Type 0 where
+  pub fits : length sheet ≡ length (netOf n .periods)
+  pub own-line : call .line < length (netOf n .periods)
+  pub within : k ≤ n .calls
+  pub lands : 0 < k → getD (n .list) (k - 1) noCall .stop ≡ call .stop

@@ -6,6 +6,7 @@ pub mod gaps;
 pub mod rate;
 pub mod ratings;
 pub mod reader;
+pub mod rows;
 
 ghost use mathlib.Core.Path.{_≡_};
 ghost use Prim.Native.Nat.{_+_, _*_, _^_, _<_};

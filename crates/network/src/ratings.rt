@@ -4,6 +4,8 @@ use crate::Network;
 use crate::Rating;
 use crate::gaps::arrival;
 use crate::gaps::gap;
+use crate::rows::line_row;
+use crate::rows::offset_row;
 ghost use mathlib.Core.Path.{_≡_};
 ghost use mathlib.Core.List.{map, _++_, _∷_, []};
 ghost use Prim.Native.Nat.{ℕ, _+_, _-_, _<_, _≤_};
@@ -14,7 +16,7 @@ ghost use Rattle.network.specs.Network as net;
 ghost use Rattle.network.specs.Rating as rating;
 ghost use Rattle.network.specs.Scan as scan;
 ghost use Rattle.network.specs.Stored.{netOf, Sound};
-ghost use Rattle.network.specs.Valid.{Valid, noCall};
+ghost use Rattle.network.specs.Valid.{Valid};
 
 // The gap of two calls, on a sheet of starts and the lines' periods.
 pub fn call_gap(
@@ -35,26 +37,30 @@ pub fn call_gap(
 }
 
 // The least of a number and the gaps between a call and those before it at its stop. `next` is one more than the latest of them, and
-// `previous` leads on from each to the one before.
-pub fn least_gap(
-    network: Network,
-    sheet: &[i32],
+// `previous` leads on from each to the one before. The rows are lent, since a copy of the network for each call takes longer than the gaps.
+fn least_gap(
+    periods: &[u16; Network::MAX_LINES],
+    lines: &[u8; Network::MAX_CALLS],
+    offsets: &[u16; Network::MAX_CALLS],
     previous: &[u16; Network::MAX_CALLS],
+    sheet: &[i32],
     call: Call,
     next: u16,
     least: u32,
 ) -> u32
-    requires { ⌜ Sound network × Valid (netOf network) × (length (now sheet) ≡ length (netOf network .periods)) ⌝ }
-    requires { ⌜ (call .line < length (netOf network .periods)) × (next ≤ network .calls) × scan.LeadsBack (now previous) (network .list) next ⌝ }
-    requires { ⌜ (0 < next → getD (network .list) (next - 1) noCall .stop ≡ call .stop) ⌝ }
-    ensures { λ r. ⌜ r ≡ scan.leastFrom least (map (λ d. rating.gapOfCalls (netOf network) (now (sheet .entry)) d call) (scan.callsBefore (call .stop) (network .list) next)) ⌝ }
+    requires { ⌜ ((h : scan.Rows (now periods) (now lines) (now offsets) (now previous) next) × scan.Beside (h .network) (now sheet) call next) ⌝ }
+    ensures { λ r. ⌜ ((h : scan.Rows (now (periods .entry)) (now (lines .entry)) (now (offsets .entry)) (now (previous .entry)) next) → scan.Beside (h .network) (now (sheet .entry)) call next → r ≡ scan.leastFrom least (map (λ d. rating.gapOfCalls (netOf (h .network)) (now (sheet .entry)) d call) (scan.callsBefore (call .stop) (h .network .list) next))) ⌝ }
 {
     let mut lesser = least;
     let mut from = next as usize;
     while 0 < from {
         let at = from - 1;
-        let other = network.list[at];
-        let between = call_gap(sheet, &network.periods, other, call);
+        let other = Call {
+            line: lines[at],
+            stop: call.stop,
+            offset: offsets[at],
+        };
+        let between = call_gap(sheet, periods, other, call);
         if between < lesser {
             lesser = between;
         }
@@ -65,25 +71,24 @@ pub fn least_gap(
 
 // The gap of a stop with one call more: that call's period where it is the first, else the least of what the gap was and the gaps to the
 // calls before.
-pub fn gap_with(
-    network: Network,
-    sheet: &[i32],
+fn gap_with(
+    periods: &[u16; Network::MAX_LINES],
+    lines: &[u8; Network::MAX_CALLS],
+    offsets: &[u16; Network::MAX_CALLS],
     previous: &[u16; Network::MAX_CALLS],
+    sheet: &[i32],
     call: Call,
     before: u16,
     gap: u32,
 ) -> u32
-    requires { ⌜ Sound network × Valid (netOf network) × (length (now sheet) ≡ length (netOf network .periods)) ⌝ }
-    requires { ⌜ (call .line < length (netOf network .periods)) × (before ≤ network .calls) × scan.LeadsBack (now previous) (network .list) before ⌝ }
-    requires { ⌜ (0 < before → getD (network .list) (before - 1) noCall .stop ≡ call .stop) ⌝ }
-    requires { ⌜ gap ≡ rating.gapOfStop (netOf network) (now sheet) (scan.callsBefore (call .stop) (network .list) before) ⌝ }
-    ensures { λ r. ⌜ r ≡ rating.gapOfStop (netOf network) (now (sheet .entry)) (scan.callsBefore (call .stop) (network .list) before ++ (call ∷ [])) ⌝ }
+    requires { ⌜ ((h : scan.Rows (now periods) (now lines) (now offsets) (now previous) before) × scan.Beside (h .network) (now sheet) call before) ⌝ }
+    ensures { λ r. ⌜ ((h : scan.Rows (now (periods .entry)) (now (lines .entry)) (now (offsets .entry)) (now (previous .entry)) before) → scan.Beside (h .network) (now (sheet .entry)) call before → gap ≡ rating.gapOfStop (netOf (h .network)) (now (sheet .entry)) (scan.callsBefore (call .stop) (h .network .list) before) → r ≡ rating.gapOfStop (netOf (h .network)) (now (sheet .entry)) (scan.callsBefore (call .stop) (h .network .list) before ++ (call ∷ []))) ⌝ }
 {
     if before == 0 {
         let line = call.line as usize;
-        return network.periods[line] as u32;
+        return periods[line] as u32;
     }
-    least_gap(network, sheet, previous, call, before, gap)
+    least_gap(periods, lines, offsets, previous, sheet, call, before, gap)
 }
 
 // The gaps of the stops that count, in one pass over the calls. `last` has for each stop one more than the latest call there, and
@@ -96,6 +101,9 @@ pub fn stop_gaps(
     requires { ⌜ Sound network × Valid (netOf network) × (length (now sheet) ≡ length (netOf network .periods)) ⌝ }
     ensures { λ r. ⌜ ((stop : ℕ) → stop < net.stopCount → 0 < getD (now (counts .entry)) stop 0 → getD r stop 0 ≡ rating.stopGap (netOf network) (now (sheet .entry)) stop) ⌝ }
 {
+    let lines = line_row(network);
+    let offsets = offset_row(network);
+    let periods = network.periods;
     let mut gaps = [0u32; Network::STOPS];
     let mut last = [0u16; Network::STOPS];
     let mut previous = [0u16; Network::MAX_CALLS];
@@ -105,7 +113,17 @@ pub fn stop_gaps(
         let stop = call.stop as usize;
         let before = last[stop];
         if 0 < counts[stop] {
-            gaps[stop] = gap_with(network, sheet, &previous, call, before, gaps[stop]);
+            let gap = gaps[stop];
+            gaps[stop] = gap_with(
+                &periods,
+                &lines,
+                &offsets,
+                &previous,
+                sheet,
+                call,
+                before,
+                gap,
+            );
         }
         previous[i] = before;
         last[stop] = i as u16 + 1;

@@ -1,6 +1,6 @@
 -- `network::ratings::stop_gaps` meets its contract. The loop's invariant: the rows are those after the calls passed. Assumes nothing.
 use Prim.Native.Nat.{ℕ, _+_, _-_, _<_, _≤_}
-use mathlib.Core.Path.{_≡_, sym, ap, _∙_}
+use mathlib.Core.Path.{_≡_, refl, sym, ap, _∙_}
 use mathlib.Core.List.{List, [], _∷_, _++_}
 use mathlib.Core.Logic.{⊎-elim}
 use native.Mathlib.Nat.{le-antisymm}
@@ -9,7 +9,7 @@ use lib.ListN.{length, getD}
 use Rattle.network.specs.declared.Call.{Call}
 use Rattle.network.specs.declared.Network.{Network}
 use Rattle.network.specs.Rating.{gapOfStop, callsOfStop, stopGap}
-use Rattle.network.specs.Scan.{lastAt, callsBefore, LeadsBack}
+use Rattle.network.specs.Scan.{lastAt, callsBefore, LeadsBack, Rows, Beside}
 use Rattle.network.specs.Stored.{netOf}
 use Rattle.network.specs.Valid.{noCall}
 use Rattle.network.proofs.Laws.Scan.{Scanned, scanned-none, scanned-counted, scanned-passed, lastAt-le, lastAt-landed, callsBefore-lastAt}
@@ -18,16 +18,16 @@ use Rattle.network.proofs.ratings.stop_gaps.Statement.{statement}
 use Rattle.network.proofs.ratings.stop_gaps.Tie as tie
 
 abbrev Inv-loop : tie.InvT-loop
-Inv-loop sheet counts network gaps₀ last₀ previous₀ count i₀ gaps last previous i =
+Inv-loop sheet counts network lines offsets periods gaps₀ last₀ previous₀ count i₀ gaps last previous i =
     (i ≤ count) × Scanned (netOf network) sheet (network .list) counts gaps last previous i
 
 abbrev μ-loop : tie.MeasureT-loop
-μ-loop sheet counts network gaps₀ last₀ previous₀ count i₀ gaps last previous i = count - i
+μ-loop sheet counts network lines offsets periods gaps₀ last₀ previous₀ count i₀ gaps last previous i = count - i
 
 -- At a turn of the loop: the call that is looked at, and the latest before it at its stop
 module _ (t : tie.In-loop Inv-loop μ-loop) where
   abbrev start : tie.Start Inv-loop μ-loop
-  start = t .before .before
+  start = t .before .before .before .before .before
 
   abbrev network : Network
   network = start .args .t1
@@ -68,8 +68,37 @@ module _ (t : tie.In-loop Inv-loop μ-loop) where
   unfolding LeadsBack
   leads-before j h = scanned .leads j (omega (arith, before-le, h))
 
+  -- what is lent in the network's place
+  rows : Rows (network .periods) (t .before .before .before .before .line-row .result) (t .before .before .before .offset-row .result) (t .before .loop .previous) before
+  rows =
+      record {
+        network = network;
+        sound = start .pre .0;
+        valid = start .pre .1;
+        periods-are = refl;
+        line-of = t .before .before .before .before .line-row .ensures;
+        offset-of = t .before .before .before .offset-row .ensures;
+        leads = leads-before;
+      }
+
+  beside : Beside network (start .args .sheet .now) call before
+  beside =
+      record {
+        fits = start .pre .2;
+        own-line = omega (arith, held-call-line network (start .pre .0) (start .pre .1) i (t .loop-test .taken), held-lines network (start .pre .0));
+        within = omega (arith, before-le, t .loop-test .taken);
+        lands = lastAt-landed (network .list) (call .stop) i before before-is;
+      }
+
+line-row-requires : tie.Need-line-row-requires Inv-loop μ-loop
+line-row-requires c κs = c .pre .0
+
+offset-row-requires : tie.Need-offset-row-requires Inv-loop μ-loop
+offset-row-requires c κs = c .before .pre .0
+
 loop-holds : tie.Need-loop-holds Inv-loop μ-loop
-loop-holds c = (omega arith, scanned-none (netOf (c .args .t1)) (c .args .sheet .now) (c .args .t1 .list) (c .args .counts .now))
+loop-holds c =
+    let s = c .before .before .before in (omega arith, scanned-none (netOf (s .args .t1)) (s .args .sheet .now) (s .args .t1 .list) (s .args .counts .now))
 
 mul-call : tie.Need-mul-call Inv-loop μ-loop
 mul-call c = omega (arith, small c)
@@ -89,35 +118,21 @@ array-read-before c = omega (arith, stop-low (c .before .before))
 element-copy-out-if1 : tie.Need-element-copy-out-if1 Inv-loop μ-loop
 element-copy-out-if1 c = omega (arith, stop-low (c .before .before))
 
-mul-gap-with : tie.Need-mul-gap-with Inv-loop μ-loop
-mul-gap-with c = omega (arith, stop-low (c .before .before .before .before .before))
+mul-gap : tie.Need-mul-gap Inv-loop μ-loop
+mul-gap c = omega (arith, stop-low (c .before .before .before .before))
 
-array-read-gap-with : tie.Need-array-read-gap-with Inv-loop μ-loop
-array-read-gap-with c = omega (arith, stop-low (c .before .before .before .before .before))
+array-read-gap : tie.Need-array-read-gap Inv-loop μ-loop
+array-read-gap c = omega (arith, stop-low (c .before .before .before .before))
 
 gap-with-requires : tie.Need-gap-with-requires Inv-loop μ-loop
-gap-with-requires c κs =
-    let t = c .before .before .before .before .before in (
-      start t .pre,
-      (
-        (
-          omega (arith, held-call-line (network t) (start t .pre .0) (start t .pre .1) (i t) (t .loop-test .taken), held-lines (network t) (start t .pre .0)),
-          omega (arith, before-le t, t .loop-test .taken),
-          leads-before t,
-        ),
-        (
-          lastAt-landed (network t .list) (call t .stop) (i t) (before t) (before-is t),
-          scanned t .gaps-are (call t .stop) (stop-low t) (c .before .if1 .taken)
-              ∙ ap (gapOfStop (netOf (network t)) (start t .args .sheet .now)) (before-same t),
-        ),
-      ),
-    )
+unfolding rows
+gap-with-requires c κs = let t = c .before .before .before .before .before .before .before .before in (rows t, beside t)
 
 mul-gaps : tie.Need-mul-gaps Inv-loop μ-loop
-mul-gaps c = omega (arith, stop-low (c .before .before .before .before .before .before))
+mul-gaps c = omega (arith, stop-low (c .before .before .before .before .before .before .before .before .before))
 
 array-write-gaps : tie.Need-array-write-gaps Inv-loop μ-loop
-array-write-gaps c = omega (arith, stop-low (c .before .before .before .before .before .before))
+array-write-gaps c = omega (arith, stop-low (c .before .before .before .before .before .before .before .before .before))
 
 mul-previous : tie.Need-mul-previous Inv-loop μ-loop
 mul-previous c = omega (arith, small (c .before .before .before .before))
@@ -144,15 +159,17 @@ loop-less : tie.Need-loop-less Inv-loop μ-loop
 loop-less c = omega (arith, (c .before .before .before .before) .loop-test .taken)
 
 loop-again : tie.Need-loop-again Inv-loop μ-loop
+unfolding rows
 loop-again c =
     let t = c .before .before .before .before in (
       omega (arith, t .loop-test .taken),
       ⊎-elim
           (λ w.
-          rw (w .3)
+          rw (w .6)
           (scanned-counted (netOf (network t)) (start t .args .sheet .now) (network t .list) (start t .args .counts .now) (t .before .loop .gaps)
-          (t .before .loop .last) (t .before .loop .previous) (i t) (scanned t) (small t) (stated t) (stop-low t) (before t) (w .2 .result) (before-is t)
-          (w .2 .ensures
+          (t .before .loop .last) (t .before .loop .previous) (i t) (scanned t) (small t) (stated t) (stop-low t) (before t) (w .5 .result) (before-is t)
+          (w .5 .ensures (rows t) (beside t)
+          (scanned t .gaps-are (call t .stop) (stop-low t) (w .0 .taken) ∙ ap (gapOfStop (netOf (network t)) (start t .args .sheet .now)) (before-same t))
           ∙ ap (λ (cs : List Call). gapOfStop (netOf (network t)) (start t .args .sheet .now) (cs ++ (call t ∷ []))) (sym (before-same t)))))
           (λ w.
           rw (w .1)
@@ -164,7 +181,7 @@ loop-again c =
 returns : tie.Need-returns Inv-loop μ-loop
 unfolding stopGap callsOfStop callsBefore netOf
 returns c stop h k =
-    let s = c .before .before in
+    let s = c .before .before .before .before .before in
     c .before .loop .inv .1 .gaps-are stop h k
     ∙ ap (λ (j : ℕ). gapOfStop (netOf (s .args .t1)) (s .args .sheet .now) (callsBefore stop (s .args .t1 .list) j))
     (le-antisymm (c .before .loop .inv .0) (c .loop-test .left))
@@ -175,6 +192,8 @@ stop-gaps-spec =
     (tie.spec
     Inv-loop
     μ-loop
+    line-row-requires
+    offset-row-requires
     loop-holds
     mul-call
     element-copy-out-call
@@ -182,8 +201,8 @@ stop-gaps-spec =
     mul-before
     array-read-before
     element-copy-out-if1
-    mul-gap-with
-    array-read-gap-with
+    mul-gap
+    array-read-gap
     gap-with-requires
     mul-gaps
     array-write-gaps

@@ -3,7 +3,7 @@ use Prim.Native.Nat.{_-_, _≤_}
 use mathlib.Core.Path.{refl}
 use native.Mathlib.Omega.{arith}
 use lib.ListN.{getD}
-use Rattle.search.proofs.Laws.Rows.{Filled, filled-none, filled-next}
+use Rattle.network.proofs.Laws.Filled.{Filled, filled-none, filled-next}
 use Rattle.search.proofs.call.widened.Statement.{statement}
 use Rattle.search.proofs.call.widened.Tie as tie
 
