@@ -1,4 +1,4 @@
--- The laws of the definitions of `specs/`. `Gaps` is what other crates may use of them.
+-- The laws of the definitions of `specs/`. `Gaps` gathers what other crates use of gaps and ratings.
 pub mod Lists
 pub mod Members
 pub mod Membership
