@@ -20,6 +20,7 @@ pub mod ByLines
 pub mod Rating
 pub mod Starts
 pub mod Permuted
+pub mod Trips
 pub mod Tidy
 pub mod Order
 pub mod Gaps
