@@ -57,7 +57,7 @@ firstBelow p (suc bound) = pick (eqb (firstBelow p bound) bound) (pick (p bound)
 
 -- The lowest stop alike to a served stop
 unfoldable pub lowestAlike : Net → ℕ → ℕ
-lowestAlike n s = firstBelow (λ t. isAlike n t s) s
+lowestAlike n s = firstBelow (λ t. isAlike n t s) (suc maxStop)
 
 -- A stop that is the lowest of its class
 unfoldable pub isLowest : Net → ℕ → Bool

@@ -14,7 +14,7 @@ use borrow.Author.Tests.{eqb-true, eq-eqb}
 use Rattle.network.specs.declared.Call.{Call}
 use Rattle.network.specs.Lists.{allBelow}
 use Rattle.network.specs.Divisor.{gcd}
-use Rattle.network.specs.Network.{Net, callsAt, isServed}
+use Rattle.network.specs.Network.{Net, maxStop, callsAt, isServed}
 use Rattle.network.specs.Valid.{noCall, Valid}
 use Rattle.network.specs.Gap.{residue}
 use Rattle.network.specs.Classes.{offsetAt, offsetDifference, Alike, sameLines, sameDifference, isAlike}
@@ -24,6 +24,15 @@ use Rattle.network.proofs.Laws.Membership.{any-of-member, member-of-any
 use Rattle.network.proofs.Laws.Divisor.{gcd-comm, gcd-pos-left}
 use Rattle.network.proofs.Laws.Integers.{difference, difference-sub, difference-add-multiple, difference-of-eq, eq-of-difference}
 use Rattle.network.proofs.Laws.Gap.{multiple-of-residue-eq, residue-eq-of-multiple}
+
+-- ---- a served stop
+
+pub served-le-maxStop : {n : Net} → Valid n → (s : ℕ) → isServed s (n .calls) ≡ true → s ≤ maxStop
+unfolding isServed
+served-le-maxStop {n} v s e =
+    let (c, m, f) = member-of-any _ (n .calls) e in
+    let (k, h, q) = place-of-member (n .calls) noCall m in
+    rw (eqb-true (c .stop) s f) at (rw q at (v .call-stop k h))
 
 -- ---- an equivalence
 

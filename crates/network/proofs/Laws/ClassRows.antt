@@ -17,8 +17,9 @@ use Rattle.network.specs.Network.{Net, isServed}
 use Rattle.network.specs.Valid.{Valid}
 use Rattle.network.specs.Classes.{isAlike, lowestAlike, isLowest, classRow, weightRow, classCount}
 use Rattle.network.proofs.Laws.Lists.{zero-ne-one, countBelow-next}
-use Rattle.network.proofs.Laws.Tables.{IsFirst, firstBelow-is-first}
-use Rattle.network.proofs.Laws.Classes.{lowestAlike-le, lowestAlike-isLowest, isInClassOf}
+use Rattle.network.proofs.Laws.Tables.{IsFirst}
+use Rattle.network.proofs.Laws.Alike.{alike-is-alike, alike-refl}
+use Rattle.network.proofs.Laws.Classes.{first-alike, lowestAlike-le, lowestAlike-isLowest, isInClassOf}
 use Rattle.network.proofs.Laws.Classes.{length-classRow, length-weightRow, classRow-at, weightRow-at}
 
 -- ---- the lowest stop alike to a stop
@@ -37,17 +38,13 @@ first-unique {p} {bound} {f} {g} x y = go (decLt f g) (decLt g f)
     go (no h) (yes k) = absurd (not-before y x k)
     go (no h) (no k) = omega arith
 
-module _ (n : Net) (s : ℕ) where
-  pub lowestAlike-found : (t : ℕ) → t < s → isAlike n t s ≡ true → ((i : ℕ) → i < t → isAlike n i s ≡ false) → t ≡ lowestAlike n s
-  unfolding lowestAlike
-  lowestAlike-found t h e none =
-      first-unique (record { at-most = omega arith; passes = λ _. e; none-before = none }) (firstBelow-is-first (λ i. isAlike n i s) s)
+pub lowestAlike-found : (n : Net) (s t : ℕ) → t < 64 → isAlike n t s ≡ true → ((i : ℕ) → i < t → isAlike n i s ≡ false) → t ≡ lowestAlike n s
+lowestAlike-found n s t h e none =
+    first-unique (record { at-most = omega arith; passes = λ _. e; none-before = none }) (first-alike n s)
 
-  pub lowestAlike-none : ((i : ℕ) → i < s → isAlike n i s ≡ false) → s ≡ lowestAlike n s
-  unfolding lowestAlike
-  lowestAlike-none none =
-      first-unique (record { at-most = omega arith; passes = λ h. absurd (omega arith); none-before = none })
-      (firstBelow-is-first (λ i. isAlike n i s) s)
+-- .. which is the stop itself where no lower one is
+pub lowestAlike-none : {n : Net} → Valid n → (s : ℕ) → s < 64 → isServed s (n .calls) ≡ true → ((i : ℕ) → i < s → isAlike n i s ≡ false) → s ≡ lowestAlike n s
+lowestAlike-none {n} v s h e = lowestAlike-found n s s h (alike-is-alike v s s .1 (alike-refl n s e))
 
 -- ---- the rows, stop by stop
 
@@ -60,19 +57,19 @@ countBelow-zero p (suc n) h = ap₂ (λ (k : ℕ) (t : Bool). k + pick t 1 0) (c
 abbrev pub classAt : Net → ℕ → ℕ
 classAt n s = pick (isServed s (n .calls)) (lowestAlike n s) 255
 
-module _ (n : Net) (t : ℕ) where
-  pub classAt-le : classAt n t < 64 → classAt n t ≤ t
-  classAt-le = go (isServed t (n .calls))
-    where
-      go : (x : Bool) → pick x (lowestAlike n t) 255 < 64 → pick x (lowestAlike n t) 255 ≤ t
-      go true h = lowestAlike-le n t
-      go false h = absurd (omega arith)
+classAt-le : {n : Net} → Valid n → (t : ℕ) → classAt n t < 64 → classAt n t ≤ t
+classAt-le {n} v t = go (isServed t (n .calls)) refl
+  where
+    go : (x : Bool) → isServed t (n .calls) ≡ x → pick x (lowestAlike n t) 255 < 64 → pick x (lowestAlike n t) 255 ≤ t
+    go true e h = lowestAlike-le v t e
+    go false e h = absurd (omega arith)
 
-  pub classAt-byte : t < 64 → classAt n t < 256
-  classAt-byte h = go (isServed t (n .calls))
+module _ (n : Net) (t : ℕ) where
+  pub classAt-byte : classAt n t < 256
+  classAt-byte = go (isServed t (n .calls))
     where
       go : (x : Bool) → pick x (lowestAlike n t) 255 < 256
-      go true = omega (arith, lowestAlike-le n t)
+      go true = omega (arith, first-alike n t .at-most)
       go false = omega arith
 
   -- it tells the stop's class
@@ -109,7 +106,7 @@ filled-none n classes weights c w =
     }
 
 -- One stop more
-module _ (n : Net) (classes weights : List ℕ) (count stop : ℕ) (f : Filled n classes weights count stop) (h : stop < 64) where
+module _ {n : Net} (v : Valid n) (classes weights : List ℕ) (count stop : ℕ) (f : Filled n classes weights count stop) (h : stop < 64) where
   abbrev pub zeroed : List ℕ
   zeroed = set weights stop 0
 
@@ -117,7 +114,7 @@ module _ (n : Net) (classes weights : List ℕ) (count stop : ℕ) (f : Filled n
   fresh : countBelow (isInClassOf n stop) stop ≡ 0
   fresh =
       countBelow-zero _ stop (λ t k.
-      classAt-in n t stop h ∙ ne-eqb (classAt n t) stop (λ e. let g = classAt-le n t (omega arith) in omega arith))
+      classAt-in n t stop h ∙ ne-eqb (classAt n t) stop (λ e. let g = classAt-le v t (omega arith) in omega arith))
 
   pub zeroed-is : (s : ℕ) → s ≤ stop → getD (set weights stop 0) s 0 ≡ countBelow (isInClassOf n s) stop
   zeroed-is s k = go (ℕ-discrete s stop)
@@ -129,7 +126,7 @@ module _ (n : Net) (classes weights : List ℕ) (count stop : ℕ) (f : Filled n
   -- `at` is the stop's value in the class row
   module _ (at : ℕ) (is : at ≡ classAt n stop) where
     pub at-le : at < 64 → at ≤ stop
-    at-le g = rw is (classAt-le n stop (rw is at g))
+    at-le g = rw is (classAt-le v stop (rw is at g))
 
     in-class : (s : ℕ) → s < 64 → (t : Bool) → eqb at s ≡ t
         → countBelow (isInClassOf n s) stop + pick t 1 0 ≡ countBelow (isInClassOf n s) (stop + 1)

@@ -3,9 +3,9 @@
 use Prim.Native.Nat.{ℕ, suc, _*_, _<_, _≤_}
 use mathlib.Core.Path.{_≡_, refl, sym, ap, ap₂, _∙_}
 use mathlib.Core.Bool.{Bool, true, false, _&&_}
-use mathlib.Core.Logic.{_⊎_, inl, inr, _↔_}
+use mathlib.Core.Logic.{_↔_}
 use mathlib.Core.List.{List, map, map-map, List·Memᴰ}
-use native.Mathlib.Nat.{le-antisymm, eq-or-lt-of-le}
+use native.Mathlib.Nat.{le-antisymm}
 use native.Mathlib.Decide.{decLt}
 use native.Mathlib.Omega.{arith}
 use lib.Dec.{eqb}
@@ -21,26 +21,16 @@ use Rattle.network.proofs.Laws.Lists.{zero-ne-one, and-both}
 use Rattle.network.proofs.Laws.Tables.{IsFirst, firstBelow-is-first, length-table, getD-table, below-of-member, below-same}
 use Rattle.network.proofs.Laws.Tables.{countBelow-length, sumOf-same, sumOf-one, sumOf-map}
 use Rattle.network.proofs.Laws.Representatives.{Represents, sumOf-representatives, leastOf-representatives}
-use Rattle.network.proofs.Laws.Alike.{alike-is-alike, alike-refl, alike-sym, alike-trans}
+use Rattle.network.proofs.Laws.Alike.{served-le-maxStop, alike-is-alike, alike-refl, alike-sym, alike-trans}
 use Rattle.network.proofs.Laws.AlikeGap.{alike-same-gap}
 
 -- ---- the lowest stop alike to a stop
 
-first-alike : (n : Net) (s : ℕ) → IsFirst (λ t. isAlike n t s) s (lowestAlike n s)
+pub first-alike : (n : Net) (s : ℕ) → IsFirst (λ t. isAlike n t s) (suc maxStop) (lowestAlike n s)
 unfolding lowestAlike
-first-alike n s = firstBelow-is-first (λ t. isAlike n t s) s
-
-pub lowestAlike-le : (n : Net) (s : ℕ) → lowestAlike n s ≤ s
-lowestAlike-le n s = first-alike n s .at-most
+first-alike n s = firstBelow-is-first (λ t. isAlike n t s) (suc maxStop)
 
 module _ {n : Net} (v : Valid n) where
-  pub lowestAlike-alike : (s : ℕ) → isServed s (n .calls) ≡ true → Alike n (lowestAlike n s) s
-  lowestAlike-alike s e = go (eq-or-lt-of-le (lowestAlike-le n s))
-    where
-      go : (lowestAlike n s ≡ s) ⊎ (lowestAlike n s < s) → Alike n (lowestAlike n s) s
-      go (inl k) = rw k (alike-refl n s e)
-      go (inr l) = alike-is-alike v (lowestAlike n s) s .0 (first-alike n s .passes l)
-
   -- no lower stop is alike
   pub lowestAlike-lowest : {s t : ℕ} → Alike n t s → lowestAlike n s ≤ t
   lowestAlike-lowest {s} {t} a = go (decLt t (lowestAlike n s))
@@ -48,6 +38,13 @@ module _ {n : Net} (v : Valid n) where
       go : Dec (t < lowestAlike n s) → lowestAlike n s ≤ t
       go (yes l) = let e = first-alike n s .none-before t l in let f = alike-is-alike v t s .1 a in absurd (zero-ne-one (cc))
       go (no l) = omega arith
+
+  pub lowestAlike-le : (s : ℕ) → isServed s (n .calls) ≡ true → lowestAlike n s ≤ s
+  lowestAlike-le s e = lowestAlike-lowest (alike-refl n s e)
+
+  pub lowestAlike-alike : (s : ℕ) → isServed s (n .calls) ≡ true → Alike n (lowestAlike n s) s
+  lowestAlike-alike s e =
+      alike-is-alike v (lowestAlike n s) s .0 (first-alike n s .passes (omega (arith, lowestAlike-le s e, served-le-maxStop v s e)))
 
   lowestAlike-same : {s t : ℕ} → Alike n s t → lowestAlike n s ≡ lowestAlike n t
   lowestAlike-same {s} {t} a =
@@ -122,7 +119,7 @@ module _ {n : Net} (v : Valid n) where
   represents : Represents (λ s. isServed s (n .calls)) (lowestAlike n) (suc maxStop)
   represents =
       record {
-        bound = λ s h e. omega (arith, lowestAlike-le n s);
+        bound = λ s h e. omega (arith, lowestAlike-le v s e);
         passes = λ s h e. lowestAlike-alike v s e .first-served;
         itself = λ s h e. lowestAlike-idempotent v s e;
       }

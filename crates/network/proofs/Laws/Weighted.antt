@@ -26,6 +26,7 @@ use Rattle.network.proofs.Laws.Membership.{any-of-member, member-of-any
 use Rattle.network.proofs.Laws.Tables.{below-of-member, member-of-below, below-same}
 use Rattle.network.proofs.Laws.Rating.{ratingOver-is-rating, IsRatingOver-same, rating-is-rating, IsRating-unique}
 use Rattle.network.proofs.Laws.Valid.{accepted-valid}
+use Rattle.network.proofs.Laws.Alike.{served-le-maxStop}
 use Rattle.network.proofs.Laws.Classes.{lowestAlike-le, lowestAlike-isLowest, isInClassOf, classRow-at, weightRow-at, lowestStops-rows, lowest-rating}
 
 -- ---- the class call
@@ -71,10 +72,8 @@ pub lowestStops-some : {n : Net} → Valid n → 0 < length (lowestStops (classR
 unfolding callsAnywhere isServed
 lowestStops-some {n} v =
     let (c, m, _) = member-of-any _ (n .calls) (v .every-line-calls 0 (v .some-line)) in
-    let (k, h, e) = place-of-member (n .calls) noCall m in
-    let low : c .stop ≤ maxStop = rw e at (v .call-stop k h) in
     let served : isServed (c .stop) (n .calls) ≡ true = any-of-member (λ (d : Call). eqb (d .stop) (c .stop)) (n .calls) m (eq-eqb (c .stop) _ refl) in
-    let lowest = member-of-below (isLowest n) (suc maxStop) (lowestAlike n (c .stop)) (omega (arith, lowestAlike-le n (c .stop)))
+    let lowest = member-of-below (isLowest n) (suc maxStop) (lowestAlike n (c .stop)) (omega (arith, lowestAlike-le v (c .stop) served, served-le-maxStop v (c .stop) served))
     (lowestAlike-isLowest v (c .stop) served) in
     let (i, l, _) = place-of-member (below (isLowest n) (suc maxStop)) 0 lowest in
     rw (lowestStops-rows, length-map) (omega (arith, l))

@@ -99,7 +99,7 @@ returns-3 : tie.Need-returns-3 Inv-loop μ-loop
 returns-3 c =
     let l = c .before in
     let s = l .before .before .before in
-    rw (served-here (l .before)) (lowestAlike-none (netOf (s .args .t1)) (s .args .stop) (λ i h. l .loop .inv .1 i (omega arith)))
+    rw (served-here (l .before)) (lowestAlike-none (s .pre .0 .1) (s .args .stop) (omega arith) (served-here (l .before)) (λ i h. l .loop .inv .1 i (omega arith)))
 
 pub class-of-spec : {M : Type 1} → statement M
 class-of-spec =

@@ -16,6 +16,7 @@ use Rattle.network.specs.Classes.{isLowest}
 use Rattle.network.specs.Stored.{netOf}
 use Rattle.network.proofs.Laws.Lists.{countBelow-le}
 use Rattle.network.proofs.Laws.Classes.{isInClassOf}
+use Rattle.network.specs.Valid.{Valid}
 use Rattle.network.proofs.Laws.ClassRows.{classAt, classAt-byte, Filled, filled-none, zeroed-is, at-le, count-next, filled-served, filled-unserved}
 use Rattle.network.proofs.Laws.ClassRows.{filled-classes, filled-weights, filled-count}
 use Rattle.network.proofs.classes.fill_rows.Statement.{statement}
@@ -67,6 +68,9 @@ module _ (k : tie.After-class-of Inv-loop μ-loop) where
   abbrev at : ℕ
   at = k .class-of .result
 
+  valid : Valid net
+  valid = start .pre .1
+
   low : stop < 64
   low = k .before .before .before .loop-test .taken
 
@@ -84,11 +88,11 @@ module _ (k : tie.After-class-of Inv-loop μ-loop) where
 
   size-small : at < 64 → getD (set weights stop 0) at 0 ≤ stop
   size-small h =
-      let e = zeroed-is net classes weights count stop filled low at (at-le net classes weights count stop filled low at is h) in
+      let e = zeroed-is valid classes weights count stop filled low at (at-le valid classes weights count stop filled low at is h) in
       omega (arith, e, countBelow-le (isInClassOf net at) stop)
 
 cast-at : tie.Need-cast-at Inv-loop μ-loop
-cast-at c = omega (arith, is c, classAt-byte (net c) (stop c) (low c))
+cast-at c = omega (arith, is c, classAt-byte (net c) (stop c))
 
 slice-write-class-row : tie.Need-slice-write-class-row Inv-loop μ-loop
 slice-write-class-row c = omega (arith, low c, filled c .class-row)
@@ -128,19 +132,19 @@ loop-again c =
     let k = c .before .before in
     let e : c .if2 .count ≡ countBelow (isLowest (net k)) (stop k + 1) =
     ⊎-elim
-    (λ w. w .1 ∙ count-next (net k) (classes k) (weights k) (count k) (stop k) (filled k) (low k) (at k) (is k) true (eq-eqb _ _ (w .0 .taken)))
+    (λ w. w .1 ∙ count-next (valid k) (classes k) (weights k) (count k) (stop k) (filled k) (low k) (at k) (is k) true (eq-eqb _ _ (w .0 .taken)))
     (λ w.
     w .1
     ∙ sym (add-zero _)
-    ∙ count-next (net k) (classes k) (weights k) (count k) (stop k) (filled k) (low k) (at k) (is k) false (ne-eqb _ _ (w .0 .left)))
+    ∙ count-next (valid k) (classes k) (weights k) (count k) (stop k) (filled k) (low k) (at k) (is k) false (ne-eqb _ _ (w .0 .left)))
     (c .if2 .came) in
     ⊎-elim
     (λ w.
     rw (w .2)
-    (filled-served (net k) (classes k) (weights k) (count k) (stop k) (filled k) (low k) (at k) (is k) (c .if2 .count) e (w .0 .taken)))
+    (filled-served (valid k) (classes k) (weights k) (count k) (stop k) (filled k) (low k) (at k) (is k) (c .if2 .count) e (w .0 .taken)))
     (λ w.
     rw (w .1)
-    (filled-unserved (net k) (classes k) (weights k) (count k) (stop k) (filled k) (low k) (at k) (is k) (c .if2 .count) e (w .0 .left)))
+    (filled-unserved (valid k) (classes k) (weights k) (count k) (stop k) (filled k) (low k) (at k) (is k) (c .if2 .count) e (w .0 .left)))
     (c .before .if1 .came)
 
 -- Behind the loop all stops are passed
