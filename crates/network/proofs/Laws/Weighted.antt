@@ -15,7 +15,7 @@ use Rattle.network.specs.declared.Rating.{Rating}
 use Rattle.network.specs.Lists.{pick, countBelow, below}
 use Rattle.network.specs.Network.{Net, maxStop, callsAnywhere, isServed}
 use Rattle.network.specs.Reading.{Reading, accepted, refused, Outcome, values, refusal, readFile}
-use Rattle.network.specs.Valid.{IsBytes, noCall, Valid}
+use Rattle.network.specs.Valid.{IsBytes, Valid}
 use Rattle.network.specs.Rate.{ratingValues, onSheet, rateOutcome}
 use Rattle.network.specs.Rating.{Counted, IsRatingOver, IsRating, rating}
 use Rattle.network.specs.Scan.{countedStops}
