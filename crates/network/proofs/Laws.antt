@@ -22,6 +22,7 @@ pub mod Starts
 pub mod Permuted
 pub mod Trips
 pub mod Tidy
+pub mod Places
 pub mod Order
 pub mod Gaps
 pub mod Representatives

@@ -52,7 +52,7 @@ offsetAt-of-member {c} (x ∷ cs) e m =
     go false u f g ih (inr m) = ih m
 
 -- Every line of the one list is a line of the other
-abbrev Covered : List Call → List Call → Type 0
+abbrev pub Covered : List Call → List Call → Type 0
 Covered cs ds = (c : Call) → List·Memᴰ c cs → (d : Call) × List·Memᴰ d ds × (d .line ≡ c .line)
 
 module _ (n : Net) (starts : List ℤ) where
@@ -135,7 +135,7 @@ module _ {n : Net} (v : Valid n) where
   calls-apart = everyTwo-of-places Apart noCall (n .calls) (v .once)
 
   module _ (s : ℕ) where
-    lines-apart : EveryTwo (λ c d. c .line ≡ d .line → ⊥) (callsOfStop n s)
+    pub lines-apart : EveryTwo (λ c d. c .line ≡ d .line → ⊥) (callsOfStop n s)
     unfolding callsOfStop
     lines-apart = everyTwo-keep Apart _ _ (λ c d e f apart l. apart l (eqb-true _ _ e ∙ sym (eqb-true _ _ f))) (n .calls) calls-apart
 
@@ -144,10 +144,10 @@ module _ {n : Net} (v : Valid n) where
       unfolding callsOfStop
       member-at = let (k, e) = member-of-keep _ (n .calls) m in (k, eqb-true _ _ e)
 
-      calls-at : callsAt (c .line) s (n .calls) ≡ true
+      pub calls-at : callsAt (c .line) s (n .calls) ≡ true
       calls-at = rw (member-at .1) at (callsAt-of-member (n .calls) (member-at .0))
 
-      offset-at : c .offset ≡ offsetAt (c .line) s (n .calls)
+      pub offset-at : c .offset ≡ offsetAt (c .line) s (n .calls)
       offset-at = rw (member-at .1) at (sym (offsetAt-of-member (n .calls) calls-apart (member-at .0)))
 
       period-at : 0 < periodOf n c
@@ -162,7 +162,7 @@ module _ {n : Net} (v : Valid n) where
         ap₂ (λ (a b : ℕ). gapOf (start c +ℤ pos a) (periodOf n c) (start d +ℤ pos b) (periodOf n d)) (offset-at m) (offset-at k)
 
   module _ {s t : ℕ} (a : Alike n s t) where
-    covered : Covered (callsOfStop n s) (callsOfStop n t)
+    pub covered : Covered (callsOfStop n s) (callsOfStop n t)
     unfolding callsOfStop
     covered c m =
         let (d, k, e, f) = member-of-callsAt (c .line) t (n .calls) (sym (a .same-lines (c .line)) ∙ calls-at s m) in

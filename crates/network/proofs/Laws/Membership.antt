@@ -1,6 +1,6 @@
 -- The members of a list: those that pass a test, those at its places, every two of them, and the least of a list of numbers, which is
 -- settled by its members alone. Each is one induction on the list. Assumes nothing.
-use Prim.Native.Nat.{ℕ, suc, _<_, _≤_, suc-le-suc}
+use Prim.Native.Nat.{ℕ, zero, suc, _<_, _≤_, suc-le-suc}
 use mathlib.Core.Path.{_≡_, refl, sym, ap, _∙_}
 use mathlib.Core.Bool.{Bool, true, false, _||_}
 use mathlib.Core.List.{List, [], _∷_, map, Memᴰ·of-map, List·Memᴰ, List·Memᴰ·head, List·Memᴰ·tail, List·Memᴰ·not-nil, List·Memᴰ·cases-cons, Memᴰ·cast}
@@ -15,6 +15,11 @@ module _ {A : Type 0} where
   pub place-of-member : {a : A} (xs : List A) (d : A) → List·Memᴰ a xs → (i : ℕ) × (i < length xs) × (getD xs i d ≡ a)
   place-of-member (x ∷ xs) d (List·Memᴰ·head e) = (0, zero-lt-suc _, sym e)
   place-of-member (x ∷ xs) d (List·Memᴰ·tail m) = let (i, h, e) = place-of-member xs d m in (suc i, suc-le-suc h, e)
+
+  pub member-of-place : (xs : List A) (d : A) (i : ℕ) → i < length xs → List·Memᴰ (getD xs i d) xs
+  member-of-place [] d i h = absurd (omega arith)
+  member-of-place (x ∷ xs) d zero h = List·Memᴰ·head refl
+  member-of-place (x ∷ xs) d (suc i) h = List·Memᴰ·tail (member-of-place xs d i (omega arith))
 
   -- ---- those that pass a test
 
@@ -77,6 +82,10 @@ module _ {A : Type 0} where
     λ y m. let (i, l, e) = place-of-member xs d m in rw e at (h 0 (suc i) (zero-lt-suc i) (suc-le-suc l)),
     everyTwo-of-places R d xs (λ j k l m. h (suc j) (suc k) (suc-le-suc l) (suc-le-suc m)),
   )
+
+  pub everyTwo-both : (R S T : A → A → Type 0) → ((a b : A) → R a b → S a b → T a b) → (xs : List A) → EveryTwo R xs → EveryTwo S xs → EveryTwo T xs
+  everyTwo-both R S T h [] f g = tt
+  everyTwo-both R S T h (x ∷ xs) f g = (λ y m. h x y (f .0 y m) (g .0 y m), everyTwo-both R S T h xs (f .1) (g .1))
 
   pub everyTwo-keep : (R S : A → A → Type 0) (p : A → Bool) → ((x y : A) → p x ≡ true → p y ≡ true → R x y → S x y)
       → (xs : List A) → EveryTwo R xs → EveryTwo S (keep p xs)

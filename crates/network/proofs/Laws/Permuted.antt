@@ -3,8 +3,10 @@
 use Prim.Native.Nat.{ℕ, zero, suc, _≤_, _<_}
 use mathlib.Core.Path.{_≡_, refl, sym, ap, ap₂, subst, subst₂, fun-ext, _∙_}
 use mathlib.Core.Bool.{Bool, true, false, _||_}
-use mathlib.Core.List.{List, _∷_, List·Permᴰ, List·Permᴰ·nil, List·Permᴰ·cons, List·Permᴰ·swap, List·Permᴰ·trans}
+use mathlib.Core.List.{List, _∷_, List·Memᴰ, List·Memᴰ·head, List·Memᴰ·tail, List·Memᴰ·cases-cons}
+use mathlib.Core.List.{List·Permᴰ, List·Permᴰ·nil, List·Permᴰ·cons, List·Permᴰ·swap, List·Permᴰ·trans}
 use mathlib.Core.List.{Permᴰ·refl, Permᴰ·symm}
+use mathlib.Core.Logic.{_⊎_, inl, inr}
 use native.Mathlib.Nat.{le-antisymm}
 use native.Mathlib.Omega.{arith}
 use lib.Dec.{eqb}
@@ -16,6 +18,7 @@ use Rattle.network.specs.Network.{Net, maxStop, isServed}
 use Rattle.network.specs.Valid.{noCall, Valid}
 use Rattle.network.specs.Rating.{periodOf, gapOfCalls, gapOfStop, callsOfStop, stopGap, servedList, eachOnce, counted, rating}
 use Rattle.network.proofs.Laws.Members.{Has, All, AllPairs, all-cons, all-head, all-tail, pairs-cons, pairs-head, pairs-tail}
+use Rattle.network.proofs.Laws.Membership.{EveryTwo}
 use Rattle.network.proofs.Laws.Least.{leastOf-same}
 use Rattle.network.proofs.Laws.Pairs.{gapOfCalls-symmetric, gapOfStop-le-pair, gapOfStop-attained, gapOfStop-none}
 use Rattle.network.proofs.Laws.Pairs.{gapOfStop-single, gapOfStop-periods}
@@ -29,6 +32,28 @@ length-permuted List·Permᴰ·nil = refl
 length-permuted (List·Permᴰ·cons e π) = ap suc (length-permuted π)
 length-permuted (List·Permᴰ·swap e f) = refl
 length-permuted (List·Permᴰ·trans π ρ) = length-permuted π ∙ length-permuted ρ
+
+module _ {A : Type 0} where
+  pub member-permuted : {a : A} {xs ys : List A} → List·Permᴰ xs ys → List·Memᴰ a xs → List·Memᴰ a ys
+  member-permuted List·Permᴰ·nil m = m
+  member-permuted (List·Permᴰ·cons e π) (List·Memᴰ·head d) = List·Memᴰ·head (d ∙ e)
+  member-permuted (List·Permᴰ·cons e π) (List·Memᴰ·tail m) = List·Memᴰ·tail (member-permuted π m)
+  member-permuted (List·Permᴰ·swap e f) (List·Memᴰ·head d) = List·Memᴰ·tail (List·Memᴰ·head (d ∙ e))
+  member-permuted (List·Permᴰ·swap e f) (List·Memᴰ·tail (List·Memᴰ·head d)) = List·Memᴰ·head (d ∙ f)
+  member-permuted (List·Permᴰ·swap e f) (List·Memᴰ·tail (List·Memᴰ·tail m)) = List·Memᴰ·tail (List·Memᴰ·tail m)
+  member-permuted (List·Permᴰ·trans π ρ) m = member-permuted ρ (member-permuted π m)
+
+  pub everyTwo-permuted : (R : A → A → Type 0) → ((a b : A) → R a b → R b a) → {xs ys : List A} → List·Permᴰ xs ys → EveryTwo R xs → EveryTwo R ys
+  everyTwo-permuted R s List·Permᴰ·nil f = f
+  everyTwo-permuted R s (List·Permᴰ·cons e π) f =
+      (λ y m. subst (λ x. R x y) e (f .0 y (member-permuted (Permᴰ·symm π) m)), everyTwo-permuted R s π (f .1))
+  everyTwo-permuted R s (List·Permᴰ·swap {a = a} {b = b} {a′ = a′} {b′ = b′} {l = l} e g) f =
+      (λ y m. first y (List·Memᴰ·cases-cons m), (λ y m. subst (λ x. R x y) e (f .0 y (List·Memᴰ·tail m)), f .1 .1))
+    where
+      first : (y : A) → (y ≡ b′) ⊎ List·Memᴰ y l → R a′ y
+      first y (inl d) = subst (λ x. R x y) g (subst (R b) (e ∙ sym d) (s a b (f .0 b (List·Memᴰ·head refl))))
+      first y (inr m) = subst (λ x. R x y) g (f .1 .0 y m)
+  everyTwo-permuted R s (List·Permᴰ·trans π ρ) f = everyTwo-permuted R s ρ (everyTwo-permuted R s π f)
 
 module _ {A : Type 0} (d : A) where
   pub all-permuted : (P : A → Type 0) {xs ys : List A} → List·Permᴰ xs ys → All d P xs → All d P ys
