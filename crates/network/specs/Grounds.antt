@@ -9,8 +9,8 @@ use Rattle.network.specs.declared.Check.the-variants.{Passes, Refused}
 use Rattle.network.specs.Divisor.{lcm}
 use Rattle.network.specs.Lists.{allBelow}
 use Rattle.network.specs.Network.{Net, Command, statesLine, callsByOffset, callsByRide, ends, unknown}
-use Rattle.network.specs.Network.{maxLines, maxPeriod, maxCycle, maxStop, maxOffset, maxCalls}
-use Rattle.network.specs.Network.{cycle, callsAt, callsAnywhere, word, operandBytes, lineOperand, stopOperand, rideOffset}
+use Rattle.network.specs.Network.{maxLines, maxPeriod, maxCycle, maxStop, maxOffset, maxCalls, maxCallsAtStop}
+use Rattle.network.specs.Network.{cycle, howOftenAt, callsAnywhere, word, operandBytes, lineOperand, stopOperand, rideOffset}
 
 -- A ground has its number, the place that a refusal names, and the test by which it applies
 infix 1 _at_when_
@@ -41,7 +41,7 @@ unfoldable pub callGrounds : Net → ℕ → List ℕ → List Ground
 callGrounds n p behind =
     (7 at p when leb (length (n .periods)) (lineOperand behind)) ∷
     (8 at p when ltb maxStop (stopOperand behind)) ∷
-    (9 at p when callsAt (lineOperand behind) (stopOperand behind) (n .calls)) ∷
+    (9 at p when leb maxCallsAtStop (howOftenAt (lineOperand behind) (stopOperand behind) (n .calls))) ∷
     (10 at p when leb maxCalls (length (n .calls))) ∷
     []
 

@@ -3,10 +3,10 @@ use Prim.Native.Nat.{ℕ, _+_, _*_}
 use mathlib.Core.Bool.{Bool, _&&_}
 use mathlib.Core.List.{List, [], _∷_, _++_}
 use lib.Dec.{eqb}
-use lib.ListN.{getD}
+use lib.ListN.{length, getD}
 use Rattle.network.specs.declared.Call.{Call}
 use Rattle.network.specs.Divisor.{commonCycle}
-use Rattle.network.specs.Lists.{pick, any, countBelow}
+use Rattle.network.specs.Lists.{pick, any, keep, countBelow}
 
 -- Lines count from 0 in the order of `periods`; a call has the fields `line`, `stop` and `offset`
 pub record Net : Type 0 where
@@ -50,6 +50,9 @@ maxOffset = 65535
 abbrev pub maxCalls : ℕ
 maxCalls = 256
 
+abbrev pub maxCallsAtStop : ℕ
+maxCallsAtStop = 1
+
 -- The common cycle: the least common multiple of all periods
 unfoldable pub cycle : Net → ℕ
 cycle n = commonCycle (n .periods)
@@ -57,6 +60,10 @@ cycle n = commonCycle (n .periods)
 -- The line calls at the stop
 unfoldable pub callsAt : ℕ → ℕ → List Call → Bool
 callsAt line stop cs = any (λ (c : Call). eqb (c .line) line && eqb (c .stop) stop) cs
+
+-- How often it does
+unfoldable pub howOftenAt : ℕ → ℕ → List Call → ℕ
+howOftenAt line stop cs = length (keep (λ (c : Call). eqb (c .line) line && eqb (c .stop) stop) cs)
 
 -- The line calls somewhere
 unfoldable pub callsAnywhere : ℕ → List Call → Bool

@@ -7,7 +7,7 @@ use lib.IntN.{ℤ, pos, negsuc}
 use lib.ListN.{take, replicate, length}
 use Rattle.network.specs.Lists.{any, keep, allBelow, countBelow, below, sumOf, leastOf, pairsOf}
 use Rattle.network.specs.Divisor.{gcd, gcdWithin, lcm, commonCycle, cycleFrom}
-use Rattle.network.specs.Network.{cycle, callsAt, callsAnywhere, isServed, servedStops, latestOffset, word, command, operandBytes, lineOperand}
+use Rattle.network.specs.Network.{cycle, callsAt, howOftenAt, callsAnywhere, isServed, servedStops, latestOffset, word, command, operandBytes, lineOperand}
 use Rattle.network.specs.Network.{stopOperand, statedOffset, rideOffset, withLine, withCall, callOf, extend}
 use Rattle.network.specs.Grounds.{first, cutOff, periodOutOfRange, someLineSilent, callGrounds, grounds}
 use Rattle.network.specs.Reading.{proceed, readFrom, readFile, readOutcome, Reading, accepted, refused, values}
@@ -22,7 +22,7 @@ use Rattle.search.specs.Search.{SearchOutcome, finished, stopped, stoppe
 
 -- Opens every definition
 opened : ℕ
-unfolding any keep allBelow countBelow below sumOf leastOf gcd gcdWithin lcm commonCycle cycleFrom cycle callsAt callsAnywhere isServed servedStops latestOffset word command operandBytes lineOperand stopOperand statedOffset rideOffset withLine withCall callOf extend first cutOff periodOutOfRange someLineSilent callGrounds grounds proceed readFrom readFile readOutcome residue fold gapOf arrivalOf periodOf gapOfCalls pairGaps gapOfStop callsOfStop stopGap eachOnce counted ratingBy servedList ratingOver rating isAbove ratingValues onSheet rateOutcome offsetAt offsetDifference sameLines sameDifference isAlike firstBelow lowestAlike isLowest table classRow weightRow classCount leastFrom halves evenSpacing capOfCalls cap placedCalls upperValue upperRating tryMade stop becomesBest unless stopIf oneTry eachStart walk mostTries startCounts notAbove searched triesBound walkOutcome outcomeOf searchOutcome startRowAfter pairsOf
+unfolding any keep allBelow countBelow below sumOf leastOf gcd gcdWithin lcm commonCycle cycleFrom cycle callsAt howOftenAt callsAnywhere isServed servedStops latestOffset word command operandBytes lineOperand stopOperand statedOffset rideOffset withLine withCall callOf extend first cutOff periodOutOfRange someLineSilent callGrounds grounds proceed readFrom readFile readOutcome residue fold gapOf arrivalOf periodOf gapOfCalls pairGaps gapOfStop callsOfStop stopGap eachOnce counted ratingBy servedList ratingOver rating isAbove ratingValues onSheet rateOutcome offsetAt offsetDifference sameLines sameDifference isAlike firstBelow lowestAlike isLowest table classRow weightRow classCount leastFrom halves evenSpacing capOfCalls cap placedCalls upperValue upperRating tryMade stop becomesBest unless stopIf oneTry eachStart walk mostTries startCounts notAbove searched triesBound walkOutcome outcomeOf searchOutcome startRowAfter pairsOf
 opened = 0
 
 -- The files

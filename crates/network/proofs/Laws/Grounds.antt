@@ -1,7 +1,7 @@
 -- Laws of a command's grounds: which applies first, what it tells that none does, and what a refusal names. Each follows from the
 -- tests, in their order. Assumes nothing.
 use Prim.Native.Nat.{ℕ, _+_, _<_, _≤_}
-use mathlib.Core.Path.{_≡_, refl, subst₂}
+use mathlib.Core.Path.{_≡_, refl, sym, subst₂, _∙_}
 use native.Mathlib.Omega.{arith}
 use mathlib.Core.Bool.{Bool, true, false, or-true}
 use mathlib.Core.List.{List, [], _∷_, _++_}
@@ -14,6 +14,7 @@ use Rattle.network.specs.Network.{Net, Command, statesLine, callsByOffse
 use Rattle.network.specs.Network.{maxLines, maxPeriod, maxCycle, maxStop, maxOffset, maxCalls}
 use Rattle.network.specs.Network.{cycle, callsAt, callsAnywhere, word, operandBytes, lineOperand, stopOperand, rideOffset}
 use Rattle.network.specs.Grounds.{Ground, _at_when_, first, cutOff, periodOutOfRange, someLineSilent, callGrounds, grounds}
+use Rattle.network.proofs.Laws.Network.{howOftenAt-some}
 use Rattle.network.proofs.Laws.Lists.{zero-ne-one, or-neither, allBelow-at}
 
 pub first-none : first [] ≡ Passes
@@ -117,7 +118,7 @@ call-passes c n p behind cut e₁ =
       operands = not-cut-off c behind cut;
       line = leb-false _ _ unstated;
       stop = ltb-false _ _ far;
-      fresh = again;
+      fresh = sym (howOftenAt-some (lineOperand behind) (stopOperand behind) (n .calls)) ∙ again;
       room = leb-false _ _ full;
     }
 

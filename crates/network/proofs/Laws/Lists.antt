@@ -8,9 +8,11 @@ use mathlib.Core.Logic.{_⊎_, inl, inr}
 use native.Mathlib.Nat.{le-refl, le-of-suc-le-suc, eq-or-lt-of-le, zero-lt-suc}
 use native.Mathlib.Numerals.{add-one}
 use native.Mathlib.Omega.{arith}
+use borrow.Author.Tests.{le-leb}
+use lib.Dec.{leb}
 use lib.ListN.{length, getD, take, drop, set, length-drop}
 use lib.Seq.{take-suc, take-suc-set, take-all}
-use Rattle.network.specs.Lists.{pick, any, allBelow, countBelow}
+use Rattle.network.specs.Lists.{pick, any, keep, allBelow, countBelow}
 
 -- For two constructors that an equation takes for one: `cc` then proves that 0 is 1
 pub zero-ne-one : _≡_ {A = ℕ} 0 1 → ⊥
@@ -41,6 +43,15 @@ or-neither true b e = absurd (zero-ne-one (cc))
 or-neither false b e = (refl, e)
 
 module _ {A : Type 0} (p : A → Bool) where
+  pub length-keep-some : (xs : List A) → leb 1 (length (keep p xs)) ≡ any p xs
+  unfolding keep any
+  length-keep-some [] = refl
+  length-keep-some (x ∷ xs) = go (p x) (length-keep-some xs)
+    where
+      go : (t : Bool) → leb 1 (length (keep p xs)) ≡ any p xs → leb 1 (length (pick t (x ∷ keep p xs) (keep p xs))) ≡ (t || any p xs)
+      go true e = le-leb 1 (length (x ∷ keep p xs)) (omega arith)
+      go false e = e
+
   pub any-append : (xs ys : List A) → any p (xs ++ ys) ≡ (any p xs || any p ys)
   unfolding any
   any-append [] ys = refl

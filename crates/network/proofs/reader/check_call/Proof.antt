@@ -6,14 +6,15 @@ use mathlib.Core.List.{List}
 use native.Mathlib.Omega.{arith}
 use borrow.Author.Needs.{needs}
 use borrow.Author.Tests.{lt-ltb, le-ltb, le-leb, lt-leb}
-use lib.Dec.{ltb}
+use lib.Dec.{leb, ltb}
 use lib.ListN.{length, getD}
 use Rattle.network.specs.declared.Call.{Call}
 use Rattle.network.specs.declared.Check.the-variants.{Passes, Refused}
-use Rattle.network.specs.Network.{maxLines, maxStop, maxCalls, callsAt, lineOperand, stopOperand}
+use Rattle.network.specs.Network.{maxLines, maxStop, maxCalls, maxCallsAtStop, howOftenAt, lineOperand, stopOperand}
 use Rattle.network.specs.Grounds.{callGrounds}
 use Rattle.network.specs.Offsets.{Marks, markIn}
 use Rattle.network.proofs.Laws.Lists.{zero-ne-one}
+use Rattle.network.proofs.Laws.Network.{howOftenAt-some}
 use Rattle.network.proofs.Laws.Grounds.{first-none, first-hit, first-miss}
 use Rattle.network.proofs.Laws.Offsets.{called-mark}
 use Rattle.network.proofs.reader.check_call.Statement.{statement}
@@ -21,9 +22,9 @@ use Rattle.network.proofs.reader.check_call.Tie as tie
 
 -- The mark of the line at the stop says whether ground 9 applies
 marked : (marks : List ℕ) (cs : List Call) → Marks marks cs → (line stop mark : ℕ) → line < maxLines → stop ≤ maxStop
-    → mark ≡ markIn marks line stop → callsAt line stop cs ≡ ltb 0 mark
+    → mark ≡ markIn marks line stop → leb maxCallsAtStop (howOftenAt line stop cs) ≡ ltb 0 mark
 unfolding Marks
-marked marks cs m line stop mark h k e = sym (ap (ltb 0) (e ∙ m line stop h k) ∙ called-mark line stop cs)
+marked marks cs m line stop mark h k e = howOftenAt-some line stop cs ∙ sym (ap (ltb 0) (e ∙ m line stop h k) ∙ called-mark line stop cs)
 
 -- A refusal is no pass
 never : {A : Type 0} (number place : ℕ) → Refused number place ≡ Passes → A
