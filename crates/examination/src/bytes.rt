@@ -7,7 +7,7 @@ ghost use lib.ListN.{length};
 ghost use Rattle.examination.specs.Taken as taken;
 
 // The start that begins at a place of a sheet's bytes.
-pub fn start_at(bytes: &[u8], at: usize) -> i32
+fn start_at(bytes: &[u8], at: usize) -> i32
     requires { ⌜ at + 3 < length (now bytes) ⌝ }
     ensures { λ r. ⌜ r ≡ taken.startAt (now (bytes .entry)) at ⌝ }
 {

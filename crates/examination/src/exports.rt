@@ -31,7 +31,7 @@ ghost use Rattle.examination.specs.Sheets as sheets;
 const PLACE_LIMIT: u32 = 65536;
 
 // A refusal as one number.
-pub fn refusal_code(number: u8, place: usize) -> u32
+fn refusal_code(number: u8, place: usize) -> u32
     requires { ⌜ place < export.placeLimit ⌝ }
     ensures { λ r. ⌜ r ≡ export.refusalCode number place ⌝ }
 {
@@ -39,14 +39,14 @@ pub fn refusal_code(number: u8, place: usize) -> u32
 }
 
 // 1 where the test holds, else 0.
-pub fn one_if(test: bool) -> u32
+fn one_if(test: bool) -> u32
     ensures { λ r. ⌜ r ≡ export.oneIf test ⌝ }
 {
     if test { 1 } else { 0 }
 }
 
 // A rating's two numbers into the answer row, or a refusal; and what the export returns.
-pub fn put_rating(told: RateAnswer, answer: &mut [u32; 2]) -> u32
+fn put_rating(told: RateAnswer, answer: &mut [u32; 2]) -> u32
     requires { ⌜ ((number place : ℕ) → rateAnswer told ≡ refusal number place → place < export.placeLimit) ⌝ }
     ensures returned { λ r. ⌜ r ≡ export.status (rateAnswer told) ⌝ }
     ensures row { λ _. ⌜ now (answer .exit) ≡ export.rowAfter (rateAnswer told) (now (answer .entry)) ⌝ }

@@ -47,7 +47,7 @@ pub fn both_or_neither(here: u32, there: u32) -> bool
 }
 
 // Whether the same lines call at both stops.
-pub fn same_lines(marks: &[u32; Network::TABLE], lines: usize, first: usize, second: usize) -> bool
+fn same_lines(marks: &[u32; Network::TABLE], lines: usize, first: usize, second: usize) -> bool
     requires { ⌜ (lines ≤ net.maxLines) × (first < net.stopCount) × (second < net.stopCount) ⌝ }
     ensures { λ r. ⌜ r ≡ allBelow (sameLineIn (now (marks .entry)) first second) lines ⌝ }
 {
@@ -60,7 +60,7 @@ pub fn same_lines(marks: &[u32; Network::TABLE], lines: usize, first: usize, sec
 }
 
 // Whether the differences a - b and c - d leave the same remainder by the divisor of two periods.
-pub fn same_remainder(a: u32, b: u32, c: u32, d: u32, period: u16, other: u16) -> bool
+fn same_remainder(a: u32, b: u32, c: u32, d: u32, period: u16, other: u16) -> bool
     requires { ⌜ 0 < period ⌝ }
     ensures { λ r. ⌜ r ≡ eqb (gaps.residue (pos a -ℤ pos b) (divisor.gcd period other)) (gaps.residue (pos c -ℤ pos d) (divisor.gcd period other)) ⌝ }
 {
@@ -70,7 +70,7 @@ pub fn same_remainder(a: u32, b: u32, c: u32, d: u32, period: u16, other: u16) -
 
 // Whether the offsets of two lines differ at both stops by the same remainder. Marks, being one more, differ as the offsets do. Where one of
 // the lines doesn't call at the first stop, there is nothing to compare.
-pub fn same_difference(
+fn same_difference(
     marks: &[u32; Network::TABLE],
     periods: &[u16; Network::MAX_LINES],
     first: usize,
@@ -94,7 +94,7 @@ pub fn same_difference(
 }
 
 // The same for a line and each line before it. Every pair of lines is met once, at the later of the two.
-pub fn same_differences(
+fn same_differences(
     marks: &[u32; Network::TABLE],
     periods: &[u16; Network::MAX_LINES],
     first: usize,

@@ -26,7 +26,7 @@ ghost use Rattle.network.specs.Valid.{Valid, IsBytes};
 
 // The lowest stop alike to a stop, 255 if it is unserved. Of the stops below it none needs to be asked whether it is served: without a line
 // it has other lines than a served stop.
-pub fn class_of(
+fn class_of(
     network: Network,
     marks: &[u32; Network::TABLE],
     served: &[u8; Network::STOPS],
@@ -50,7 +50,7 @@ pub fn class_of(
 
 // Fills both rows and counts the classes. The lowest stop of a class comes before the others, so that its weight is set to 0 before they
 // are counted there.
-pub fn fill_rows(network: Network, class_row: &mut [u8], weight_row: &mut [u16]) -> u32
+fn fill_rows(network: Network, class_row: &mut [u8], weight_row: &mut [u16]) -> u32
     requires { ⌜ Sound network × Valid (netOf network) × (length (now «class_row») ≡ net.stopCount) × (length (now «weight_row») ≡ net.stopCount) ⌝ }
     ensures { λ r. ⌜ r ≡ class.classCount (netOf network) ⌝ }
     ensures { λ r. ⌜ now («class_row» .exit) ≡ class.classRow (netOf network) ⌝ }
@@ -88,7 +88,7 @@ pub fn lowest_row(classes: &[u8; Network::STOPS]) -> [u8; Network::STOPS]
 }
 
 // The weighted rating of a sheet with one start for each line: the gaps of the lowest stops alone are computed.
-pub fn weighted_rating(network: Network, sheet: &[i32]) -> Rating
+fn weighted_rating(network: Network, sheet: &[i32]) -> Rating
     requires { ⌜ Sound network × Valid (netOf network) × (length (now sheet) ≡ length (netOf network .periods)) ⌝ }
     ensures { λ r. ⌜ r ≡ call.weightedRating (netOf network) (now (sheet .entry)) ⌝ }
 {

@@ -16,7 +16,7 @@ ghost use Rattle.network.specs.Stored.{netOf, Sound};
 ghost use Rattle.network.specs.Valid.{Valid, IsBytes};
 
 // The rating of a sheet with one start for each line: every served stop counts once.
-pub fn sheet_rating(network: Network, sheet: &[i32]) -> Rating
+fn sheet_rating(network: Network, sheet: &[i32]) -> Rating
     requires { ⌜ Sound network × Valid (netOf network) × (length (now sheet) ≡ length (netOf network .periods)) ⌝ }
     ensures { λ r. ⌜ r ≡ rating.rating (netOf network) (now (sheet .entry)) ⌝ }
 {

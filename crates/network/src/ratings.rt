@@ -19,12 +19,7 @@ ghost use Rattle.network.specs.Stored.{netOf, Sound};
 ghost use Rattle.network.specs.Valid.{Valid};
 
 // The gap of two calls, on a sheet of starts and the lines' periods.
-pub fn call_gap(
-    sheet: &[i32],
-    periods: &[u16; Network::MAX_LINES],
-    first: Call,
-    second: Call,
-) -> u32
+fn call_gap(sheet: &[i32], periods: &[u16; Network::MAX_LINES], first: Call, second: Call) -> u32
     requires { ⌜ (first .line < net.maxLines) × (first .line < length (now sheet)) × (0 < getD (now periods) (first .line) 0) ⌝ }
     requires { ⌜ (second .line < net.maxLines) × (second .line < length (now sheet)) ⌝ }
     ensures { λ r. ⌜ r ≡ gapOf (rating.arrivalOf (now (sheet .entry)) first) (getD (now (periods .entry)) (first .line) 0) (rating.arrivalOf (now (sheet .entry)) second) (getD (now (periods .entry)) (second .line) 0) ⌝ }

@@ -63,7 +63,7 @@ pub fn operand_bytes(code: u8) -> usize
 }
 
 // The part of the file that begins behind a command: what stands behind its byte, without its operands.
-pub fn part_behind(code: u8, behind: &[u8]) -> &[u8]
+fn part_behind(code: u8, behind: &[u8]) -> &[u8]
     requires { ⌜ net.operandBytes (net.command code) ≤ length (now behind) ⌝ }
     ensures { λ r. ⌜ now r ≡ drop (net.operandBytes (net.command code)) (now (behind .entry)) ⌝ }
 {
@@ -72,7 +72,7 @@ pub fn part_behind(code: u8, behind: &[u8]) -> &[u8]
 }
 
 // 4C: grounds 3 to 6, or a line. As for every command, what is told is right of each network with these numbers and rows.
-pub fn read_line(size: Size, behind: &[u8], at: usize) -> Told
+fn read_line(size: Size, behind: &[u8], at: usize) -> Told
     requires { ⌜ (0 < size .cycle) × (size .cycle ≤ net.maxCycle) ⌝ }
     ensures { λ r. ⌜ ((n : net.Net) → HasSize n size → Tells net.statesLine n at (now (behind .entry)) r) ⌝ }
 {
@@ -119,7 +119,7 @@ pub fn call_cut_off(behind: &[u8]) -> bool
 }
 
 // 43 and 46: the grounds that they share once their operands are there, 7 to 10.
-pub fn check_call(size: Size, marks: &[u32; Network::TABLE], behind: &[u8], at: usize) -> Check
+fn check_call(size: Size, marks: &[u32; Network::TABLE], behind: &[u8], at: usize) -> Check
     requires { ⌜ (size .lines ≤ net.maxLines) × (4 ≤ length (now behind)) ⌝ }
     ensures { λ r. ⌜ ((n : net.Net) → HasSize n size → Marks (now (marks .entry)) (n .calls) → r ≡ ground.first (ground.callGrounds n at (now (behind .entry)))) ⌝ }
     ensures { λ r. ⌜ (r ≡ Check.Passes → getD (now (behind .entry)) 0 0 < size .lines) ⌝ }
@@ -154,7 +154,7 @@ pub fn check_call(size: Size, marks: &[u32; Network::TABLE], behind: &[u8], at: 
 }
 
 // 43: the grounds of a call, or a call.
-pub fn read_call(size: Size, marks: &[u32; Network::TABLE], behind: &[u8], at: usize) -> Told
+fn read_call(size: Size, marks: &[u32; Network::TABLE], behind: &[u8], at: usize) -> Told
     requires { ⌜ size .lines ≤ net.maxLines ⌝ }
     ensures { λ r. ⌜ ((n : net.Net) → HasSize n size → Marks (now (marks .entry)) (n .calls) → Tells net.callsByOffset n at (now (behind .entry)) r) ⌝ }
 {
@@ -179,7 +179,7 @@ pub fn read_call(size: Size, marks: &[u32; Network::TABLE], behind: &[u8], at: u
 }
 
 // 46: the grounds of a call, then those of the ride.
-pub fn read_ride(
+fn read_ride(
     size: Size,
     marks: &[u32; Network::TABLE],
     latest: &[u32; Network::MAX_LINES],
@@ -203,7 +203,7 @@ pub fn read_ride(
 }
 
 // One more than the offset of the line's latest call, 0 where it has none.
-pub fn latest_of(latest: &[u32; Network::MAX_LINES], line: u8) -> u32
+fn latest_of(latest: &[u32; Network::MAX_LINES], line: u8) -> u32
     requires { ⌜ line < net.maxLines ⌝ }
     ensures { λ r. ⌜ r ≡ getD (now (latest .entry)) line 0 ⌝ }
 {
@@ -211,7 +211,7 @@ pub fn latest_of(latest: &[u32; Network::MAX_LINES], line: u8) -> u32
 }
 
 // 46 where the grounds of a call are passed: grounds 11 and 12, or a call. The sum is of 64 bits, so that it fits whatever the row holds.
-pub fn read_following_call(latest: &[u32; Network::MAX_LINES], behind: &[u8], at: usize) -> Told
+fn read_following_call(latest: &[u32; Network::MAX_LINES], behind: &[u8], at: usize) -> Told
     requires { ⌜ (4 ≤ length (now behind)) × (getD (now behind) 0 0 < net.maxLines) ⌝ }
     ensures { λ r. ⌜ ((n : net.Net) → Latest (now (latest .entry)) (n .calls) → ground.first (ground.callGrounds n at (now (behind .entry))) ≡ Check.Passes → Tells net.callsByRide n at (now (behind .entry)) r) ⌝ }
 {
@@ -239,7 +239,7 @@ pub fn read_following_call(latest: &[u32; Network::MAX_LINES], behind: &[u8], at
 }
 
 // Whether every line has a call.
-pub fn every_line_calls(lines: usize, latest: &[u32; Network::MAX_LINES]) -> bool
+fn every_line_calls(lines: usize, latest: &[u32; Network::MAX_LINES]) -> bool
     requires { ⌜ lines ≤ net.maxLines ⌝ }
     ensures { λ r. ⌜ r ≡ lists.allBelow (λ line. ltb 0 (getD (now (latest .entry)) line 0)) lines ⌝ }
 {
@@ -252,7 +252,7 @@ pub fn every_line_calls(lines: usize, latest: &[u32; Network::MAX_LINES]) -> boo
 }
 
 // 45: grounds 13 and 14, or the end of the file.
-pub fn read_end(lines: usize, latest: &[u32; Network::MAX_LINES], behind: &[u8], at: usize) -> Told
+fn read_end(lines: usize, latest: &[u32; Network::MAX_LINES], behind: &[u8], at: usize) -> Told
     requires { ⌜ (lines ≤ net.maxLines) × (at < 2 ^ 63) ⌝ }
     ensures { λ r. ⌜ ((n : net.Net) → lines ≡ length (n .periods) → Latest (now (latest .entry)) (n .calls) → Tells net.ends n at (now (behind .entry)) r) ⌝ }
 {
@@ -278,7 +278,7 @@ pub fn read_end(lines: usize, latest: &[u32; Network::MAX_LINES], behind: &[u8],
 }
 
 // One command: its grounds, or what it states. `behind` is the part of the file behind its byte.
-pub fn read_command(
+fn read_command(
     code: u8,
     size: Size,
     marks: &[u32; Network::TABLE],
@@ -345,7 +345,7 @@ pub fn read_network(file: &[u8]) -> Step
 }
 
 // How many stops are served.
-pub fn served_stops(network: Network) -> u32
+fn served_stops(network: Network) -> u32
     requires { ⌜ Sound network × Valid (netOf network) ⌝ }
     ensures { λ r. ⌜ r ≡ net.servedStops (netOf network) ⌝ }
 {

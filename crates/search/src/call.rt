@@ -40,7 +40,7 @@ pub fn widened(row: &[u16; Network::STOPS]) -> [u32; Network::STOPS]
 }
 
 // Before the first try: no line is placed, and each stop's upper value is its cap.
-pub fn unplaced(network: Network) -> Placed
+fn unplaced(network: Network) -> Placed
     requires { ⌜ Sound network × Valid (netOf network) ⌝ }
     ensures { λ r. ⌜ held.Represents (netOf network) 0 r ⌝ }
 {
@@ -58,7 +58,7 @@ pub fn unplaced(network: Network) -> Placed
 }
 
 // The walk over a network.
-pub fn searched(network: Network, budget: u32) -> Walk
+fn searched(network: Network, budget: u32) -> Walk
     requires { ⌜ Sound network × Valid (netOf network) ⌝ }
     ensures { λ r. ⌜ held.stateOf (netOf network) r ≡ spec.searched (netOf network) budget ⌝ }
 {
@@ -98,7 +98,7 @@ pub fn searched(network: Network, budget: u32) -> Walk
 }
 
 // The best starts, written to the start row.
-pub fn write_starts(row: &mut [i32], starts: &[u16; Network::MAX_LINES])
+fn write_starts(row: &mut [i32], starts: &[u16; Network::MAX_LINES])
     requires { ⌜ length (now row) ≤ net.maxLines ⌝ }
     ensures { λ _. ⌜ now (row .exit) ≡ held.startsOf (length (now (row .entry))) (now (starts .entry)) ⌝ }
 {

@@ -15,7 +15,7 @@ ghost use Rattle.search.specs.Caps.{cap};
 ghost use Rattle.search.specs.CapScan.{halfOf, boundsOf};
 
 // The least of a number and the halves of g over the pairs of a call with those before it at its stop.
-pub fn least_half(network: Network, call: Call, at: usize, least: u32) -> u32
+fn least_half(network: Network, call: Call, at: usize, least: u32) -> u32
     requires { ⌜ Sound network × Valid (netOf network) ⌝ }
     requires { ⌜ (call .line < length (netOf network .periods)) × (at ≤ network .calls) ⌝ }
     ensures { λ r. ⌜ r ≡ leastFrom least (map (λ d. halfOf (netOf network) d call) (callsBefore (call .stop) (network .list) at)) ⌝ }
@@ -45,7 +45,7 @@ pub struct Bounds {
 }
 
 // The same with one call more.
-pub fn with_call(bounds: Bounds, network: Network, call: Call, at: usize) -> Bounds
+fn with_call(bounds: Bounds, network: Network, call: Call, at: usize) -> Bounds
     requires { ⌜ Sound network × Valid (netOf network) ⌝ }
     requires { ⌜ (call .line < length (netOf network .periods)) × (at ≤ network .calls) ⌝ }
     requires { ⌜ bounds ≡ boundsOf (netOf network) (callsBefore (call .stop) (network .list) at) ⌝ }
@@ -69,7 +69,7 @@ pub fn with_call(bounds: Bounds, network: Network, call: Call, at: usize) -> Bou
 }
 
 // The same over all calls of a stop.
-pub fn bounds_of(network: Network, stop: u8) -> Bounds
+fn bounds_of(network: Network, stop: u8) -> Bounds
     requires { ⌜ Sound network × Valid (netOf network) ⌝ }
     ensures { λ r. ⌜ r ≡ boundsOf (netOf network) (callsOfStop (netOf network) stop) ⌝ }
 {
@@ -89,7 +89,7 @@ pub fn bounds_of(network: Network, stop: u8) -> Bounds
 }
 
 // The cap of a stop.
-pub fn cap_of(network: Network, stop: u8) -> u32
+fn cap_of(network: Network, stop: u8) -> u32
     requires { ⌜ Sound network × Valid (netOf network) ⌝ }
     ensures { λ r. ⌜ r ≡ cap (netOf network) stop ⌝ }
 {

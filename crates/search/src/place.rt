@@ -23,7 +23,7 @@ const ARRIVAL_LIMIT: u32 = 67000;
 
 // The gap of two arrivals by the divisor of their periods. The difference is raised by a multiple of the divisor, so that nothing is
 // signed. The divisor's reciprocal makes two products of what would be a division, which takes longer than all the rest.
-pub fn gap_by(divisor: u32, reciprocal: u64, earlier: u32, later: u32) -> u32
+fn gap_by(divisor: u32, reciprocal: u64, earlier: u32, later: u32) -> u32
     requires { ⌜ (0 < divisor) × (divisor ≤ net.maxPeriod) × (reciprocal ≡ held.reciprocal divisor) ⌝ }
     requires { ⌜ (earlier < held.arrivalLimit) × (later < held.arrivalLimit) ⌝ }
     ensures { λ r. ⌜ r ≡ gaps.fold divisor (gaps.residue (pos earlier -ℤ pos later) divisor) ⌝ }
@@ -35,7 +35,7 @@ pub fn gap_by(divisor: u32, reciprocal: u64, earlier: u32, later: u32) -> u32
 }
 
 // The least of an upper value and the gaps of a call to those before it at its stop.
-pub fn lowered(
+fn lowered(
     lines: &[u8; Network::MAX_CALLS],
     offsets: &[u16; Network::MAX_CALLS],
     previous: &[u16; Network::MAX_CALLS],

@@ -13,7 +13,7 @@ ghost use Rattle.search.specs.Walk.{eachStart};
 
 // One try: its start for a line is judged. It stops the walk where the budget is used up, and is dropped where its upper rating isn't
 // above the best so far; otherwise it sends the walk to the next line or, on the last line, becomes the best.
-pub fn judge(
+fn judge(
     stops: &[u8; Network::MAX_CALLS],
     lines: &[u8; Network::MAX_CALLS],
     offsets: &[u16; Network::MAX_CALLS],

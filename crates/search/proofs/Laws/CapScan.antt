@@ -17,7 +17,7 @@ use Rattle.network.specs.Rating.{periodOf, callsOfStop}
 use Rattle.network.specs.Scan.{leastFrom, callsBefore}
 use Rattle.network.specs.Valid.{Valid, noCall}
 use Rattle.network.proofs.Laws.Divisor.{gcd-le-left, pos-of-divides, div-mul-of-divides}
-use Rattle.network.proofs.Laws.Gaps.{callsBefore-hit, callsBefore-miss, leastFrom-append, leastFrom-le, leastOf-leastFrom as leastOf-cons, keep-all}
+use Rattle.network.proofs.Laws.Gaps.{callsBefore-hit, callsBefore-miss, leastFrom-append, leastFrom-le, leastOf-leastFrom, keep-all}
 use Rattle.network.proofs.Laws.Tables.{sumOf-append}
 use Rattle.network.proofs.Laws.Gaps.{cycle-multiple, cycle-pos, pairsOf-snoc}
 use Rattle.search.specs.Caps.{halves, evenSpacing, capOfCalls, cap}
@@ -119,7 +119,7 @@ module _ (n : Net) where
   cap-of-many (c ∷ d ∷ cs) h p =
       ap (λ (v : ℕ). min v (evenSpacing n (c ∷ d ∷ cs)))
       (ap (λ (w : ℕ). leastFrom w (map (halfOf n c) cs ++ halves n (d ∷ cs))) (let k = half-le-period c d p in omega arith)
-      ∙ sym (leastOf-cons (halfOf n c d) _))
+      ∙ sym (leastOf-leastFrom (halfOf n c d) _))
 
   visitsOf-pos : (cs : List Call) → 0 < length cs → 0 < cycle n / periodOf n (getD cs 0 noCall) → 0 < visitsOf n cs
   unfolding visitsOf sumOf

@@ -21,7 +21,7 @@ use Rattle.network.specs.Rating.{arrivalOf, periodOf, gapOfCalls, pairGaps, gap
 use Rattle.network.specs.Scan.{callsBefore, leastFrom}
 use Rattle.network.proofs.Laws.Gaps.{All, gapOfStop-cong, gapOfStop-permuted, callsOfStop-period-pos}
 use Rattle.network.proofs.Laws.Gaps.{length-permuted, keep-permuted}
-use Rattle.network.proofs.Laws.Gaps.{keep-all, callsBefore-hit, callsBefore-miss, leastFrom-le, leastFrom-min, leastOf-leastFrom as leastOf-cons, pairGaps-snoc}
+use Rattle.network.proofs.Laws.Gaps.{keep-all, callsBefore-hit, callsBefore-miss, leastFrom-le, leastFrom-min, leastOf-leastFrom, pairGaps-snoc}
 use Rattle.search.specs.Caps.{placedCalls, upperValue}
 use Rattle.search.specs.Layout.{byLine, valueAfter}
 use Rattle.search.proofs.Laws.Layout.{byLine-permuted, byLine-prefix}
@@ -69,7 +69,7 @@ leastFrom-leastOf v x xs =
     ap (λ (w : ℕ). leastFrom w xs) (min-comm v x)
     ∙ leastFrom-min x v xs
     ∙ min-comm (leastFrom x xs) v
-    ∙ ap (min v) (sym (leastOf-cons x xs))
+    ∙ ap (min v) (sym (leastOf-leastFrom x xs))
 
 module _ (n : Net) (starts : List ℤ) (v : ℕ) where
   leastFrom-pairGaps-none : (cs : List Call) → length cs ≤ 1 → leastFrom v (pairGaps n starts cs) ≡ v
