@@ -13,6 +13,7 @@ pub mod Refusals
 pub mod Valid
 pub mod Stored
 pub mod Latest
+pub mod Often
 pub mod Gap
 pub mod Pairs
 pub mod StopGap

@@ -1,5 +1,5 @@
 -- How the engine holds a network: rows of fixed length of which the first places count, and the common cycle beside them.
-use Prim.Native.Nat.{ℕ, suc, _≤_, _<_}
+use Prim.Native.Nat.{ℕ, suc, _+_, _*_, _≤_, _<_}
 use mathlib.Core.Path.{_≡_}
 use mathlib.Core.List.{List}
 use mathlib.Core.Logic.{_⊎_}
@@ -13,8 +13,8 @@ use Rattle.network.specs.declared.Told.{Told}
 use Rattle.network.specs.declared.Told.the-variants as told
 use Rattle.network.specs.Divisor.{lcm}
 use Rattle.network.specs.Lists.{pick}
-use Rattle.network.specs.Network.{Net, netWith, Command, statesLine, callsByOffset, callsByRide, ends, maxLines, maxCalls, maxCycle, cycle}
-use Rattle.network.specs.Network.{callsAnywhere, latestOffset, word, callOf, statedOffset, rideOffset}
+use Rattle.network.specs.Network.{Net, netWith, Command, statesLine, callsByOffset, callsByRide, ends, maxLines, maxStop, maxCalls, maxCycle, cycle}
+use Rattle.network.specs.Network.{callsAnywhere, howOftenAt, latestOffset, word, callOf, statedOffset, rideOffset}
 use Rattle.network.specs.Grounds.{first, grounds}
 use Rattle.network.specs.Reading.{Reading, accepted, refused}
 
@@ -41,6 +41,10 @@ pub record HasSize (n : Net) (s : Size) : Type 0 where
 -- A row that has for each line one more than the offset of its latest call, 0 where it has none
 unfoldable pub Latest : List ℕ → List Call → Type 0
 Latest latest cs = (line : ℕ) → line < maxLines → getD latest line 0 ≡ pick (callsAnywhere line cs) (suc (latestOffset line 0 cs)) 0
+
+-- A table that has for each line and stop how often the line calls there, the lines of a stop side by side
+unfoldable pub Often : List ℕ → List Call → Type 0
+Often often cs = (line stop : ℕ) → line < maxLines → stop ≤ maxStop → getD often (stop * maxLines + line) 0 ≡ howOftenAt line stop cs
 
 -- What one command's function tells is right: the ground that applies first, or, where none does, the command's line or call, or the end
 unfoldable pub Tells : Command → Net → ℕ → List ℕ → Told → Type 0

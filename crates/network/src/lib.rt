@@ -45,6 +45,9 @@ impl Network {
 
     pub const MAX_CALLS: usize = 256;
 
+    // How often a line may call at a stop.
+    pub const MAX_CALLS_AT_STOP: u8 = 1;
+
     // One more than the highest stop.
     pub const STOPS: usize = 64;
 

@@ -6,11 +6,10 @@ use crate::ReadAnswer;
 use crate::Size;
 use crate::Step;
 use crate::Told;
-use crate::alike::mark;
 use crate::divisor::lcm;
 use crate::ratings::served_row;
 ghost use mathlib.Core.Path.{_≡_};
-ghost use Prim.Native.Nat.{_+_, _^_, _<_, _≤_};
+ghost use Prim.Native.Nat.{_+_, _*_, _^_, _<_, _≤_};
 ghost use lib.Dec.{ltb};
 ghost use lib.ListN.{length, getD, drop};
 ghost use Rattle.network.specs.Lists as lists;
@@ -18,8 +17,7 @@ ghost use Rattle.network.specs.Network as net;
 ghost use Rattle.network.specs.Grounds as ground;
 ghost use Rattle.network.specs.Reading as reading;
 ghost use Rattle.network.specs.declared.Check.{Check};
-ghost use Rattle.network.specs.Offsets.{Marks};
-ghost use Rattle.network.specs.Stored.{netOf, Sound, HasSize, Latest, Tells, readingOf};
+ghost use Rattle.network.specs.Stored.{netOf, Sound, HasSize, Latest, Often, Tells, readingOf};
 ghost use Rattle.network.specs.Valid.{Valid, IsBytes};
 
 // A number of two bytes from a place on, most significant byte first.
@@ -118,10 +116,18 @@ pub fn call_cut_off(behind: &[u8]) -> bool
     behind.len() < 4
 }
 
+// How often a line calls at a stop, by the table that has it for all.
+fn often_at(often: &[u8; Network::TABLE], line: usize, stop: usize) -> u8
+    requires { ⌜ (line < net.maxLines) × (stop < net.stopCount) ⌝ }
+    ensures { λ r. ⌜ r ≡ getD (now (often .entry)) (stop * net.maxLines + line) 0 ⌝ }
+{
+    often[stop * Network::MAX_LINES + line]
+}
+
 // 43 and 46: the grounds that they share once their operands are there, 7 to 10.
-fn check_call(size: Size, marks: &[u32; Network::TABLE], behind: &[u8], at: usize) -> Check
+fn check_call(size: Size, often: &[u8; Network::TABLE], behind: &[u8], at: usize) -> Check
     requires { ⌜ (size .lines ≤ net.maxLines) × (4 ≤ length (now behind)) ⌝ }
-    ensures { λ r. ⌜ ((n : net.Net) → HasSize n size → Marks (now (marks .entry)) (n .calls) → r ≡ ground.first (ground.callGrounds n at (now (behind .entry)))) ⌝ }
+    ensures { λ r. ⌜ ((n : net.Net) → HasSize n size → Often (now (often .entry)) (n .calls) → r ≡ ground.first (ground.callGrounds n at (now (behind .entry)))) ⌝ }
     ensures { λ r. ⌜ (r ≡ Check.Passes → getD (now (behind .entry)) 0 0 < size .lines) ⌝ }
 {
     let line = behind[0];
@@ -138,7 +144,7 @@ fn check_call(size: Size, marks: &[u32; Network::TABLE], behind: &[u8], at: usiz
             place: at,
         };
     }
-    if 0 < mark(marks, line as usize, stop as usize) {
+    if Network::MAX_CALLS_AT_STOP <= often_at(often, line as usize, stop as usize) {
         return Check::Refused {
             number: 9,
             place: at,
@@ -154,9 +160,9 @@ fn check_call(size: Size, marks: &[u32; Network::TABLE], behind: &[u8], at: usiz
 }
 
 // 43: the grounds of a call, or a call.
-fn read_call(size: Size, marks: &[u32; Network::TABLE], behind: &[u8], at: usize) -> Told
+fn read_call(size: Size, often: &[u8; Network::TABLE], behind: &[u8], at: usize) -> Told
     requires { ⌜ size .lines ≤ net.maxLines ⌝ }
-    ensures { λ r. ⌜ ((n : net.Net) → HasSize n size → Marks (now (marks .entry)) (n .calls) → Tells net.callsByOffset n at (now (behind .entry)) r) ⌝ }
+    ensures { λ r. ⌜ ((n : net.Net) → HasSize n size → Often (now (often .entry)) (n .calls) → Tells net.callsByOffset n at (now (behind .entry)) r) ⌝ }
 {
     if call_cut_off(behind) {
         return Told::Refused {
@@ -164,7 +170,7 @@ fn read_call(size: Size, marks: &[u32; Network::TABLE], behind: &[u8], at: usize
             place: at,
         };
     }
-    let check = check_call(size, marks, behind, at);
+    let check = check_call(size, often, behind, at);
     match check {
         Check::Refused { number, place } => Told::Refused { number, place },
         Check::Passes => {
@@ -181,13 +187,13 @@ fn read_call(size: Size, marks: &[u32; Network::TABLE], behind: &[u8], at: usize
 // 46: the grounds of a call, then those of the ride.
 fn read_ride(
     size: Size,
-    marks: &[u32; Network::TABLE],
+    often: &[u8; Network::TABLE],
     latest: &[u32; Network::MAX_LINES],
     behind: &[u8],
     at: usize,
 ) -> Told
     requires { ⌜ size .lines ≤ net.maxLines ⌝ }
-    ensures { λ r. ⌜ ((n : net.Net) → HasSize n size → Marks (now (marks .entry)) (n .calls) → Latest (now (latest .entry)) (n .calls) → Tells net.callsByRide n at (now (behind .entry)) r) ⌝ }
+    ensures { λ r. ⌜ ((n : net.Net) → HasSize n size → Often (now (often .entry)) (n .calls) → Latest (now (latest .entry)) (n .calls) → Tells net.callsByRide n at (now (behind .entry)) r) ⌝ }
 {
     if call_cut_off(behind) {
         return Told::Refused {
@@ -195,7 +201,7 @@ fn read_ride(
             place: at,
         };
     }
-    let check = check_call(size, marks, behind, at);
+    let check = check_call(size, often, behind, at);
     match check {
         Check::Refused { number, place } => Told::Refused { number, place },
         Check::Passes => read_following_call(latest, behind, at),
@@ -281,18 +287,18 @@ fn read_end(lines: usize, latest: &[u32; Network::MAX_LINES], behind: &[u8], at:
 fn read_command(
     code: u8,
     size: Size,
-    marks: &[u32; Network::TABLE],
+    often: &[u8; Network::TABLE],
     latest: &[u32; Network::MAX_LINES],
     behind: &[u8],
     at: usize,
 ) -> Told
     requires { ⌜ (size .lines ≤ net.maxLines) × (0 < size .cycle) × (size .cycle ≤ net.maxCycle) × (at < 2 ^ 63) ⌝ }
-    ensures { λ r. ⌜ ((n : net.Net) → HasSize n size → Marks (now (marks .entry)) (n .calls) → Latest (now (latest .entry)) (n .calls) → Tells (net.command code) n at (now (behind .entry)) r) ⌝ }
+    ensures { λ r. ⌜ ((n : net.Net) → HasSize n size → Often (now (often .entry)) (n .calls) → Latest (now (latest .entry)) (n .calls) → Tells (net.command code) n at (now (behind .entry)) r) ⌝ }
 {
     match code {
         0x4C => read_line(size, behind, at),
-        0x43 => read_call(size, marks, behind, at),
-        0x46 => read_ride(size, marks, latest, behind, at),
+        0x43 => read_call(size, often, behind, at),
+        0x46 => read_ride(size, often, latest, behind, at),
         0x45 => read_end(size.lines, latest, behind, at),
         _ => Told::Refused {
             number: 2,
@@ -302,13 +308,13 @@ fn read_command(
 }
 
 // The whole file: the network, or the first ground that applies. The loop carries the part behind the command just read, and writes what a
-// command states into the rows where they stand. Beside the network it keeps the marks of its calls and each line's latest offset, so that
-// no ground goes over the calls before.
+// command states into the rows where they stand. Beside the network it keeps how often each line calls at each stop, and each line's latest
+// offset, so that no ground goes over the calls before.
 pub fn read_network(file: &[u8]) -> Step
     ensures { λ r. ⌜ Sound (r .network) × (readingOf (r .check) (r .network) ≡ reading.readFile (now (file .entry))) ⌝ }
 {
     let mut network = Network::new();
-    let mut marks = [0u32; Network::TABLE];
+    let mut often = [0u8; Network::TABLE];
     let mut latest = [0u32; Network::MAX_LINES];
     let mut rest = file;
     while 0 < rest.len() {
@@ -320,7 +326,7 @@ pub fn read_network(file: &[u8]) -> Step
             calls: network.calls,
             cycle: network.cycle,
         };
-        let told = read_command(code, size, &marks, &latest, behind, at);
+        let told = read_command(code, size, &often, &latest, behind, at);
         match told {
             Told::Refused { number, place } => return refused(network, number, place),
             Told::End => return passed(network),
@@ -334,9 +340,9 @@ pub fn read_network(file: &[u8]) -> Step
                 let place = network.calls;
                 network.list[place] = call;
                 network.calls = place + 1;
-                let mark = call.offset as u32 + 1;
-                marks[call.stop as usize * Network::MAX_LINES + call.line as usize] = mark;
-                latest[call.line as usize] = mark;
+                let at_stop = call.stop as usize * Network::MAX_LINES + call.line as usize;
+                often[at_stop] = often[at_stop] + 1;
+                latest[call.line as usize] = call.offset as u32 + 1;
             }
         }
         rest = part_behind(code, behind);

@@ -1,7 +1,7 @@
 -- Laws of a command's grounds: which applies first, what it tells that none does, and what a refusal names. Each follows from the
 -- tests, in their order. Assumes nothing.
 use Prim.Native.Nat.{ℕ, _+_, _<_, _≤_}
-use mathlib.Core.Path.{_≡_, refl, sym, subst₂, _∙_}
+use mathlib.Core.Path.{_≡_, refl, subst₂}
 use native.Mathlib.Omega.{arith}
 use mathlib.Core.Bool.{Bool, true, false, or-true}
 use mathlib.Core.List.{List, [], _∷_, _++_}
@@ -11,10 +11,9 @@ use borrow.Author.Tests.{lt-ltb, le-ltb, ltb-false, leb-false, eqb-false, not-fa
 use Rattle.network.specs.declared.Check.the-variants.{Passes, Refused}
 use Rattle.network.specs.Divisor.{lcm}
 use Rattle.network.specs.Network.{Net, Command, statesLine, callsByOffset, callsByRide, ends, unknown}
-use Rattle.network.specs.Network.{maxLines, maxPeriod, maxCycle, maxStop, maxOffset, maxCalls}
-use Rattle.network.specs.Network.{cycle, callsAt, callsAnywhere, word, operandBytes, lineOperand, stopOperand, rideOffset}
+use Rattle.network.specs.Network.{maxLines, maxPeriod, maxCycle, maxStop, maxOffset, maxCalls, maxCallsAtStop}
+use Rattle.network.specs.Network.{cycle, howOftenAt, callsAnywhere, word, operandBytes, lineOperand, stopOperand, rideOffset}
 use Rattle.network.specs.Grounds.{Ground, _at_when_, first, cutOff, periodOutOfRange, someLineSilent, callGrounds, grounds}
-use Rattle.network.proofs.Laws.Network.{howOftenAt-some}
 use Rattle.network.proofs.Laws.Lists.{zero-ne-one, or-neither, allBelow-at}
 
 pub first-none : first [] ≡ Passes
@@ -103,7 +102,7 @@ pub record CallFits (c : Command) (n : Net) (behind : List ℕ) : Type 0 where
   pub operands : operandBytes c ≤ length behind
   pub line : lineOperand behind < length (n .periods)
   pub stop : stopOperand behind ≤ maxStop
-  pub fresh : callsAt (lineOperand behind) (stopOperand behind) (n .calls) ≡ false
+  pub often : howOftenAt (lineOperand behind) (stopOperand behind) (n .calls) < maxCallsAtStop
   pub room : length (n .calls) < maxCalls
 
 pub call-passes : (c : Command) (n : Net) (p : ℕ) (behind : List ℕ) → cutOff c behind ≡ false → first (callGrounds n p behind) ≡ Passes
@@ -118,7 +117,7 @@ call-passes c n p behind cut e₁ =
       operands = not-cut-off c behind cut;
       line = leb-false _ _ unstated;
       stop = ltb-false _ _ far;
-      fresh = sym (howOftenAt-some (lineOperand behind) (stopOperand behind) (n .calls)) ∙ again;
+      often = leb-false _ _ again;
       room = leb-false _ _ full;
     }
 

@@ -2,7 +2,6 @@
 -- behind those that count, and what a command tells says how the reading goes on. Assumes nothing.
 use Prim.Native.Nat.{ℕ, _+_, _<_, _≤_}
 use mathlib.Core.Path.{_≡_, refl, sym, ap, subst, _∙_}
-use mathlib.Core.Bool.{false}
 use mathlib.Core.List.{List}
 use mathlib.Core.Logic.{inl, inr}
 use native.Mathlib.Omega.{arith}
@@ -13,7 +12,7 @@ use Rattle.network.specs.declared.Check.the-variants.{Passes}
 use Rattle.network.specs.declared.Network.{Network}
 use Rattle.network.specs.declared.Told.the-variants as told
 use Rattle.network.specs.Network.{Net, netWith, Command, statesLine, callsByOffset, callsByRide, ends, extend}
-use Rattle.network.specs.Network.{maxLines, maxCycle, maxStop, maxCalls, cycle, callsAt, word, callOf, withLine, withCall}
+use Rattle.network.specs.Network.{maxLines, maxCycle, maxStop, maxCalls, maxCallsAtStop, cycle, howOftenAt, word, callOf, withLine, withCall}
 use Rattle.network.specs.Valid.{Valid, noCall}
 use Rattle.network.specs.Grounds.{first, grounds}
 use Rattle.network.specs.Stored.{netOf, Sound, HasSize, Tells}
@@ -139,7 +138,7 @@ pub record CallTold (c : Command) (n : Net) (p : ℕ) (behind : List ℕ) (call 
   pub extended : withCall n call ≡ extend c n behind
   pub line : call .line < length (n .periods)
   pub stop : call .stop ≤ maxStop
-  pub fresh : callsAt (call .line) (call .stop) (n .calls) ≡ false
+  pub often : howOftenAt (call .line) (call .stop) (n .calls) < maxCallsAtStop
   pub room : length (n .calls) < maxCalls
 
 call-told : (c d : Command) (n : Net) (p : ℕ) (behind : List ℕ) (call : Call) (offset : ℕ) → first (grounds c n p behind) ≡ Passes → (d ≡ ends → ⊥) → c ≡ d → call ≡ callOf behind offset
@@ -152,7 +151,7 @@ call-told c d n p behind call offset passes apart is made e fits =
       extended = ap (withCall n) made ∙ sym e ∙ ap (λ (k : Command). extend k n behind) (sym is);
       line = subst (λ (k : Call). k .line < length (n .periods)) (sym made) (fits .line);
       stop = subst (λ (k : Call). k .stop ≤ maxStop) (sym made) (fits .stop);
-      fresh = ap (λ (k : Call). callsAt (k .line) (k .stop) (n .calls)) made ∙ fits .fresh;
+      often = subst (λ (k : Call). howOftenAt (k .line) (k .stop) (n .calls) < maxCallsAtStop) (sym made) (fits .often);
       room = fits .room;
     }
 

@@ -1,25 +1,26 @@
 -- Every network that the reader accepts is within the limits of document 01: each command that passes keeps them, and the last shows what
 -- only a whole network has. And the laws of its common cycle, which are those of a least common multiple. Assumes nothing.
 use Prim.Native.Nat.{ℕ, suc, _+_, _≤_, _<_}
-use mathlib.Core.Path.{_≡_, refl, sym, ap, subst}
+use mathlib.Core.Path.{_≡_, refl, sym, ap, subst, _∙_}
 use mathlib.Core.Bool.{false, _&&_}
 use mathlib.Core.List.{List, [], _∷_}
 use native.Mathlib.Omega.{arith}
 use lib.Dec.{eqb}
 use lib.ListN.{length, getD, length-append}
 use lib.Seq.{getD-drop, take-length}
-use borrow.Author.Tests.{eq-eqb}
+use borrow.Author.Tests.{eq-eqb, lt-leb}
 use Rattle.network.specs.declared.Call.{Call}
 use Rattle.network.specs.declared.Check.the-variants.{Passes}
 use Rattle.network.specs.Divisor.{Divides, cycleFrom, commonCycle}
 use Rattle.network.specs.Network.{Net, emptyNet, Command, statesLine, callsByOffset, callsByRide, ends, unknown}
-use Rattle.network.specs.Network.{maxLines, maxPeriod, maxCycle, maxStop, maxOffset, cycle, callsAt, command, operandBytes}
+use Rattle.network.specs.Network.{maxLines, maxPeriod, maxCycle, maxStop, maxOffset, maxCallsAtStop, cycle, callsAt, howOftenAt, command, operandBytes}
 use Rattle.network.specs.Network.{word, lineOperand, stopOperand, statedOffset, withLine, withCall, callOf, extend}
 use Rattle.network.specs.Grounds.{first, grounds}
 use Rattle.network.specs.Reading.{Reading, readFile, accepted, refused, Outcome, values, refusal, readOutcome}
 use Rattle.network.specs.Gives.{Reached, start, next, Gives, accepts}
 use Rattle.network.specs.Valid.{IsBytes, noCall, Valid}
 use Rattle.network.proofs.Laws.Lists.{zero-ne-one, and-both, any-take-found, snoc-all, snoc-pairs}
+use Rattle.network.proofs.Laws.Network.{howOftenAt-some}
 use Rattle.network.proofs.Laws.Divisor.{commonCycle-snoc, period-divides-commonCycle, commonCycle-least, commonCycle-pos}
 use Rattle.network.proofs.Laws.Grounds.{LineFits, CallFits, line-passes, offset-passes, ride-passes, end-passes}
 use Rattle.network.proofs.Laws.Reading.{reached-within, readFile-gives}
@@ -58,7 +59,10 @@ sound-line n behind f s =
       once = s .once;
     }
 
--- A line that does not yet call at a stop
+-- A line that may call once more at a stop doesn't call there yet
+not-yet : (line stop : ℕ) (cs : List Call) → howOftenAt line stop cs < maxCallsAtStop → callsAt line stop cs ≡ false
+not-yet line stop cs h = sym (howOftenAt-some line stop cs) ∙ lt-leb 1 (howOftenAt line stop cs) h
+
 not-called : (line stop : ℕ) (cs : List Call) (j : ℕ) → callsAt line stop cs ≡ false → j < length cs → getD cs j noCall .line ≡ line
     → getD cs j noCall .stop ≡ stop → ⊥
 unfolding callsAt
@@ -81,7 +85,7 @@ sound-call c n behind offset f o s =
       call-stop = snoc-all call noCall (λ d. d .stop ≤ maxStop) (n .calls) (s .call-stop) (f .stop);
       call-offset = snoc-all call noCall (λ d. d .offset ≤ maxOffset) (n .calls) (s .call-offset) o;
       once = snoc-pairs call noCall (λ d e. d .line ≡ e .line → d .stop ≡ e .stop → ⊥) (n .calls) (s .once)
-          (λ j h. not-called (lineOperand behind) (stopOperand behind) (n .calls) j (f .fresh) h);
+          (λ j h. not-called (lineOperand behind) (stopOperand behind) (n .calls) j (not-yet _ _ (n .calls) (f .often)) h);
     }
 
 stated-max : (bs : List ℕ) → IsBytes bs → statedOffset bs ≤ maxOffset

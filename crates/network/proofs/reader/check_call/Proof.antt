@@ -1,30 +1,28 @@
 -- `network::reader::check_call` meets its contract: at each return the tests that led there say which ground applies first.
 -- Assumes nothing.
-use Prim.Native.Nat.{ℕ, _<_, _≤_}
+use Prim.Native.Nat.{ℕ, _*_, _+_, _<_, _≤_}
 use mathlib.Core.Path.{_≡_, sym, ap, _∙_}
 use mathlib.Core.List.{List}
 use native.Mathlib.Omega.{arith}
 use borrow.Author.Needs.{needs}
 use borrow.Author.Tests.{lt-ltb, le-ltb, le-leb, lt-leb}
-use lib.Dec.{leb, ltb}
+use lib.Dec.{leb}
 use lib.ListN.{length, getD}
 use Rattle.network.specs.declared.Call.{Call}
 use Rattle.network.specs.declared.Check.the-variants.{Passes, Refused}
 use Rattle.network.specs.Network.{maxLines, maxStop, maxCalls, maxCallsAtStop, howOftenAt, lineOperand, stopOperand}
 use Rattle.network.specs.Grounds.{callGrounds}
-use Rattle.network.specs.Offsets.{Marks, markIn}
+use Rattle.network.specs.Stored.{Often}
 use Rattle.network.proofs.Laws.Lists.{zero-ne-one}
-use Rattle.network.proofs.Laws.Network.{howOftenAt-some}
 use Rattle.network.proofs.Laws.Grounds.{first-none, first-hit, first-miss}
-use Rattle.network.proofs.Laws.Offsets.{called-mark}
 use Rattle.network.proofs.reader.check_call.Statement.{statement}
 use Rattle.network.proofs.reader.check_call.Tie as tie
 
--- The mark of the line at the stop says whether ground 9 applies
-marked : (marks : List ℕ) (cs : List Call) → Marks marks cs → (line stop mark : ℕ) → line < maxLines → stop ≤ maxStop
-    → mark ≡ markIn marks line stop → leb maxCallsAtStop (howOftenAt line stop cs) ≡ ltb 0 mark
-unfolding Marks
-marked marks cs m line stop mark h k e = howOftenAt-some line stop cs ∙ sym (ap (ltb 0) (e ∙ m line stop h k) ∙ called-mark line stop cs)
+-- The table's number for the line at the stop says whether ground 9 applies
+counted : (often : List ℕ) (cs : List Call) → Often often cs → (line stop count : ℕ) → line < maxLines → stop ≤ maxStop
+    → count ≡ getD often (stop * maxLines + line) 0 → leb maxCallsAtStop (howOftenAt line stop cs) ≡ leb maxCallsAtStop count
+unfolding Often
+counted often cs o line stop count h k e = ap (leb maxCallsAtStop) (sym (e ∙ o line stop h k))
 
 -- A refusal is no pass
 never : {A : Type 0} (number place : ℕ) → Refused number place ≡ Passes → A
@@ -44,7 +42,7 @@ unfolding callGrounds lineOperand stopOperand
 returns c =
     let s = c .before .before .before .before .before in
     let b = s .args .behind .now in (
-      λ n h m. sym
+      λ n h o. sym
           (first-hit _ _ _ _ (le-leb (length (n .periods)) (getD b 0 0) (omega (arith, h .lines)))),
       never _ _,
     )
@@ -54,30 +52,30 @@ unfolding callGrounds lineOperand stopOperand
 returns-2 c =
     let s = c .before .before .before .before .before .before in
     let b = s .args .behind .now in (
-      λ n h m. sym
+      λ n h o. sym
           (first-miss _ _ _ _ (lt-leb (length (n .periods)) (getD b 0 0) (omega (arith, h .lines)))
           ∙ first-hit _ _ _ _ (lt-ltb maxStop (getD b 1 0) (omega arith))),
       never _ _,
     )
 
-cast-mark : tie.Need-cast-mark
-cast-mark c = search needs
+cast-often-at : tie.Need-cast-often-at
+cast-often-at c = search needs
 
-cast-mark-2 : tie.Need-cast-mark-2
-cast-mark-2 c = search needs
+cast-often-at-2 : tie.Need-cast-often-at-2
+cast-often-at-2 c = search needs
 
-mark-requires : tie.Need-mark-requires
-mark-requires c κs = search needs
+often-at-requires : tie.Need-often-at-requires
+often-at-requires c κs = search needs
 
 returns-3 : tie.Need-returns-3
 unfolding callGrounds lineOperand stopOperand
 returns-3 c =
     let s = c .before .before .before .before .before .before .before .before in
     let b = s .args .behind .now in (
-      λ n h m. sym
+      λ n h o. sym
           (first-miss _ _ _ _ (lt-leb (length (n .periods)) (getD b 0 0) (omega (arith, h .lines)))
           ∙ first-miss _ _ _ _ (le-ltb maxStop (getD b 1 0) (omega arith))
-          ∙ first-hit _ _ _ _ (marked (s .args .marks .now) (n .calls) m (getD b 0 0) (getD b 1 0) (c .before .mark .result) (omega (arith, s .pre .0)) (omega arith) (c .before .mark .ensures) ∙ lt-ltb 0 (c .before .mark .result) (omega arith))),
+          ∙ first-hit _ _ _ _ (counted (s .args .often .now) (n .calls) o (getD b 0 0) (getD b 1 0) (c .before .often-at .result) (omega (arith, s .pre .0)) (omega arith) (c .before .often-at .ensures) ∙ le-leb maxCallsAtStop (c .before .often-at .result) (omega arith))),
       never _ _,
     )
 
@@ -86,10 +84,10 @@ unfolding callGrounds lineOperand stopOperand
 returns-4 c =
     let s = c .before .before .before .before .before .before .before .before .before .before in
     let b = s .args .behind .now in (
-      λ n h m. sym
+      λ n h o. sym
           (first-miss _ _ _ _ (lt-leb (length (n .periods)) (getD b 0 0) (omega (arith, h .lines)))
           ∙ first-miss _ _ _ _ (le-ltb maxStop (getD b 1 0) (omega arith))
-          ∙ first-miss _ _ _ _ (marked (s .args .marks .now) (n .calls) m (getD b 0 0) (getD b 1 0) (c .before .before .before .mark .result) (omega (arith, s .pre .0)) (omega arith) (c .before .before .before .mark .ensures) ∙ le-ltb 0 (c .before .before .before .mark .result) (omega (arith, c .before .before .if3 .left)))
+          ∙ first-miss _ _ _ _ (counted (s .args .often .now) (n .calls) o (getD b 0 0) (getD b 1 0) (c .before .before .before .often-at .result) (omega (arith, s .pre .0)) (omega arith) (c .before .before .before .often-at .ensures) ∙ lt-leb maxCallsAtStop (c .before .before .before .often-at .result) (omega (arith, c .before .before .if3 .left)))
           ∙ first-hit _ _ _ _ (le-leb maxCalls (length (n .calls)) (omega (arith, h .calls)))),
       never _ _,
     )
@@ -99,10 +97,10 @@ unfolding callGrounds lineOperand stopOperand
 returns-5 c =
     let s = c .before .before .before .before .before .before .before .before .before .before in
     let b = s .args .behind .now in (
-      λ n h m. sym
+      λ n h o. sym
           (first-miss _ _ _ _ (lt-leb (length (n .periods)) (getD b 0 0) (omega (arith, h .lines)))
           ∙ first-miss _ _ _ _ (le-ltb maxStop (getD b 1 0) (omega arith))
-          ∙ first-miss _ _ _ _ (marked (s .args .marks .now) (n .calls) m (getD b 0 0) (getD b 1 0) (c .before .before .before .mark .result) (omega (arith, s .pre .0)) (omega arith) (c .before .before .before .mark .ensures) ∙ le-ltb 0 (c .before .before .before .mark .result) (omega (arith, c .before .before .if3 .left)))
+          ∙ first-miss _ _ _ _ (counted (s .args .often .now) (n .calls) o (getD b 0 0) (getD b 1 0) (c .before .before .before .often-at .result) (omega (arith, s .pre .0)) (omega arith) (c .before .before .before .often-at .ensures) ∙ lt-leb maxCallsAtStop (c .before .before .before .often-at .result) (omega (arith, c .before .before .if3 .left)))
           ∙ first-miss _ _ _ _ (lt-leb maxCalls (length (n .calls)) (omega (arith, h .calls)))
           ∙ first-none),
       λ e. omega arith,
@@ -117,9 +115,9 @@ check-call-spec =
     cast-if1
     returns
     returns-2
-    cast-mark
-    cast-mark-2
-    mark-requires
+    cast-often-at
+    cast-often-at-2
+    often-at-requires
     returns-3
     returns-4
     returns-5)

@@ -8,8 +8,7 @@ use borrow.Author.Needs.{needs}
 use lib.ListN.{length}
 use Rattle.network.specs.Network.{Net, callsByOffset, callOf, lineOperand, stopOperand, statedOffset}
 use Rattle.network.specs.Grounds.{first, grounds}
-use Rattle.network.specs.Offsets.{Marks}
-use Rattle.network.specs.Stored.{HasSize, Tells}
+use Rattle.network.specs.Stored.{HasSize, Often, Tells}
 use Rattle.network.proofs.Laws.Grounds.{first-hit, first-miss, not-cut-off-call}
 use Rattle.network.proofs.reader.read_call.Statement.{statement}
 use Rattle.network.proofs.reader.read_call.Tie as tie
@@ -23,7 +22,7 @@ call-cut-off-requires c κs = search needs
 
 returns : tie.Need-returns
 unfolding Tells grounds
-returns c = λ n h m. first-hit _ _ _ _ (sym (c .before .call-cut-off .ensures) ∙ c .if1 .taken)
+returns c = λ n h o. first-hit _ _ _ _ (sym (c .before .call-cut-off .ensures) ∙ c .if1 .taken)
 
 check-call-requires : tie.Need-check-call-requires
 check-call-requires c κs = (c .before .before .before .pre, four c)
@@ -45,22 +44,22 @@ word-requires c κs = omega (arith, four (c .before .before .before .before .bef
 
 -- The grounds, where 3 doesn't apply, are those that `check_call` has tried
 tried : (c : tie.After-check-call) (n : Net) → HasSize n (c .before .before .before .before .args .size)
-    → Marks (c .before .before .before .before .args .marks .now) (n .calls)
+    → Often (c .before .before .before .before .args .often .now) (n .calls)
     → first (grounds callsByOffset n (c .before .before .before .before .args .at) (c .before .before .before .before .args .behind .now)) ≡ c .check-call .result
 unfolding grounds
-tried c n h m =
-    first-miss _ _ _ _ (sym (c .before .before .call-cut-off .ensures) ∙ c .before .if1 .left) ∙ sym (c .check-call .ensures .0 n h m)
+tried c n h o =
+    first-miss _ _ _ _ (sym (c .before .before .call-cut-off .ensures) ∙ c .before .if1 .left) ∙ sym (c .check-call .ensures .0 n h o)
 
 returns-2 : tie.Need-returns-2
 unfolding Tells
-returns-2 c = λ n h m. tried (c .before .before .before) n h m ∙ c .before .check .given .1
+returns-2 c = λ n h o. tried (c .before .before .before) n h o ∙ c .before .check .given .1
 
 returns-3 : tie.Need-returns-3
 unfolding Tells callOf lineOperand stopOperand statedOffset
 returns-3 c =
     let t = c .before .before .before .before .before in
-    λ n h m. (
-      tried t n h m ∙ c .before .before .before .enum-told .given .1,
+    λ n h o. (
+      tried t n h o ∙ c .before .before .before .enum-told .given .1,
       inl (refl, ap (callOf (t .before .before .before .before .args .behind .now)) (c .word .ensures)),
     )
 

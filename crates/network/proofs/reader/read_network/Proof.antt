@@ -1,6 +1,6 @@
--- `network::reader::read_network` meets its contract. The loop's invariant: the network, the marks and the latest offsets agree, and reading
--- the part that is left, with the network before it, gives what reading the whole file gives. Assumes nothing.
-use Prim.Native.Nat.{ℕ, _+_, _-_, _<_, _≤_}
+-- `network::reader::read_network` meets its contract. The loop's invariant: the network, how often each line calls at each stop and the latest
+-- offsets agree, and reading the part that is left, with the network before it, gives what reading the whole file gives. Assumes nothing.
+use Prim.Native.Nat.{ℕ, _+_, _*_, _-_, _<_, _≤_}
 use mathlib.Core.Path.{_≡_, refl, sym, ap, ap₂, subst, _∙_}
 use mathlib.Core.List.{List, [], _∷_}
 use mathlib.Core.Logic.{⊎-elim}
@@ -14,14 +14,14 @@ use Rattle.network.specs.declared.Check.the-variants.{Passes}
 use Rattle.network.specs.declared.Network.{Network}
 use Rattle.network.specs.declared.Told.{Told}
 use Rattle.network.specs.declared.Told.the-variants as told
-use Rattle.network.specs.Network.{Net, Command, command, ends, operandBytes, extend, maxLines, maxStop, maxCalls}
+use Rattle.network.specs.Network.{Net, Command, command, ends, operandBytes, extend, maxLines, maxStop, maxCalls, maxCallsAtStop}
 use Rattle.network.specs.Grounds.{first, grounds}
 use Rattle.network.specs.Reading.{readFrom, readFile, refused}
-use Rattle.network.specs.Stored.{netOf, Tells, readingOf}
+use Rattle.network.specs.Stored.{netOf, Often, Tells, readingOf}
 use Rattle.network.proofs.Laws.Lists.{take-rest}
 use Rattle.network.proofs.Laws.Kept.{Kept, kept-line, kept-call}
 use Rattle.network.proofs.Laws.Latest.{latest-none}
-use Rattle.network.proofs.Laws.Offsets.{marks-none}
+use Rattle.network.proofs.Laws.Often.{often-none}
 use Rattle.network.proofs.Laws.Reading.{passes-operands, read-refused, read-ended, read-onward}
 use Rattle.network.proofs.Laws.Scan.{getD-zeros}
 use Rattle.network.proofs.Laws.Stored.{LineTold, CallTold, held-lines, held-calls, has-size, line-added, call-added, tells-line, tells-call}
@@ -29,13 +29,13 @@ use Rattle.network.proofs.reader.read_network.Statement.{statement}
 use Rattle.network.proofs.reader.read_network.Tie as tie
 
 abbrev Inv-loop : tie.InvT-loop
-Inv-loop file network₀ marks₀ latest₀ rest₀ network marks latest rest =
-    Kept network marks latest
+Inv-loop file network₀ often₀ latest₀ rest₀ network often latest rest =
+    Kept network often latest
     × (length rest ≤ length file)
     × (readFrom (netOf network) (length file - length rest) 0 rest ≡ readFile file)
 
 abbrev μ-loop : tie.MeasureT-loop
-μ-loop file network₀ marks₀ latest₀ rest₀ network marks latest rest = length rest
+μ-loop file network₀ often₀ latest₀ rest₀ network often latest rest = length rest
 
 -- Where a command has been read: the part that was left is the command's byte and what stands behind it
 module _ (r : tie.After-read-command Inv-loop μ-loop) where
@@ -60,7 +60,7 @@ module _ (r : tie.After-read-command Inv-loop μ-loop) where
   abbrev result : Told
   result = r .read-command .result
 
-  kept : Kept network (r .before .before .before .before .before .before .loop .marks) (r .before .before .before .before .before .before .loop .latest)
+  kept : Kept network (r .before .before .before .before .before .before .loop .often) (r .before .before .before .before .before .before .loop .latest)
   kept = r .before .before .before .before .before .before .loop .inv .0
 
   some : 0 < length rest
@@ -79,7 +79,7 @@ module _ (r : tie.After-read-command Inv-loop μ-loop) where
   tells : (t : Told) → result ≡ t → Tells code (netOf network) place behind t
   tells t e =
       subst (Tells code (netOf network) place behind) e
-      (r .read-command .ensures (netOf network) (has-size network (kept .sound)) (kept .marks-are) (kept .latest-is))
+      (r .read-command .ensures (netOf network) (has-size network (kept .sound)) (kept .often-is) (kept .latest-is))
 
   line-told : {period common : ℕ} → result ≡ told.Line period common → LineTold code (netOf network) place behind period common
   line-told e = tells-line code (netOf network) place behind _ _ (rw (← kept .sound .cycle-is) (kept .sound .cycle-pos)) (tells _ e)
@@ -99,9 +99,15 @@ module _ (r : tie.After-read-command Inv-loop μ-loop) where
   stop-low : {call : Call} → result ≡ told.Calls call → call .stop ≤ maxStop
   stop-low e = call-told e .stop
 
+  -- ground 9 has passed, so that the call's place has room for one more
+  often-low : {call : Call} → result ≡ told.Calls call
+      → getD (r .before .before .before .before .before .before .loop .often) (call .stop * maxLines + call .line) 0 < maxCallsAtStop
+  unfolding Often
+  often-low e = omega (arith, call-told e .often, kept .often-is _ _ (line-low e) (stop-low e))
+
   -- a line or a call goes on with the part behind it
-  record Next (n : Network) (marks latest : List ℕ) : Type 0 where
-    kept-on : Kept n marks latest
+  record Next (n : Network) (often latest : List ℕ) : Type 0 where
+    kept-on : Kept n often latest
     passes : first (grounds code (netOf network) place behind) ≡ Passes
     onward : code ≡ ends → ⊥
     extended : netOf n ≡ extend code (netOf network) behind
@@ -111,7 +117,7 @@ module _ (r : tie.After-read-command Inv-loop μ-loop) where
       subst (λ (k : Network). Next k a c) (sym e) (subst (λ (k : List ℕ). Next m k c) (sym f) (subst (λ (k : List ℕ). Next m b k) (sym g) x))
 
 -- Where a line or a call has been written
-next : (c : tie.At-match-came Inv-loop μ-loop) → Next (c .before) (c .match .network) (c .match .marks) (c .match .latest)
+next : (c : tie.At-match-came Inv-loop μ-loop) → Next (c .before) (c .match .network) (c .match .often) (c .match .latest)
 next c =
     let r = c .before in
     let k = kept r in
@@ -131,7 +137,7 @@ next c =
     let room = call-room r (w .1 .given .1) in
     next-as r _ _ _ _ _ _ (w .7) (w .8) (w .9)
     (record {
-      kept-on = kept-call (network r) _ _ k _ room (line-low r (w .1 .given .1)) (t .stop) (t .fresh);
+      kept-on = kept-call (network r) _ _ k _ room (line-low r (w .1 .given .1)) (t .stop);
       passes = t .passes;
       onward = t .onward;
       extended = call-added (network r) (k .sound) _ room ∙ t .extended;
@@ -154,8 +160,8 @@ loop-holds c =
     let empty = c .new .ensures .1 in (
       record {
         sound = c .new .ensures .0;
-        marks-row = refl;
-        marks-are = rw empty (marks-none _ (λ place. getD-zeros 1024 place));
+        often-row = refl;
+        often-is = rw empty (often-none _ (λ place. getD-zeros 1024 place));
         latest-row = refl;
         latest-is = rw empty (latest-none _ (λ line. getD-zeros 16 line));
       },
@@ -240,32 +246,35 @@ element-set-from-call c = omega (arith, call-room (c .before .before .before) (c
 add-network-2 : tie.Need-add-network-2 Inv-loop μ-loop
 add-network-2 c = omega (arith, call-room (c .before .before .before) (c .before .told3 .given .1))
 
-cast-mark : tie.Need-cast-mark Inv-loop μ-loop
-cast-mark c = omega (arith, c .struct-known .given)
+cast-at-stop : tie.Need-cast-at-stop Inv-loop μ-loop
+cast-at-stop c = omega (arith, line-low (c .before .before .before .before) (c .before .before .told3 .given .1), stop-low (c .before .before .before .before) (c .before .before .told3 .given .1))
 
-add-mark : tie.Need-add-mark Inv-loop μ-loop
-add-mark c = omega (arith, c .struct-known .given)
+mul-at-stop : tie.Need-mul-at-stop Inv-loop μ-loop
+mul-at-stop c = omega (arith, line-low (c .before .before .before .before) (c .before .before .told3 .given .1), stop-low (c .before .before .before .before) (c .before .before .told3 .given .1))
 
-cast-marks : tie.Need-cast-marks Inv-loop μ-loop
-cast-marks c = omega (arith, line-low (c .before .before .before .before .before) (c .before .before .before .told3 .given .1), stop-low (c .before .before .before .before .before) (c .before .before .before .told3 .given .1))
+cast-at-stop-2 : tie.Need-cast-at-stop-2 Inv-loop μ-loop
+cast-at-stop-2 c = omega (arith, line-low (c .before .before .before .before .before) (c .before .before .before .told3 .given .1), stop-low (c .before .before .before .before .before) (c .before .before .before .told3 .given .1))
 
-mul-marks : tie.Need-mul-marks Inv-loop μ-loop
-mul-marks c = omega (arith, line-low (c .before .before .before .before .before) (c .before .before .before .told3 .given .1), stop-low (c .before .before .before .before .before) (c .before .before .before .told3 .given .1))
+add-at-stop : tie.Need-add-at-stop Inv-loop μ-loop
+add-at-stop c = omega (arith, line-low (c .before .before .before .before .before) (c .before .before .before .told3 .given .1), stop-low (c .before .before .before .before .before) (c .before .before .before .told3 .given .1))
 
-cast-marks-2 : tie.Need-cast-marks-2 Inv-loop μ-loop
-cast-marks-2 c = omega (arith, line-low (c .before .before .before .before .before .before) (c .before .before .before .before .told3 .given .1), stop-low (c .before .before .before .before .before .before) (c .before .before .before .before .told3 .given .1))
+array-read-often : tie.Need-array-read-often Inv-loop μ-loop
+array-read-often c = omega (arith, line-low (c .before .before .before .before .before) (c .before .before .before .told3 .given .1), stop-low (c .before .before .before .before .before) (c .before .before .before .told3 .given .1))
 
-add-marks : tie.Need-add-marks Inv-loop μ-loop
-add-marks c = omega (arith, line-low (c .before .before .before .before .before .before) (c .before .before .before .before .told3 .given .1), stop-low (c .before .before .before .before .before .before) (c .before .before .before .before .told3 .given .1))
+add-often : tie.Need-add-often Inv-loop μ-loop
+add-often c = omega (arith, often-low (c .before .before .before .before .before) (c .before .before .before .told3 .given .1))
 
-mul-marks-2 : tie.Need-mul-marks-2 Inv-loop μ-loop
-mul-marks-2 c = omega (arith, line-low (c .before .before .before .before .before .before) (c .before .before .before .before .told3 .given .1), stop-low (c .before .before .before .before .before .before) (c .before .before .before .before .told3 .given .1))
-
-array-write-marks : tie.Need-array-write-marks Inv-loop μ-loop
-array-write-marks c = omega (arith, line-low (c .before .before .before .before .before .before) (c .before .before .before .before .told3 .given .1), stop-low (c .before .before .before .before .before .before) (c .before .before .before .before .told3 .given .1))
+array-write-often : tie.Need-array-write-often Inv-loop μ-loop
+array-write-often c = omega (arith, line-low (c .before .before .before .before .before) (c .before .before .before .told3 .given .1), stop-low (c .before .before .before .before .before) (c .before .before .before .told3 .given .1))
 
 cast-latest : tie.Need-cast-latest Inv-loop μ-loop
-cast-latest c = omega (arith, line-low (c .before .before .before .before .before .before .before) (c .before .before .before .before .before .told3 .given .1), stop-low (c .before .before .before .before .before .before .before) (c .before .before .before .before .before .told3 .given .1))
+cast-latest c = omega (arith, c .struct-known3 .given)
+
+add-latest : tie.Need-add-latest Inv-loop μ-loop
+add-latest c = omega (arith, c .struct-known3 .given)
+
+cast-latest-2 : tie.Need-cast-latest-2 Inv-loop μ-loop
+cast-latest-2 c = omega (arith, line-low (c .before .before .before .before .before .before .before) (c .before .before .before .before .before .told3 .given .1), stop-low (c .before .before .before .before .before .before .before) (c .before .before .before .before .before .told3 .given .1))
 
 mul-latest : tie.Need-mul-latest Inv-loop μ-loop
 mul-latest c = omega (arith, line-low (c .before .before .before .before .before .before .before) (c .before .before .before .before .before .told3 .given .1), stop-low (c .before .before .before .before .before .before .before) (c .before .before .before .before .before .told3 .given .1))
@@ -341,15 +350,16 @@ read-network-spec =
     mul-call
     element-set-from-call
     add-network-2
-    cast-mark
-    add-mark
-    cast-marks
-    mul-marks
-    cast-marks-2
-    add-marks
-    mul-marks-2
-    array-write-marks
+    cast-at-stop
+    mul-at-stop
+    cast-at-stop-2
+    add-at-stop
+    array-read-often
+    add-often
+    array-write-often
     cast-latest
+    add-latest
+    cast-latest-2
     mul-latest
     array-write-latest
     part-behind-requires

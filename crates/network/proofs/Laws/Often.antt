@@ -1,0 +1,69 @@
+-- Laws of the table that has how often each line calls at each stop: one call more is one more at its line and stop, and at no other,
+-- since each two have a place of their own. Assumes nothing.
+use Prim.Native.Nat.{ℕ, _*_, _+_, _<_, _≤_}
+use mathlib.Core.Path.{_≡_, refl, sym, ap, _∙_}
+use mathlib.Core.Bool.{Bool, true, false, _&&_, and-false}
+use mathlib.Core.List.{List, [], _∷_, _++_}
+use native.Mathlib.Decide.{ℕ-discrete}
+use native.Mathlib.Omega.{arith}
+use lib.Dec.{eqb}
+use lib.ListN.{length, getD, set, length-append}
+use lib.Seq.{getD-set-same, getD-set-other}
+use borrow.Author.Tests.{eq-eqb, ne-eqb}
+use Rattle.network.specs.declared.Call.{Call}
+use Rattle.network.specs.Lists.{pick, keep}
+use Rattle.network.specs.Network.{maxLines, maxStop, howOftenAt}
+use Rattle.network.specs.Stored.{Often}
+use Rattle.network.proofs.Laws.Lists.{and-both}
+use Rattle.network.proofs.Laws.Scan.{keep-append}
+
+module _ (line stop : ℕ) (cs : List Call) (c : Call) where
+  isCall : Call → Bool
+  isCall d = eqb (d .line) line && eqb (d .stop) stop
+
+  howOftenAt-next : howOftenAt line stop (cs ++ (c ∷ [])) ≡ howOftenAt line stop cs + pick (isCall c) 1 0
+  unfolding howOftenAt keep isCall
+  howOftenAt-next =
+      ap length (keep-append isCall cs (c ∷ [])) ∙ length-append (keep isCall cs) (keep isCall (c ∷ [])) ∙ go (isCall c)
+    where
+      go : (t : Bool) → length (keep isCall cs) + length (pick t (c ∷ []) []) ≡ length (keep isCall cs) + pick t 1 0
+      go true = refl
+      go false = refl
+
+  once-more : c .line ≡ line → c .stop ≡ stop → howOftenAt line stop (cs ++ (c ∷ [])) ≡ howOftenAt line stop cs + 1
+  unfolding isCall
+  once-more f g =
+      howOftenAt-next ∙ ap (λ (t : Bool). howOftenAt line stop cs + pick t 1 0) (and-both _ _ (eq-eqb _ _ f) (eq-eqb _ _ g))
+
+  as-often : (c .line ≡ line → c .stop ≡ stop → ⊥) → howOftenAt line stop (cs ++ (c ∷ [])) ≡ howOftenAt line stop cs
+  unfolding isCall
+  as-often f =
+      howOftenAt-next ∙ ap (λ (t : Bool). howOftenAt line stop cs + pick t 1 0) (other (ℕ-discrete (c .line) line)) ∙ omega arith
+    where
+      other : Dec (c .line ≡ line) → (eqb (c .line) line && eqb (c .stop) stop) ≡ false
+      other (yes e) = rw (ne-eqb _ _ (f e)) (and-false (eqb (c .line) line))
+      other (no d) = rw (ne-eqb _ _ d) refl
+
+pub often-none : (often : List ℕ) → ((place : ℕ) → getD often place 0 ≡ 0) → Often often []
+unfolding Often howOftenAt keep
+often-none often z line stop h k = z (stop * 16 + line)
+
+pub often-call : (often : List ℕ) (cs : List Call) (c : Call) → length often ≡ 1024 → c .line < maxLines → c .stop ≤ maxStop → Often often cs
+    → Often (set often (c .stop * 16 + c .line) (getD often (c .stop * 16 + c .line) 0 + 1)) (cs ++ (c ∷ []))
+unfolding Often
+often-call often cs c row low high o line stop k j = go (ℕ-discrete (stop * 16 + line) (c .stop * 16 + c .line))
+  where
+    go : Dec (stop * 16 + line ≡ c .stop * 16 + c .line)
+        → getD (set often (c .stop * 16 + c .line) (getD often (c .stop * 16 + c .line) 0 + 1)) (stop * 16 + line) 0 ≡ howOftenAt line stop (cs ++ (c ∷ []))
+    go (yes e) =
+        let f : c .line ≡ line = omega arith in
+        let g : c .stop ≡ stop = omega arith in
+        ap (λ (q : ℕ). getD (set often (c .stop * 16 + c .line) (getD often (c .stop * 16 + c .line) 0 + 1)) q 0) e
+        ∙ getD-set-same often (c .stop * 16 + c .line) (getD often (c .stop * 16 + c .line) 0 + 1) 0 (omega arith)
+        ∙ ap (λ (q : ℕ). getD often q 0 + 1) (sym e)
+        ∙ ap (λ (q : ℕ). q + 1) (o line stop k j)
+        ∙ sym (once-more line stop cs c f g)
+    go (no d) =
+        getD-set-other often (c .stop * 16 + c .line) (stop * 16 + line) (getD often (c .stop * 16 + c .line) 0 + 1) 0 d
+        ∙ o line stop k j
+        ∙ sym (as-often line stop cs c (λ e f. d (omega arith)))
