@@ -8,7 +8,7 @@ use Rattle.network.specs.declared.Check.{Check}
 use Rattle.network.specs.declared.Check.the-variants.{Passes, Refused}
 use Rattle.network.specs.Divisor.{lcm}
 use Rattle.network.specs.Lists.{allBelow}
-use Rattle.network.specs.Network.{Net, Command, statesLine, callsByOffset, callsByRide, ends, unknown}
+use Rattle.network.specs.Network.{Net, SoFar, Command, statesLine, callsByOffset, callsByRide, ends, unknown}
 use Rattle.network.specs.Network.{maxLines, maxPeriod, maxCycle, maxStop, maxOffset, maxCalls, maxCallsAtStop}
 use Rattle.network.specs.Network.{cycle, howOftenAt, callsAnywhere, word, operandBytes, lineOperand, stopOperand, rideOffset}
 
@@ -23,7 +23,8 @@ first [] = Passes
 first ((number at place when true) ∷ gs) = Refused number place
 first ((number at place when false) ∷ gs) = first gs
 
--- In what follows a command's byte is at place `p`, and `behind` is what stands in the file behind that byte.
+-- In what follows a command's byte is at place `p`, `f` is what has been read before it, and `behind` is what stands in the file behind that
+-- byte.
 
 -- The operands are cut off
 unfoldable pub cutOff : Command → List ℕ → Bool
@@ -37,31 +38,31 @@ unfoldable pub someLineSilent : Net → Bool
 someLineSilent n = not (allBelow (λ line. callsAnywhere line (n .calls)) (length (n .periods)))
 
 -- The grounds that 43 and 46 share, where their operands aren't cut off
-unfoldable pub callGrounds : Net → ℕ → List ℕ → List Ground
-callGrounds n p behind =
-    (7 at p when leb (length (n .periods)) (lineOperand behind)) ∷
+unfoldable pub callGrounds : SoFar → ℕ → List ℕ → List Ground
+callGrounds f p behind =
+    (7 at p when leb (length (f .network .periods)) (lineOperand behind)) ∷
     (8 at p when ltb maxStop (stopOperand behind)) ∷
-    (9 at p when leb maxCallsAtStop (howOftenAt (lineOperand behind) (stopOperand behind) (n .calls))) ∷
-    (10 at p when leb maxCalls (length (n .calls))) ∷
+    (9 at p when leb maxCallsAtStop (howOftenAt (lineOperand behind) (stopOperand behind) (f .network .calls))) ∷
+    (10 at p when leb maxCalls (length (f .network .calls))) ∷
     []
 
 -- The grounds of a command
-unfoldable pub grounds : Command → Net → ℕ → List ℕ → List Ground
-grounds unknown n p behind = (2 at p when true) ∷ []
-grounds statesLine n p behind =
+unfoldable pub grounds : Command → SoFar → ℕ → List ℕ → List Ground
+grounds unknown f p behind = (2 at p when true) ∷ []
+grounds statesLine f p behind =
     (3 at p when cutOff statesLine behind) ∷
-    (4 at p when leb maxLines (length (n .periods))) ∷
+    (4 at p when leb maxLines (length (f .network .periods))) ∷
     (5 at p when periodOutOfRange (word behind 0)) ∷
-    (6 at p when ltb maxCycle (lcm (cycle n) (word behind 0))) ∷
+    (6 at p when ltb maxCycle (lcm (cycle (f .network)) (word behind 0))) ∷
     []
-grounds callsByOffset n p behind = (3 at p when cutOff callsByOffset behind) ∷ callGrounds n p behind
-grounds callsByRide n p behind =
+grounds callsByOffset f p behind = (3 at p when cutOff callsByOffset behind) ∷ callGrounds f p behind
+grounds callsByRide f p behind =
     (3 at p when cutOff callsByRide behind) ∷
-    callGrounds n p behind ++
-    (11 at p when not (callsAnywhere (lineOperand behind) (n .calls))) ∷
-    (12 at p when ltb maxOffset (rideOffset n behind)) ∷
+    callGrounds f p behind ++
+    (11 at p when not (callsAnywhere (lineOperand behind) (f .network .calls))) ∷
+    (12 at p when ltb maxOffset (rideOffset (f .network) behind)) ∷
     []
-grounds ends n p behind =
-    (13 at p when eqb (length (n .periods)) 0 || someLineSilent n) ∷
+grounds ends f p behind =
+    (13 at p when eqb (length (f .network .periods)) 0 || someLineSilent (f .network)) ∷
     (14 at p + 1 when leb 1 (length behind)) ∷
     []

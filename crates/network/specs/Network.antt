@@ -135,10 +135,25 @@ withCall n c = withCalls n (n .calls ++ (c ∷ []))
 unfoldable pub callOf : List ℕ → ℕ → Call
 callOf operands offset = record { line = lineOperand operands; stop = stopOperand operands; offset = offset }
 
--- The network after a command with these operands
-unfoldable pub extend : Command → Net → List ℕ → Net
-extend statesLine n operands = withLine n (word operands 0)
-extend callsByOffset n operands = withCall n (callOf operands (statedOffset operands))
-extend callsByRide n operands = withCall n (callOf operands (rideOffset n operands))
-extend ends n operands = n
-extend unknown n operands = n
+-- What has been read of a file: the network so far. A command that only later grounds ask about would be counted here
+pub record SoFar : Type 0 where
+  pub network : Net
+
+-- No other line builds one; and what has been read, with another network
+abbrev pub soFar : Net → SoFar
+soFar network = record { network = network }
+
+abbrev pub withNetwork : SoFar → Net → SoFar
+withNetwork f network = soFar network
+
+-- Before the first command
+abbrev pub nothingRead : SoFar
+nothingRead = soFar emptyNet
+
+-- .. and after one with these operands
+unfoldable pub extend : Command → SoFar → List ℕ → SoFar
+extend statesLine f operands = withNetwork f (withLine (f .network) (word operands 0))
+extend callsByOffset f operands = withNetwork f (withCall (f .network) (callOf operands (statedOffset operands)))
+extend callsByRide f operands = withNetwork f (withCall (f .network) (callOf operands (rideOffset (f .network) operands)))
+extend ends f operands = f
+extend unknown f operands = f

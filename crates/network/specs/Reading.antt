@@ -7,7 +7,7 @@ use Rattle.network.specs.declared.Check.{Check}
 use Rattle.network.specs.declared.Check.the-variants.{Passes, Refused}
 use Rattle.network.specs.declared.ReadAnswer.{ReadAnswer}
 use Rattle.network.specs.declared.ReadAnswer.the-variants as answer
-use Rattle.network.specs.Network.{Net, emptyNet, Command, statesLine, callsByOffset, callsByRide, ends, unknown}
+use Rattle.network.specs.Network.{Net, SoFar, nothingRead, Command, statesLine, callsByOffset, callsByRide, ends, unknown}
 use Rattle.network.specs.Network.{command, operandBytes, extend, cycle, servedStops}
 use Rattle.network.specs.Grounds.{first, grounds}
 
@@ -17,26 +17,26 @@ pub data Reading : Type 0 where
   refused : (number place : ℕ) → Reading
 
 -- A refusal stands; where no ground applies, 45 ends the reading and any other command hands on to what stands behind it
-unfoldable pub proceed : Check → Command → Net → Reading → Reading
-proceed (Refused number place) c n onward = refused number place
-proceed Passes statesLine n onward = onward
-proceed Passes callsByOffset n onward = onward
-proceed Passes callsByRide n onward = onward
-proceed Passes ends n onward = accepted n
-proceed Passes unknown n onward = onward
+unfoldable pub proceed : Check → Command → SoFar → Reading → Reading
+proceed (Refused number place) c f onward = refused number place
+proceed Passes statesLine f onward = onward
+proceed Passes callsByOffset f onward = onward
+proceed Passes callsByRide f onward = onward
+proceed Passes ends f onward = accepted (f .network)
+proceed Passes unknown f onward = onward
 
--- The file from place `p` on, read with the network before it; `operands` bytes belong to the command before and are passed over.
+-- The file from place `p` on, of which `f` has been read before it; `operands` bytes belong to the command before and are passed over.
 -- Ground 1: no byte where a command is due
-unfoldable pub readFrom : Net → ℕ → ℕ → List ℕ → Reading
-readFrom n p operands [] = refused 1 p
-readFrom n p (suc operands) (b ∷ behind) = readFrom n (p + 1) operands behind
-readFrom n p zero (b ∷ behind) =
-    proceed (first (grounds (command b) n p behind)) (command b) n
-    (readFrom (extend (command b) n behind) (p + 1) (operandBytes (command b)) behind)
+unfoldable pub readFrom : SoFar → ℕ → ℕ → List ℕ → Reading
+readFrom f p operands [] = refused 1 p
+readFrom f p (suc operands) (b ∷ behind) = readFrom f (p + 1) operands behind
+readFrom f p zero (b ∷ behind) =
+    proceed (first (grounds (command b) f p behind)) (command b) f
+    (readFrom (extend (command b) f behind) (p + 1) (operandBytes (command b)) behind)
 
 -- What a file gives: a file is accepted when no ground of its author applies
 unfoldable pub readFile : List ℕ → Reading
-readFile file = readFrom emptyNet 0 0 file
+readFile file = readFrom nothingRead 0 0 file
 
 -- An answer of any call as the paper has it: its values in the paper's order, or the number and place of the refusal
 pub data Outcome : Type 0 where

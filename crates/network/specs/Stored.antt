@@ -13,7 +13,7 @@ use Rattle.network.specs.declared.Told.{Told}
 use Rattle.network.specs.declared.Told.the-variants as told
 use Rattle.network.specs.Divisor.{lcm}
 use Rattle.network.specs.Lists.{pick}
-use Rattle.network.specs.Network.{Net, netWith, Command, statesLine, callsByOffset, callsByRide, ends, maxLines, maxStop, maxCalls, maxCycle, cycle}
+use Rattle.network.specs.Network.{Net, netWith, SoFar, Command, statesLine, callsByOffset, callsByRide, ends, maxLines, maxStop, maxCalls, maxCycle, cycle}
 use Rattle.network.specs.Network.{callsAnywhere, howOftenAt, latestOffset, word, callOf, statedOffset, rideOffset}
 use Rattle.network.specs.Grounds.{first, grounds}
 use Rattle.network.specs.Reading.{Reading, accepted, refused}
@@ -47,14 +47,14 @@ unfoldable pub Often : List ℕ → List Call → Type 0
 Often often cs = (line stop : ℕ) → line < maxLines → stop ≤ maxStop → getD often (stop * maxLines + line) 0 ≡ howOftenAt line stop cs
 
 -- What one command's function tells is right: the ground that applies first, or, where none does, the command's line or call, or the end
-unfoldable pub Tells : Command → Net → ℕ → List ℕ → Told → Type 0
-Tells c n p behind (told.Refused number place) = first (grounds c n p behind) ≡ Refused number place
-Tells c n p behind (told.Line period common) =
-    (first (grounds c n p behind) ≡ Passes) × (c ≡ statesLine) × (period ≡ word behind 0) × (common ≡ lcm (cycle n) (word behind 0))
-Tells c n p behind (told.Calls call) =
-    (first (grounds c n p behind) ≡ Passes)
-    × (((c ≡ callsByOffset) × (call ≡ callOf behind (statedOffset behind))) ⊎ ((c ≡ callsByRide) × (call ≡ callOf behind (rideOffset n behind))))
-Tells c n p behind told.End = (first (grounds c n p behind) ≡ Passes) × (c ≡ ends)
+unfoldable pub Tells : Command → SoFar → ℕ → List ℕ → Told → Type 0
+Tells c f p behind (told.Refused number place) = first (grounds c f p behind) ≡ Refused number place
+Tells c f p behind (told.Line period common) =
+    (first (grounds c f p behind) ≡ Passes) × (c ≡ statesLine) × (period ≡ word behind 0) × (common ≡ lcm (cycle (f .network)) (word behind 0))
+Tells c f p behind (told.Calls call) =
+    (first (grounds c f p behind) ≡ Passes)
+    × (((c ≡ callsByOffset) × (call ≡ callOf behind (statedOffset behind))) ⊎ ((c ≡ callsByRide) × (call ≡ callOf behind (rideOffset (f .network) behind))))
+Tells c f p behind told.End = (first (grounds c f p behind) ≡ Passes) × (c ≡ ends)
 
 -- What reading a whole file gives
 unfoldable pub readingOf : Check → Network → Reading

@@ -69,10 +69,10 @@ fn part_behind(code: u8, behind: &[u8]) -> &[u8]
     &behind[operands..]
 }
 
-// 4C: grounds 3 to 6, or a line. As for every command, what is told is right of each network with these numbers and rows.
+// 4C: grounds 3 to 6, or a line. As for every command, what is told is right wherever the network so far has these numbers and rows.
 fn read_line(size: Size, behind: &[u8], at: usize) -> Told
     requires { ⌜ (0 < size .cycle) × (size .cycle ≤ net.maxCycle) ⌝ }
-    ensures { λ r. ⌜ ((n : net.Net) → HasSize n size → Tells net.statesLine n at (now (behind .entry)) r) ⌝ }
+    ensures { λ r. ⌜ ((f : net.SoFar) → HasSize (f .network) size → Tells net.statesLine f at (now (behind .entry)) r) ⌝ }
 {
     if behind.len() < 2 {
         return Told::Refused {
@@ -127,7 +127,7 @@ fn often_at(often: &[u8; Network::TABLE], line: usize, stop: usize) -> u8
 // 43 and 46: the grounds that they share once their operands are there, 7 to 10.
 fn check_call(size: Size, often: &[u8; Network::TABLE], behind: &[u8], at: usize) -> Check
     requires { ⌜ (size .lines ≤ net.maxLines) × (4 ≤ length (now behind)) ⌝ }
-    ensures { λ r. ⌜ ((n : net.Net) → HasSize n size → Often (now (often .entry)) (n .calls) → r ≡ ground.first (ground.callGrounds n at (now (behind .entry)))) ⌝ }
+    ensures { λ r. ⌜ ((f : net.SoFar) → HasSize (f .network) size → Often (now (often .entry)) (f .network .calls) → r ≡ ground.first (ground.callGrounds f at (now (behind .entry)))) ⌝ }
     ensures { λ r. ⌜ (r ≡ Check.Passes → getD (now (behind .entry)) 0 0 < size .lines) ⌝ }
 {
     let line = behind[0];
@@ -162,7 +162,7 @@ fn check_call(size: Size, often: &[u8; Network::TABLE], behind: &[u8], at: usize
 // 43: the grounds of a call, or a call.
 fn read_call(size: Size, often: &[u8; Network::TABLE], behind: &[u8], at: usize) -> Told
     requires { ⌜ size .lines ≤ net.maxLines ⌝ }
-    ensures { λ r. ⌜ ((n : net.Net) → HasSize n size → Often (now (often .entry)) (n .calls) → Tells net.callsByOffset n at (now (behind .entry)) r) ⌝ }
+    ensures { λ r. ⌜ ((f : net.SoFar) → HasSize (f .network) size → Often (now (often .entry)) (f .network .calls) → Tells net.callsByOffset f at (now (behind .entry)) r) ⌝ }
 {
     if call_cut_off(behind) {
         return Told::Refused {
@@ -193,7 +193,7 @@ fn read_ride(
     at: usize,
 ) -> Told
     requires { ⌜ size .lines ≤ net.maxLines ⌝ }
-    ensures { λ r. ⌜ ((n : net.Net) → HasSize n size → Often (now (often .entry)) (n .calls) → Latest (now (latest .entry)) (n .calls) → Tells net.callsByRide n at (now (behind .entry)) r) ⌝ }
+    ensures { λ r. ⌜ ((f : net.SoFar) → HasSize (f .network) size → Often (now (often .entry)) (f .network .calls) → Latest (now (latest .entry)) (f .network .calls) → Tells net.callsByRide f at (now (behind .entry)) r) ⌝ }
 {
     if call_cut_off(behind) {
         return Told::Refused {
@@ -219,7 +219,7 @@ fn latest_of(latest: &[u32; Network::MAX_LINES], line: u8) -> u32
 // 46 where the grounds of a call are passed: grounds 11 and 12, or a call. The sum is of 64 bits, so that it fits whatever the row holds.
 fn read_following_call(latest: &[u32; Network::MAX_LINES], behind: &[u8], at: usize) -> Told
     requires { ⌜ (4 ≤ length (now behind)) × (getD (now behind) 0 0 < net.maxLines) ⌝ }
-    ensures { λ r. ⌜ ((n : net.Net) → Latest (now (latest .entry)) (n .calls) → ground.first (ground.callGrounds n at (now (behind .entry))) ≡ Check.Passes → Tells net.callsByRide n at (now (behind .entry)) r) ⌝ }
+    ensures { λ r. ⌜ ((f : net.SoFar) → Latest (now (latest .entry)) (f .network .calls) → ground.first (ground.callGrounds f at (now (behind .entry))) ≡ Check.Passes → Tells net.callsByRide f at (now (behind .entry)) r) ⌝ }
 {
     let line = behind[0];
     let before = latest_of(latest, line);
@@ -260,7 +260,7 @@ fn every_line_calls(lines: usize, latest: &[u32; Network::MAX_LINES]) -> bool
 // 45: grounds 13 and 14, or the end of the file.
 fn read_end(lines: usize, latest: &[u32; Network::MAX_LINES], behind: &[u8], at: usize) -> Told
     requires { ⌜ (lines ≤ net.maxLines) × (at < 2 ^ 63) ⌝ }
-    ensures { λ r. ⌜ ((n : net.Net) → lines ≡ length (n .periods) → Latest (now (latest .entry)) (n .calls) → Tells net.ends n at (now (behind .entry)) r) ⌝ }
+    ensures { λ r. ⌜ ((f : net.SoFar) → lines ≡ length (f .network .periods) → Latest (now (latest .entry)) (f .network .calls) → Tells net.ends f at (now (behind .entry)) r) ⌝ }
 {
     if lines == 0 {
         return Told::Refused {
@@ -293,7 +293,7 @@ fn read_command(
     at: usize,
 ) -> Told
     requires { ⌜ (size .lines ≤ net.maxLines) × (0 < size .cycle) × (size .cycle ≤ net.maxCycle) × (at < 2 ^ 63) ⌝ }
-    ensures { λ r. ⌜ ((n : net.Net) → HasSize n size → Often (now (often .entry)) (n .calls) → Latest (now (latest .entry)) (n .calls) → Tells (net.command code) n at (now (behind .entry)) r) ⌝ }
+    ensures { λ r. ⌜ ((f : net.SoFar) → HasSize (f .network) size → Often (now (often .entry)) (f .network .calls) → Latest (now (latest .entry)) (f .network .calls) → Tells (net.command code) f at (now (behind .entry)) r) ⌝ }
 {
     match code {
         0x4C => read_line(size, behind, at),

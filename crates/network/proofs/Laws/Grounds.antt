@@ -10,7 +10,7 @@ use lib.ListN.{length}
 use borrow.Author.Tests.{lt-ltb, le-ltb, ltb-false, leb-false, eqb-false, not-false}
 use Rattle.network.specs.declared.Check.the-variants.{Passes, Refused}
 use Rattle.network.specs.Divisor.{lcm}
-use Rattle.network.specs.Network.{Net, Command, statesLine, callsByOffset, callsByRide, ends, unknown}
+use Rattle.network.specs.Network.{Net, SoFar, Command, statesLine, callsByOffset, callsByRide, ends, unknown}
 use Rattle.network.specs.Network.{maxLines, maxPeriod, maxCycle, maxStop, maxOffset, maxCalls, maxCallsAtStop}
 use Rattle.network.specs.Network.{cycle, howOftenAt, callsAnywhere, word, operandBytes, lineOperand, stopOperand, rideOffset}
 use Rattle.network.specs.Grounds.{Ground, _at_when_, first, cutOff, periodOutOfRange, someLineSilent, callGrounds, grounds}
@@ -82,9 +82,9 @@ pub record LineFits (n : Net) (behind : List ℕ) : Type 0 where
   pub period : word behind 0 ≤ maxPeriod
   pub cycle-max : lcm (cycle n) (word behind 0) ≤ maxCycle
 
-pub line-passes : (n : Net) (p : ℕ) (behind : List ℕ) → first (grounds statesLine n p behind) ≡ Passes → LineFits n behind
+pub line-passes : (f : SoFar) (p : ℕ) (behind : List ℕ) → first (grounds statesLine f p behind) ≡ Passes → LineFits (f .network) behind
 unfolding grounds periodOutOfRange operandBytes
-line-passes n p behind e₀ =
+line-passes f p behind e₀ =
     let (cut, e₁) = first-passes _ _ _ _ e₀ in
     let (full, e₂) = first-passes _ _ _ _ e₁ in
     let (range, e₃) = first-passes _ _ _ _ e₂ in
@@ -105,10 +105,10 @@ pub record CallFits (c : Command) (n : Net) (behind : List ℕ) : Type 0 where
   pub often : howOftenAt (lineOperand behind) (stopOperand behind) (n .calls) < maxCallsAtStop
   pub room : length (n .calls) < maxCalls
 
-pub call-passes : (c : Command) (n : Net) (p : ℕ) (behind : List ℕ) → cutOff c behind ≡ false → first (callGrounds n p behind) ≡ Passes
-    → CallFits c n behind
+pub call-passes : (c : Command) (f : SoFar) (p : ℕ) (behind : List ℕ) → cutOff c behind ≡ false → first (callGrounds f p behind) ≡ Passes
+    → CallFits c (f .network) behind
 unfolding callGrounds
-call-passes c n p behind cut e₁ =
+call-passes c f p behind cut e₁ =
     let (unstated, e₂) = first-passes _ _ _ _ e₁ in
     let (far, e₃) = first-passes _ _ _ _ e₂ in
     let (again, e₄) = first-passes _ _ _ _ e₃ in
@@ -121,21 +121,21 @@ call-passes c n p behind cut e₁ =
       room = leb-false _ _ full;
     }
 
-pub offset-passes : (n : Net) (p : ℕ) (behind : List ℕ) → first (grounds callsByOffset n p behind) ≡ Passes → CallFits callsByOffset n behind
+pub offset-passes : (f : SoFar) (p : ℕ) (behind : List ℕ) → first (grounds callsByOffset f p behind) ≡ Passes → CallFits callsByOffset (f .network) behind
 unfolding grounds
-offset-passes n p behind e₀ =
+offset-passes f p behind e₀ =
     let (cut, e₁) = first-passes _ _ _ _ e₀ in
-    call-passes callsByOffset n p behind cut e₁
+    call-passes callsByOffset f p behind cut e₁
 
-pub ride-passes : (n : Net) (p : ℕ) (behind : List ℕ) → first (grounds callsByRide n p behind) ≡ Passes
-    → CallFits callsByRide n behind × (rideOffset n behind ≤ maxOffset)
+pub ride-passes : (f : SoFar) (p : ℕ) (behind : List ℕ) → first (grounds callsByRide f p behind) ≡ Passes
+    → CallFits callsByRide (f .network) behind × (rideOffset (f .network) behind ≤ maxOffset)
 unfolding grounds
-ride-passes n p behind e₀ =
+ride-passes f p behind e₀ =
     let (cut, e) = first-passes _ _ _ _ e₀ in
-    let (shared, e₁) = first-append-passes (callGrounds n p behind) _ e in
+    let (shared, e₁) = first-append-passes (callGrounds f p behind) _ e in
     let (none, e₂) = first-passes _ _ _ _ e₁ in
     let (late, e₃) = first-passes _ _ _ _ e₂ in
-    (call-passes callsByRide n p behind cut shared, ltb-false _ _ late)
+    (call-passes callsByRide f p behind cut shared, ltb-false _ _ late)
 
 -- 43 and 46 are as long, so that ground 3 applies to both alike
 pub cut-off-alike : (behind : List ℕ) → cutOff callsByRide behind ≡ cutOff callsByOffset behind
@@ -151,15 +151,15 @@ pub record EndFits (n : Net) (behind : List ℕ) : Type 0 where
   pub every-line-calls : (i : ℕ) → i < length (n .periods) → callsAnywhere i (n .calls) ≡ true
   pub last : length behind ≡ 0
 
-pub end-passes : (n : Net) (p : ℕ) (behind : List ℕ) → first (grounds ends n p behind) ≡ Passes → EndFits n behind
+pub end-passes : (f : SoFar) (p : ℕ) (behind : List ℕ) → first (grounds ends f p behind) ≡ Passes → EndFits (f .network) behind
 unfolding grounds someLineSilent
-end-passes n p behind e₀ =
+end-passes f p behind e₀ =
     let (unfit, e₁) = first-passes _ _ _ _ e₀ in
-    let (empty, silent) = or-neither (eqb (length (n .periods)) 0) (someLineSilent n) unfit in
+    let (empty, silent) = or-neither (eqb (length (f .network .periods)) 0) (someLineSilent (f .network)) unfit in
     let (more, e₂) = first-passes _ _ _ _ e₁ in
     record {
-      some-line = omega (arith, eqb-false (length (n .periods)) 0 empty);
-      every-line-calls = λ i. allBelow-at (λ line. callsAnywhere line (n .calls)) (length (n .periods)) i (not-false _ silent);
+      some-line = omega (arith, eqb-false (length (f .network .periods)) 0 empty);
+      every-line-calls = λ i. allBelow-at (λ line. callsAnywhere line (f .network .calls)) (length (f .network .periods)) i (not-false _ silent);
       last = omega (arith, leb-false 1 (length behind) more);
     }
 
@@ -179,14 +179,14 @@ first-named P ((m at q when false) ∷ gs) number place h e = first-named P gs n
 abbrev Named : ℕ → ℕ → ℕ → Type 0
 Named p number place = (1 ≤ number) × (number ≤ 14) × (place ≤ p + 1)
 
-grounds-named : (c : Command) (n : Net) (p : ℕ) (behind : List ℕ) → AllNamed (Named p) (grounds c n p behind)
+grounds-named : (c : Command) (f : SoFar) (p : ℕ) (behind : List ℕ) → AllNamed (Named p) (grounds c f p behind)
 unfolding grounds callGrounds
-grounds-named statesLine n p behind = omega arith
-grounds-named callsByOffset n p behind = omega arith
-grounds-named callsByRide n p behind = omega arith
-grounds-named ends n p behind = omega arith
-grounds-named unknown n p behind = omega arith
+grounds-named statesLine f p behind = omega arith
+grounds-named callsByOffset f p behind = omega arith
+grounds-named callsByRide f p behind = omega arith
+grounds-named ends f p behind = omega arith
+grounds-named unknown f p behind = omega arith
 
-pub refused-named : (c : Command) (n : Net) (p : ℕ) (behind : List ℕ) (number place : ℕ)
-    → first (grounds c n p behind) ≡ Refused number place → (1 ≤ number) × (number ≤ 14) × (place ≤ p + 1)
-refused-named c n p behind number place = first-named (Named p) (grounds c n p behind) number place (grounds-named c n p behind)
+pub refused-named : (c : Command) (f : SoFar) (p : ℕ) (behind : List ℕ) (number place : ℕ)
+    → first (grounds c f p behind) ≡ Refused number place → (1 ≤ number) × (number ≤ 14) × (place ≤ p + 1)
+refused-named c f p behind number place = first-named (Named p) (grounds c f p behind) number place (grounds-named c f p behind)

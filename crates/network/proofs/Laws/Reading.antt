@@ -12,9 +12,9 @@ use borrow.Author.Tests.{ltb-true, ltb-false, leb-true, leb-false, lt-ltb, le-lt
 use Rattle.network.specs.declared.Call.{Call}
 use Rattle.network.specs.declared.Check.{Check}
 use Rattle.network.specs.declared.Check.the-variants.{Passes, Refused}
-use Rattle.network.specs.Network.{Net, emptyNet, Command, statesLine, callsByOffset, callsByRide, ends, unknown}
+use Rattle.network.specs.Network.{Net, SoFar, nothingRead, Command, statesLine, callsByOffset, callsByRide, ends, unknown}
 use Rattle.network.specs.Network.{maxLines, maxCalls, command, operandBytes, word, lineOperand, stopOperand}
-use Rattle.network.specs.Network.{statedOffset, rideOffset, withLine, withCall, callOf, extend}
+use Rattle.network.specs.Network.{statedOffset, rideOffset, withLine, withCall, callOf, withNetwork, extend}
 use Rattle.network.specs.Grounds.{first, grounds, callGrounds, cutOff}
 use Rattle.network.specs.Reading.{Reading, accepted, refused, proceed, readFrom, readFile}
 use Rattle.network.specs.Gives.{Reached, start, next, Gives, runs-out, refuses, accepts}
@@ -22,153 +22,153 @@ use Rattle.network.proofs.Laws.Lists.{zero-ne-one}
 use Rattle.network.proofs.Laws.Grounds.{line-passes, offset-passes, ride-passes, refused-named}
 
 -- The operands of the command before are passed over
-pub readFrom-skip : (n : Net) (p k : ℕ) (bs : List ℕ) → k ≤ length bs → readFrom n p k bs ≡ readFrom n (p + k) 0 (drop k bs)
+pub readFrom-skip : (f : SoFar) (p k : ℕ) (bs : List ℕ) → k ≤ length bs → readFrom f p k bs ≡ readFrom f (p + k) 0 (drop k bs)
 unfolding readFrom
-readFrom-skip n p zero bs h = ap (λ (q : ℕ). readFrom n q 0 bs) (omega arith)
-readFrom-skip n p (suc k) [] h = absurd (omega arith)
-readFrom-skip n p (suc k) (b ∷ bs) h =
-    readFrom-skip n (p + 1) k bs (omega arith) ∙ ap (λ (q : ℕ). readFrom n q 0 (drop k bs)) (omega arith)
+readFrom-skip f p zero bs h = ap (λ (q : ℕ). readFrom f q 0 bs) (omega arith)
+readFrom-skip f p (suc k) [] h = absurd (omega arith)
+readFrom-skip f p (suc k) (b ∷ bs) h =
+    readFrom-skip f (p + 1) k bs (omega arith) ∙ ap (λ (q : ℕ). readFrom f q 0 (drop k bs)) (omega arith)
 
 -- A command that passes has its operands
-pub passes-operands : (c : Command) (n : Net) (p : ℕ) (behind : List ℕ) → first (grounds c n p behind) ≡ Passes
+pub passes-operands : (c : Command) (f : SoFar) (p : ℕ) (behind : List ℕ) → first (grounds c f p behind) ≡ Passes
     → operandBytes c ≤ length behind
 unfolding grounds operandBytes
-passes-operands statesLine n p behind e = line-passes n p behind e .operands
-passes-operands callsByOffset n p behind e = offset-passes n p behind e .operands
-passes-operands callsByRide n p behind e = ride-passes n p behind e .0 .operands
-passes-operands ends n p behind e = omega arith
-passes-operands unknown n p behind e = omega arith
+passes-operands statesLine f p behind e = line-passes f p behind e .operands
+passes-operands callsByOffset f p behind e = offset-passes f p behind e .operands
+passes-operands callsByRide f p behind e = ride-passes f p behind e .0 .operands
+passes-operands ends f p behind e = omega arith
+passes-operands unknown f p behind e = omega arith
 
 -- ---- how many lines and calls are stated before a place
 
-pub record Within (n : Net) (p : ℕ) : Type 0 where
-  pub place : p ≤ 3 * length (n .periods) + 5 * length (n .calls)
-  pub lines : length (n .periods) ≤ maxLines
-  pub calls : length (n .calls) ≤ maxCalls
+pub record Within (f : SoFar) (p : ℕ) : Type 0 where
+  pub place : p ≤ 3 * length (f .network .periods) + 5 * length (f .network .calls)
+  pub lines : length (f .network .periods) ≤ maxLines
+  pub calls : length (f .network .calls) ≤ maxCalls
 
-within-empty : Within emptyNet 0
-within-empty = omega arith
+within-nothing : Within nothingRead 0
+within-nothing = omega arith
 
-within-line : (n : Net) (p : ℕ) (period : ℕ) → length (n .periods) < maxLines → Within n p → Within (withLine n period) (p + 1 + 2)
+within-line : (f : SoFar) (p : ℕ) (period : ℕ) → length (f .network .periods) < maxLines → Within f p → Within (withNetwork f (withLine (f .network) period)) (p + 1 + 2)
 unfolding withLine
-within-line n p period room r =
-    let e : length (n .periods ++ (period ∷ [])) ≡ length (n .periods) + 1 = length-append (n .periods) (period ∷ []) in
+within-line f p period room r =
+    let e : length (f .network .periods ++ (period ∷ [])) ≡ length (f .network .periods) + 1 = length-append (f .network .periods) (period ∷ []) in
     record { place = omega arith; lines = omega arith; calls = r .calls }
 
-within-call : (n : Net) (p : ℕ) (c : Call) → length (n .calls) < maxCalls → Within n p → Within (withCall n c) (p + 1 + 4)
+within-call : (f : SoFar) (p : ℕ) (c : Call) → length (f .network .calls) < maxCalls → Within f p → Within (withNetwork f (withCall (f .network) c)) (p + 1 + 4)
 unfolding withCall
-within-call n p c room r =
-    let e : length (n .calls ++ (c ∷ [])) ≡ length (n .calls) + 1 = length-append (n .calls) (c ∷ []) in
+within-call f p c room r =
+    let e : length (f .network .calls ++ (c ∷ [])) ≡ length (f .network .calls) + 1 = length-append (f .network .calls) (c ∷ []) in
     record { place = omega arith; lines = r .lines; calls = omega arith }
 
 -- The next command's place, behind one that passes
-within-next : (c : Command) (n : Net) (p : ℕ) (behind : List ℕ) → first (grounds c n p behind) ≡ Passes → (c ≡ ends → ⊥)
-    → Within n p → Within (extend c n behind) (p + 1 + operandBytes c)
+within-next : (c : Command) (f : SoFar) (p : ℕ) (behind : List ℕ) → first (grounds c f p behind) ≡ Passes → (c ≡ ends → ⊥)
+    → Within f p → Within (extend c f behind) (p + 1 + operandBytes c)
 unfolding extend grounds operandBytes first
-within-next statesLine n p behind e h r = within-line n p _ (line-passes n p behind e .room) r
-within-next callsByOffset n p behind e h r = within-call n p _ (offset-passes n p behind e .room) r
-within-next callsByRide n p behind e h r = within-call n p _ (ride-passes n p behind e .0 .room) r
-within-next ends n p behind e h r = absurd (h refl)
-within-next unknown n p behind e h r = absurd (zero-ne-one (cc))
+within-next statesLine f p behind e h r = within-line f p _ (line-passes f p behind e .room) r
+within-next callsByOffset f p behind e h r = within-call f p _ (offset-passes f p behind e .room) r
+within-next callsByRide f p behind e h r = within-call f p _ (ride-passes f p behind e .0 .room) r
+within-next ends f p behind e h r = absurd (h refl)
+within-next unknown f p behind e h r = absurd (zero-ne-one (cc))
 
 -- ---- the places to which the reader comes, and what the file gives
 
 -- What a command does with the reading behind it: nothing, where it refuses or ends, and else it hands it on
-proceed-cases : (P : (Reading → Reading) → Type 0) (q : Check) (c : Command) (n : Net)
+proceed-cases : (P : (Reading → Reading) → Type 0) (q : Check) (c : Command) (f : SoFar)
     → ((number place : ℕ) → q ≡ Refused number place → P (λ onward. refused number place))
-    → (c ≡ ends → q ≡ Passes → P (λ onward. accepted n))
+    → (c ≡ ends → q ≡ Passes → P (λ onward. accepted (f .network)))
     → ((c ≡ ends → ⊥) → q ≡ Passes → P (λ onward. onward))
-    → P (proceed q c n)
+    → P (proceed q c f)
 unfolding proceed
-proceed-cases P (Refused number place) c n f g h = f number place refl
-proceed-cases P Passes statesLine n f g h = h (λ e. zero-ne-one (cc)) refl
-proceed-cases P Passes callsByOffset n f g h = h (λ e. zero-ne-one (cc)) refl
-proceed-cases P Passes callsByRide n f g h = h (λ e. zero-ne-one (cc)) refl
-proceed-cases P Passes ends n f g h = g refl refl
-proceed-cases P Passes unknown n f g h = h (λ e. zero-ne-one (cc)) refl
+proceed-cases P (Refused number place) c f x y z = x number place refl
+proceed-cases P Passes statesLine f x y z = z (λ e. zero-ne-one (cc)) refl
+proceed-cases P Passes callsByOffset f x y z = z (λ e. zero-ne-one (cc)) refl
+proceed-cases P Passes callsByRide f x y z = z (λ e. zero-ne-one (cc)) refl
+proceed-cases P Passes ends f x y z = y refl refl
+proceed-cases P Passes unknown f x y z = z (λ e. zero-ne-one (cc)) refl
 
 -- By the number of bytes that are left
-gives-from : (file : List ℕ) (fuel : ℕ) (n : Net) (p : ℕ) (rest : List ℕ) → length rest ≤ fuel → Reached file n p rest
-    → Gives file (readFrom n p 0 rest)
+gives-from : (file : List ℕ) (fuel : ℕ) (f : SoFar) (p : ℕ) (rest : List ℕ) → length rest ≤ fuel → Reached file f p rest
+    → Gives file (readFrom f p 0 rest)
 unfolding readFrom
-gives-from file zero n p [] h r = runs-out r
-gives-from file zero n p (b ∷ behind) h r = absurd (omega arith)
-gives-from file (suc fuel) n p [] h r = runs-out r
-gives-from file (suc fuel) n p (b ∷ behind) h r =
+gives-from file zero f p [] h r = runs-out r
+gives-from file zero f p (b ∷ behind) h r = absurd (omega arith)
+gives-from file (suc fuel) f p [] h r = runs-out r
+gives-from file (suc fuel) f p (b ∷ behind) h r =
     let c : Command = command b in
-    let onward : Reading = readFrom (extend c n behind) (p + 1) (operandBytes c) behind in
+    let onward : Reading = readFrom (extend c f behind) (p + 1) (operandBytes c) behind in
     let left = length-drop (operandBytes c) behind in
-    proceed-cases (λ f. Gives file (f onward)) (first (grounds c n p behind)) c n
+    proceed-cases (λ step. Gives file (step onward)) (first (grounds c f p behind)) c f
     (λ number place e. refuses r e)
     (λ i e. accepts r i e)
-    (λ i e. let whole = passes-operands c n p behind e in rw readFrom-skip (gives-from file fuel _ _ _ (omega arith) (next r e i)))
+    (λ i e. let whole = passes-operands c f p behind e in rw readFrom-skip (gives-from file fuel _ _ _ (omega arith) (next r e i)))
 
 pub readFile-gives : (file : List ℕ) → Gives file (readFile file)
 unfolding readFile
-readFile-gives file = gives-from file (length file) emptyNet 0 file (omega arith) start
+readFile-gives file = gives-from file (length file) nothingRead 0 file (omega arith) start
 
 -- ---- what a command's byte says of the whole reading from there on
 
-proceed-onward : (c : Command) (n : Net) (onward : Reading) → (c ≡ ends → ⊥) → proceed Passes c n onward ≡ onward
+proceed-onward : (c : Command) (f : SoFar) (onward : Reading) → (c ≡ ends → ⊥) → proceed Passes c f onward ≡ onward
 unfolding proceed
-proceed-onward statesLine n onward f = refl
-proceed-onward callsByOffset n onward f = refl
-proceed-onward callsByRide n onward f = refl
-proceed-onward ends n onward f = absurd (f refl)
-proceed-onward unknown n onward f = refl
+proceed-onward statesLine f onward h = refl
+proceed-onward callsByOffset f onward h = refl
+proceed-onward callsByRide f onward h = refl
+proceed-onward ends f onward h = absurd (h refl)
+proceed-onward unknown f onward h = refl
 
-module _ (b : ℕ) (n : Net) (p : ℕ) (behind : List ℕ) where
+module _ (b : ℕ) (f : SoFar) (p : ℕ) (behind : List ℕ) where
   onward : Reading
-  onward = readFrom (extend (command b) n behind) (p + 1) (operandBytes (command b)) behind
+  onward = readFrom (extend (command b) f behind) (p + 1) (operandBytes (command b)) behind
 
-  read-step : (k : Check) → first (grounds (command b) n p behind) ≡ k → readFrom n p 0 (b ∷ behind) ≡ proceed k (command b) n onward
+  read-step : (k : Check) → first (grounds (command b) f p behind) ≡ k → readFrom f p 0 (b ∷ behind) ≡ proceed k (command b) f onward
   unfolding readFrom onward
-  read-step k e = ap (λ (k : Check). proceed k (command b) n onward) e
+  read-step k e = ap (λ (k : Check). proceed k (command b) f onward) e
 
-  pub read-refused : (number place : ℕ) → first (grounds (command b) n p behind) ≡ Refused number place
-      → readFrom n p 0 (b ∷ behind) ≡ refused number place
+  pub read-refused : (number place : ℕ) → first (grounds (command b) f p behind) ≡ Refused number place
+      → readFrom f p 0 (b ∷ behind) ≡ refused number place
   unfolding proceed
   read-refused number place e = read-step (Refused number place) e
 
-  pub read-ended : first (grounds (command b) n p behind) ≡ Passes → command b ≡ ends → readFrom n p 0 (b ∷ behind) ≡ accepted n
+  pub read-ended : first (grounds (command b) f p behind) ≡ Passes → command b ≡ ends → readFrom f p 0 (b ∷ behind) ≡ accepted (f .network)
   unfolding proceed
-  read-ended e c = read-step Passes e ∙ ap (λ (d : Command). proceed Passes d n onward) c
+  read-ended e c = read-step Passes e ∙ ap (λ (d : Command). proceed Passes d f onward) c
 
-  pub read-onward : (m : Net) → first (grounds (command b) n p behind) ≡ Passes → (command b ≡ ends → ⊥) → m ≡ extend (command b) n behind
-      → readFrom n p 0 (b ∷ behind) ≡ readFrom m (p + 1 + operandBytes (command b)) 0 (drop (operandBytes (command b)) behind)
+  pub read-onward : (m : SoFar) → first (grounds (command b) f p behind) ≡ Passes → (command b ≡ ends → ⊥) → m ≡ extend (command b) f behind
+      → readFrom f p 0 (b ∷ behind) ≡ readFrom m (p + 1 + operandBytes (command b)) 0 (drop (operandBytes (command b)) behind)
   unfolding onward
-  read-onward m e f g =
+  read-onward m e h g =
       read-step Passes e
-      ∙ proceed-onward (command b) n onward f
-      ∙ ap (λ (k : Net). readFrom k (p + 1) (operandBytes (command b)) behind) (sym g)
-      ∙ readFrom-skip m (p + 1) (operandBytes (command b)) behind (passes-operands (command b) n p behind e)
+      ∙ proceed-onward (command b) f onward h
+      ∙ ap (λ (k : SoFar). readFrom k (p + 1) (operandBytes (command b)) behind) (sym g)
+      ∙ readFrom-skip m (p + 1) (operandBytes (command b)) behind (passes-operands (command b) f p behind e)
 
 -- ---- the relation and what is computed are one
 
-reached-read : {file : List ℕ} {n : Net} {p : ℕ} {rest : List ℕ} → Reached file n p rest → readFile file ≡ readFrom n p 0 rest
+reached-read : {file : List ℕ} {f : SoFar} {p : ℕ} {rest : List ℕ} → Reached file f p rest → readFile file ≡ readFrom f p 0 rest
 unfolding readFile
 reached-read start = refl
-reached-read (next {n = n} {p = p} {b = b} {behind = behind} r e f) = reached-read r ∙ read-onward b n p behind _ e f refl
+reached-read (next {f = f} {p = p} {b = b} {behind = behind} r e h) = reached-read r ∙ read-onward b f p behind _ e h refl
 
 pub gives-what-is-read : {file : List ℕ} {reading : Reading} → Gives file reading → readFile file ≡ reading
 unfolding readFrom
 gives-what-is-read (runs-out r) = reached-read r
-gives-what-is-read (refuses {n = n} {p = p} {b = b} {behind = behind} r e) = reached-read r ∙ read-refused b n p behind _ _ e
-gives-what-is-read (accepts {n = n} {p = p} {b = b} {behind = behind} r i e) = reached-read r ∙ read-ended b n p behind e i
+gives-what-is-read (refuses {f = f} {p = p} {b = b} {behind = behind} r e) = reached-read r ∙ read-refused b f p behind _ _ e
+gives-what-is-read (accepts {f = f} {p = p} {b = b} {behind = behind} r i e) = reached-read r ∙ read-ended b f p behind e i
 
 module _ {file : List ℕ} where
-  pub reached-within : {n : Net} {p : ℕ} {rest : List ℕ} → Reached file n p rest → Within n p
-  reached-within start = within-empty
-  reached-within (next {n = n} {p = p} {b = b} {behind = behind} r e c) =
-      within-next (command b) n p behind e c (reached-within r)
+  pub reached-within : {f : SoFar} {p : ℕ} {rest : List ℕ} → Reached file f p rest → Within f p
+  reached-within start = within-nothing
+  reached-within (next {f = f} {p = p} {b = b} {behind = behind} r e c) =
+      within-next (command b) f p behind e c (reached-within r)
 
 -- ---- what a reading tells
 
 -- A refusal's place is at most 3 * 16 + 5 * 256, or one more by ground 14
 gives-named : {file : List ℕ} {number place : ℕ} → Gives file (refused number place) → (1 ≤ number) × (number ≤ 14) × (place ≤ 1329)
 gives-named (runs-out r) = omega (arith, reached-within r)
-gives-named {number = number} {place = place} (refuses {n = n} {p = p} {b = b} {behind = behind} r f) =
-    omega (arith, reached-within r, refused-named (command b) n p behind number place f)
+gives-named {number = number} {place = place} (refuses {f = f} {p = p} {b = b} {behind = behind} r e) =
+    omega (arith, reached-within r, refused-named (command b) f p behind number place e)
 
 pub refused-place : (file : List ℕ) (number place : ℕ) → readFile file ≡ refused number place → place ≤ 1329
 refused-place file number place e = gives-named (rw e at (readFile-gives file)) .2
@@ -212,13 +212,13 @@ module _ (m : ℕ) (enough : 4 ≤ m) (behind : List ℕ) where
   unfolding rideOffset
   ride-take n = rw (line-take, word-take 2 (omega arith))
 
-  extend-take : (c : Command) (n : Net) → extend c n (take m behind) ≡ extend c n behind
+  extend-take : (c : Command) (f : SoFar) → extend c f (take m behind) ≡ extend c f behind
   unfolding extend callOf statedOffset
-  extend-take statesLine n = rw (word-take 0 (omega arith))
-  extend-take callsByOffset n = rw (line-take, stop-take, word-take 2 (omega arith))
-  extend-take callsByRide n = rw (line-take, stop-take, ride-take)
-  extend-take ends n = refl
-  extend-take unknown n = refl
+  extend-take statesLine f = rw (word-take 0 (omega arith))
+  extend-take callsByOffset f = rw (line-take, stop-take, word-take 2 (omega arith))
+  extend-take callsByRide f = rw (line-take, stop-take, ride-take)
+  extend-take ends f = refl
+  extend-take unknown f = refl
 
   cut-off-take : (c : Command) → cutOff c (take m behind) ≡ cutOff c behind
   unfolding cutOff operandBytes
@@ -228,32 +228,32 @@ module _ (m : ℕ) (enough : 4 ≤ m) (behind : List ℕ) where
   cut-off-take ends = ltb-take m 0 behind (omega arith)
   cut-off-take unknown = ltb-take m 0 behind (omega arith)
 
-  call-grounds-take : (n : Net) (p : ℕ) → callGrounds n p (take m behind) ≡ callGrounds n p behind
+  call-grounds-take : (f : SoFar) (p : ℕ) → callGrounds f p (take m behind) ≡ callGrounds f p behind
   unfolding callGrounds
-  call-grounds-take n p = rw (line-take, stop-take)
+  call-grounds-take f p = rw (line-take, stop-take)
 
-  grounds-take : (c : Command) (n : Net) (p : ℕ) → grounds c n p (take m behind) ≡ grounds c n p behind
+  grounds-take : (c : Command) (f : SoFar) (p : ℕ) → grounds c f p (take m behind) ≡ grounds c f p behind
   unfolding grounds
-  grounds-take statesLine n p = rw (cut-off-take statesLine, word-take 0 (omega arith))
-  grounds-take callsByOffset n p = rw (cut-off-take callsByOffset, call-grounds-take)
-  grounds-take callsByRide n p = rw (cut-off-take callsByRide, call-grounds-take, line-take, ride-take)
-  grounds-take ends n p = rw (leb-take m 1 behind (omega arith))
-  grounds-take unknown n p = refl
+  grounds-take statesLine f p = rw (cut-off-take statesLine, word-take 0 (omega arith))
+  grounds-take callsByOffset f p = rw (cut-off-take callsByOffset, call-grounds-take)
+  grounds-take callsByRide f p = rw (cut-off-take callsByRide, call-grounds-take, line-take, ride-take)
+  grounds-take ends f p = rw (leb-take m 1 behind (omega arith))
+  grounds-take unknown f p = refl
 
-readFrom-take : (n : Net) (p k m : ℕ) (bs : List ℕ) → Within n (p + k) → 1333 ≤ p + m → readFrom n p k (take m bs) ≡ readFrom n p k bs
+readFrom-take : (f : SoFar) (p k m : ℕ) (bs : List ℕ) → Within f (p + k) → 1333 ≤ p + m → readFrom f p k (take m bs) ≡ readFrom f p k bs
 unfolding readFrom
-readFrom-take n p k zero bs r h = absurd (omega arith)
-readFrom-take n p k (suc m) [] r h = refl
-readFrom-take n p (suc k) (suc m) (b ∷ bs) r h = readFrom-take n (p + 1) k m bs (subst (Within n) (omega arith) r) (omega arith)
-readFrom-take n p zero (suc m) (b ∷ bs) r h =
+readFrom-take f p k zero bs r h = absurd (omega arith)
+readFrom-take f p k (suc m) [] r h = refl
+readFrom-take f p (suc k) (suc m) (b ∷ bs) r h = readFrom-take f (p + 1) k m bs (subst (Within f) (omega arith) r) (omega arith)
+readFrom-take f p zero (suc m) (b ∷ bs) r h =
     let c : Command = command b in
-    let onward : List ℕ → Reading = readFrom (extend c n bs) (p + 1) (operandBytes c) in
-    rw (grounds-take m (omega arith) bs c n p, extend-take m (omega arith) bs c n)
-    (proceed-cases (λ f. f (onward (take m bs)) ≡ f (onward bs)) (first (grounds c n p bs)) c n
+    let onward : List ℕ → Reading = readFrom (extend c f bs) (p + 1) (operandBytes c) in
+    rw (grounds-take m (omega arith) bs c f p, extend-take m (omega arith) bs c f)
+    (proceed-cases (λ step. step (onward (take m bs)) ≡ step (onward bs)) (first (grounds c f p bs)) c f
     (λ number place e. refl)
     (λ i e. refl)
-    (λ i e. readFrom-take _ _ _ m bs (within-next c n p bs e i (subst (Within n) (omega arith) r)) (omega arith)))
+    (λ i e. readFrom-take _ _ _ m bs (within-next c f p bs e i (subst (Within f) (omega arith) r)) (omega arith)))
 
 pub first-4096 : (file : List ℕ) → readFile (take 4096 file) ≡ readFile file
 unfolding readFile
-first-4096 file = readFrom-take emptyNet 0 0 4096 file within-empty (omega arith)
+first-4096 file = readFrom-take nothingRead 0 0 4096 file within-nothing (omega arith)

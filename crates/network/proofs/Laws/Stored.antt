@@ -11,7 +11,7 @@ use Rattle.network.specs.declared.Call.{Call}
 use Rattle.network.specs.declared.Check.the-variants.{Passes}
 use Rattle.network.specs.declared.Network.{Network}
 use Rattle.network.specs.declared.Told.the-variants as told
-use Rattle.network.specs.Network.{Net, netWith, Command, statesLine, callsByOffset, callsByRide, ends, extend}
+use Rattle.network.specs.Network.{netWith, SoFar, withNetwork, Command, statesLine, callsByOffset, callsByRide, ends, extend}
 use Rattle.network.specs.Network.{maxLines, maxCycle, maxStop, maxCalls, maxCallsAtStop, cycle, howOftenAt, word, callOf, withLine, withCall}
 use Rattle.network.specs.Valid.{Valid, noCall}
 use Rattle.network.specs.Grounds.{first, grounds}
@@ -105,26 +105,26 @@ has-size n s = record { lines = sym (held-lines n s); calls = sym (held-calls n 
 
 -- ---- what a command tells
 
-pub record LineTold (c : Command) (n : Net) (p : ℕ) (behind : List ℕ) (period common : ℕ) : Type 0 where
-  pub passes : first (grounds c n p behind) ≡ Passes
+pub record LineTold (c : Command) (f : SoFar) (p : ℕ) (behind : List ℕ) (period common : ℕ) : Type 0 where
+  pub passes : first (grounds c f p behind) ≡ Passes
   pub onward : c ≡ ends → ⊥
-  pub extended : withLine n period ≡ extend c n behind
-  pub room : length (n .periods) < maxLines
-  pub cycle-is : common ≡ cycle (withLine n period)
+  pub extended : withNetwork f (withLine (f .network) period) ≡ extend c f behind
+  pub room : length (f .network .periods) < maxLines
+  pub cycle-is : common ≡ cycle (withLine (f .network) period)
   pub cycle-pos : 0 < common
   pub cycle-le : common ≤ maxCycle
 
-pub tells-line : (c : Command) (n : Net) (p : ℕ) (behind : List ℕ) (period common : ℕ) → 0 < cycle n → Tells c n p behind (told.Line period common)
-    → LineTold c n p behind period common
+pub tells-line : (c : Command) (f : SoFar) (p : ℕ) (behind : List ℕ) (period common : ℕ) → 0 < cycle (f .network) → Tells c f p behind (told.Line period common)
+    → LineTold c f p behind period common
 unfolding Tells extend
-tells-line c n p behind period common pos (passes, is, stated, made) =
-    let fits = line-passes n p behind (ap (λ (d : Command). first (grounds d n p behind)) (sym is) ∙ passes) in
+tells-line c f p behind period common pos (passes, is, stated, made) =
+    let fits = line-passes f p behind (ap (λ (d : Command). first (grounds d f p behind)) (sym is) ∙ passes) in
     record {
       passes = passes;
       onward = λ e. apart (sym is ∙ e);
-      extended = ap (withLine n) stated ∙ ap (λ (d : Command). extend d n behind) (sym is);
+      extended = ap (λ (m : ℕ). withNetwork f (withLine (f .network) m)) stated ∙ ap (λ (d : Command). extend d f behind) (sym is);
       room = fits .room;
-      cycle-is = made ∙ sym (cycle-withLine n (word behind 0)) ∙ ap (λ (m : ℕ). cycle (withLine n m)) (sym stated);
+      cycle-is = made ∙ sym (cycle-withLine (f .network) (word behind 0)) ∙ ap (λ (m : ℕ). cycle (withLine (f .network) m)) (sym stated);
       cycle-pos = rw made (lcm-pos _ _ pos (fits .period-pos));
       cycle-le = rw made (fits .cycle-max);
     }
@@ -132,34 +132,34 @@ tells-line c n p behind period common pos (passes, is, stated, made) =
     apart : statesLine ≡ ends → ⊥
     apart e = zero-ne-one (cc)
 
-pub record CallTold (c : Command) (n : Net) (p : ℕ) (behind : List ℕ) (call : Call) : Type 0 where
-  pub passes : first (grounds c n p behind) ≡ Passes
+pub record CallTold (c : Command) (f : SoFar) (p : ℕ) (behind : List ℕ) (call : Call) : Type 0 where
+  pub passes : first (grounds c f p behind) ≡ Passes
   pub onward : c ≡ ends → ⊥
-  pub extended : withCall n call ≡ extend c n behind
-  pub line : call .line < length (n .periods)
+  pub extended : withNetwork f (withCall (f .network) call) ≡ extend c f behind
+  pub line : call .line < length (f .network .periods)
   pub stop : call .stop ≤ maxStop
-  pub often : howOftenAt (call .line) (call .stop) (n .calls) < maxCallsAtStop
-  pub room : length (n .calls) < maxCalls
+  pub often : howOftenAt (call .line) (call .stop) (f .network .calls) < maxCallsAtStop
+  pub room : length (f .network .calls) < maxCalls
 
-call-told : (c d : Command) (n : Net) (p : ℕ) (behind : List ℕ) (call : Call) (offset : ℕ) → first (grounds c n p behind) ≡ Passes → (d ≡ ends → ⊥) → c ≡ d → call ≡ callOf behind offset
-    → extend d n behind ≡ withCall n (callOf behind offset) → CallFits d n behind → CallTold c n p behind call
+call-told : (c d : Command) (f : SoFar) (p : ℕ) (behind : List ℕ) (call : Call) (offset : ℕ) → first (grounds c f p behind) ≡ Passes → (d ≡ ends → ⊥) → c ≡ d → call ≡ callOf behind offset
+    → extend d f behind ≡ withNetwork f (withCall (f .network) (callOf behind offset)) → CallFits d (f .network) behind → CallTold c f p behind call
 unfolding callOf
-call-told c d n p behind call offset passes apart is made e fits =
+call-told c d f p behind call offset passes apart is made e fits =
     record {
       passes = passes;
-      onward = λ f. apart (sym is ∙ f);
-      extended = ap (withCall n) made ∙ sym e ∙ ap (λ (k : Command). extend k n behind) (sym is);
-      line = subst (λ (k : Call). k .line < length (n .periods)) (sym made) (fits .line);
+      onward = λ g. apart (sym is ∙ g);
+      extended = ap (λ (k : Call). withNetwork f (withCall (f .network) k)) made ∙ sym e ∙ ap (λ (k : Command). extend k f behind) (sym is);
+      line = subst (λ (k : Call). k .line < length (f .network .periods)) (sym made) (fits .line);
       stop = subst (λ (k : Call). k .stop ≤ maxStop) (sym made) (fits .stop);
-      often = subst (λ (k : Call). howOftenAt (k .line) (k .stop) (n .calls) < maxCallsAtStop) (sym made) (fits .often);
+      often = subst (λ (k : Call). howOftenAt (k .line) (k .stop) (f .network .calls) < maxCallsAtStop) (sym made) (fits .often);
       room = fits .room;
     }
 
-pub tells-call : (c : Command) (n : Net) (p : ℕ) (behind : List ℕ) (call : Call) → Tells c n p behind (told.Calls call) → CallTold c n p behind call
+pub tells-call : (c : Command) (f : SoFar) (p : ℕ) (behind : List ℕ) (call : Call) → Tells c f p behind (told.Calls call) → CallTold c f p behind call
 unfolding Tells extend grounds
-tells-call c n p behind call (passes, inl (is, made)) =
-    call-told c callsByOffset n p behind call _ passes (λ e. zero-ne-one (cc)) is made refl
-    (offset-passes n p behind (ap (λ (d : Command). first (grounds d n p behind)) (sym is) ∙ passes))
-tells-call c n p behind call (passes, inr (is, made)) =
-    call-told c callsByRide n p behind call _ passes (λ e. zero-ne-one (cc)) is made refl
-    (ride-passes n p behind (ap (λ (d : Command). first (grounds d n p behind)) (sym is) ∙ passes) .0)
+tells-call c f p behind call (passes, inl (is, made)) =
+    call-told c callsByOffset f p behind call _ passes (λ e. zero-ne-one (cc)) is made refl
+    (offset-passes f p behind (ap (λ (d : Command). first (grounds d f p behind)) (sym is) ∙ passes))
+tells-call c f p behind call (passes, inr (is, made)) =
+    call-told c callsByRide f p behind call _ passes (λ e. zero-ne-one (cc)) is made refl
+    (ride-passes f p behind (ap (λ (d : Command). first (grounds d f p behind)) (sym is) ∙ passes) .0)

@@ -12,7 +12,7 @@ use borrow.Author.Tests.{eq-eqb, lt-leb}
 use Rattle.network.specs.declared.Call.{Call}
 use Rattle.network.specs.declared.Check.the-variants.{Passes}
 use Rattle.network.specs.Divisor.{Divides, cycleFrom, commonCycle}
-use Rattle.network.specs.Network.{Net, emptyNet, Command, statesLine, callsByOffset, callsByRide, ends, unknown}
+use Rattle.network.specs.Network.{Net, SoFar, emptyNet, Command, statesLine, callsByOffset, callsByRide, ends, unknown}
 use Rattle.network.specs.Network.{maxLines, maxPeriod, maxCycle, maxStop, maxOffset, maxCallsAtStop, cycle, callsAt, howOftenAt, command, operandBytes}
 use Rattle.network.specs.Network.{word, lineOperand, stopOperand, statedOffset, withLine, withCall, callOf, extend}
 use Rattle.network.specs.Grounds.{first, grounds}
@@ -92,35 +92,35 @@ stated-max : (bs : List ℕ) → IsBytes bs → statedOffset bs ≤ maxOffset
 unfolding IsBytes statedOffset word
 stated-max bs h = omega (arith, h 2, h 3)
 
-sound-next : (c : Command) (n : Net) (p : ℕ) (behind : List ℕ) → first (grounds c n p behind) ≡ Passes → (c ≡ ends → ⊥)
-    → IsBytes behind → Sound n → Sound (extend c n behind)
+sound-next : (c : Command) (f : SoFar) (p : ℕ) (behind : List ℕ) → first (grounds c f p behind) ≡ Passes → (c ≡ ends → ⊥)
+    → IsBytes behind → Sound (f .network) → Sound (extend c f behind .network)
 unfolding extend grounds first
-sound-next statesLine n p behind e h b s = sound-line n behind (line-passes n p behind e) s
-sound-next callsByOffset n p behind e h b s =
-    sound-call callsByOffset n behind _ (offset-passes n p behind e) (stated-max behind b) s
-sound-next callsByRide n p behind e h b s = let f = ride-passes n p behind e in sound-call callsByRide n behind _ (f .0) (f .1) s
-sound-next ends n p behind e h b s = absurd (h refl)
-sound-next unknown n p behind e h b s = absurd (zero-ne-one (cc))
+sound-next statesLine f p behind e h b s = sound-line (f .network) behind (line-passes f p behind e) s
+sound-next callsByOffset f p behind e h b s =
+    sound-call callsByOffset (f .network) behind _ (offset-passes f p behind e) (stated-max behind b) s
+sound-next callsByRide f p behind e h b s = let fits = ride-passes f p behind e in sound-call callsByRide (f .network) behind _ (fits .0) (fits .1) s
+sound-next ends f p behind e h b s = absurd (h refl)
+sound-next unknown f p behind e h b s = absurd (zero-ne-one (cc))
 
 module _ {file : List ℕ} (bytes : IsBytes file) where
-  reached-bytes : {n : Net} {p : ℕ} {rest : List ℕ} → Reached file n p rest → IsBytes rest
+  reached-bytes : {f : SoFar} {p : ℕ} {rest : List ℕ} → Reached file f p rest → IsBytes rest
   unfolding IsBytes
   reached-bytes start = bytes
   reached-bytes (next {b = b} {behind = behind} r e c) =
       λ i. rw (getD-drop (operandBytes (command b)) behind i 0) (reached-bytes r (suc (operandBytes (command b) + i)))
 
-  reached-sound : {n : Net} {p : ℕ} {rest : List ℕ} → Reached file n p rest → Sound n
+  reached-sound : {f : SoFar} {p : ℕ} {rest : List ℕ} → Reached file f p rest → Sound (f .network)
   unfolding IsBytes
   reached-sound start = sound-empty
-  reached-sound (next {n = n} {p = p} {b = b} {behind = behind} r e c) =
-      sound-next (command b) n p behind e c (λ i. reached-bytes r (suc i)) (reached-sound r)
+  reached-sound (next {f = f} {p = p} {b = b} {behind = behind} r e c) =
+      sound-next (command b) f p behind e c (λ i. reached-bytes r (suc i)) (reached-sound r)
 
   gives-valid : {n : Net} → Gives file (accepted n) → Valid n
-  gives-valid {n = n} (accepts {p = p} {behind = behind} r i e) =
-      let s : Sound n = reached-sound r in
-      let f = end-passes n p behind (rw i at e) in
+  gives-valid (accepts {f = f} {p = p} {behind = behind} r i e) =
+      let s : Sound (f .network) = reached-sound r in
+      let end = end-passes f p behind (rw i at e) in
       record {
-        some-line = f .some-line;
+        some-line = end .some-line;
         lines = reached-within r .lines;
         period-pos = s .period-pos;
         period = s .period;
@@ -130,7 +130,7 @@ module _ {file : List ℕ} (bytes : IsBytes file) where
         call-stop = s .call-stop;
         call-offset = s .call-offset;
         once = s .once;
-        every-line-calls = f .every-line-calls;
+        every-line-calls = end .every-line-calls;
       }
 
 pub accepted-valid : (file : List ℕ) (n : Net) → IsBytes file → readFile file ≡ accepted n → Valid n

@@ -42,8 +42,8 @@ unfolding callGrounds lineOperand stopOperand
 returns c =
     let s = c .before .before .before .before .before in
     let b = s .args .behind .now in (
-      λ n h o. sym
-          (first-hit _ _ _ _ (le-leb (length (n .periods)) (getD b 0 0) (omega (arith, h .lines)))),
+      λ f h o. sym
+          (first-hit _ _ _ _ (le-leb (length (f .network .periods)) (getD b 0 0) (omega (arith, h .lines)))),
       never _ _,
     )
 
@@ -52,8 +52,8 @@ unfolding callGrounds lineOperand stopOperand
 returns-2 c =
     let s = c .before .before .before .before .before .before in
     let b = s .args .behind .now in (
-      λ n h o. sym
-          (first-miss _ _ _ _ (lt-leb (length (n .periods)) (getD b 0 0) (omega (arith, h .lines)))
+      λ f h o. sym
+          (first-miss _ _ _ _ (lt-leb (length (f .network .periods)) (getD b 0 0) (omega (arith, h .lines)))
           ∙ first-hit _ _ _ _ (lt-ltb maxStop (getD b 1 0) (omega arith))),
       never _ _,
     )
@@ -72,10 +72,10 @@ unfolding callGrounds lineOperand stopOperand
 returns-3 c =
     let s = c .before .before .before .before .before .before .before .before in
     let b = s .args .behind .now in (
-      λ n h o. sym
-          (first-miss _ _ _ _ (lt-leb (length (n .periods)) (getD b 0 0) (omega (arith, h .lines)))
+      λ f h o. sym
+          (first-miss _ _ _ _ (lt-leb (length (f .network .periods)) (getD b 0 0) (omega (arith, h .lines)))
           ∙ first-miss _ _ _ _ (le-ltb maxStop (getD b 1 0) (omega arith))
-          ∙ first-hit _ _ _ _ (counted (s .args .often .now) (n .calls) o (getD b 0 0) (getD b 1 0) (c .before .often-at .result) (omega (arith, s .pre .0)) (omega arith) (c .before .often-at .ensures) ∙ le-leb maxCallsAtStop (c .before .often-at .result) (omega arith))),
+          ∙ first-hit _ _ _ _ (counted (s .args .often .now) (f .network .calls) o (getD b 0 0) (getD b 1 0) (c .before .often-at .result) (omega (arith, s .pre .0)) (omega arith) (c .before .often-at .ensures) ∙ le-leb maxCallsAtStop (c .before .often-at .result) (omega arith))),
       never _ _,
     )
 
@@ -84,11 +84,11 @@ unfolding callGrounds lineOperand stopOperand
 returns-4 c =
     let s = c .before .before .before .before .before .before .before .before .before .before in
     let b = s .args .behind .now in (
-      λ n h o. sym
-          (first-miss _ _ _ _ (lt-leb (length (n .periods)) (getD b 0 0) (omega (arith, h .lines)))
+      λ f h o. sym
+          (first-miss _ _ _ _ (lt-leb (length (f .network .periods)) (getD b 0 0) (omega (arith, h .lines)))
           ∙ first-miss _ _ _ _ (le-ltb maxStop (getD b 1 0) (omega arith))
-          ∙ first-miss _ _ _ _ (counted (s .args .often .now) (n .calls) o (getD b 0 0) (getD b 1 0) (c .before .before .before .often-at .result) (omega (arith, s .pre .0)) (omega arith) (c .before .before .before .often-at .ensures) ∙ lt-leb maxCallsAtStop (c .before .before .before .often-at .result) (omega (arith, c .before .before .if3 .left)))
-          ∙ first-hit _ _ _ _ (le-leb maxCalls (length (n .calls)) (omega (arith, h .calls)))),
+          ∙ first-miss _ _ _ _ (counted (s .args .often .now) (f .network .calls) o (getD b 0 0) (getD b 1 0) (c .before .before .before .often-at .result) (omega (arith, s .pre .0)) (omega arith) (c .before .before .before .often-at .ensures) ∙ lt-leb maxCallsAtStop (c .before .before .before .often-at .result) (omega (arith, c .before .before .if3 .left)))
+          ∙ first-hit _ _ _ _ (le-leb maxCalls (length (f .network .calls)) (omega (arith, h .calls)))),
       never _ _,
     )
 
@@ -97,11 +97,11 @@ unfolding callGrounds lineOperand stopOperand
 returns-5 c =
     let s = c .before .before .before .before .before .before .before .before .before .before in
     let b = s .args .behind .now in (
-      λ n h o. sym
-          (first-miss _ _ _ _ (lt-leb (length (n .periods)) (getD b 0 0) (omega (arith, h .lines)))
+      λ f h o. sym
+          (first-miss _ _ _ _ (lt-leb (length (f .network .periods)) (getD b 0 0) (omega (arith, h .lines)))
           ∙ first-miss _ _ _ _ (le-ltb maxStop (getD b 1 0) (omega arith))
-          ∙ first-miss _ _ _ _ (counted (s .args .often .now) (n .calls) o (getD b 0 0) (getD b 1 0) (c .before .before .before .often-at .result) (omega (arith, s .pre .0)) (omega arith) (c .before .before .before .often-at .ensures) ∙ lt-leb maxCallsAtStop (c .before .before .before .often-at .result) (omega (arith, c .before .before .if3 .left)))
-          ∙ first-miss _ _ _ _ (lt-leb maxCalls (length (n .calls)) (omega (arith, h .calls)))
+          ∙ first-miss _ _ _ _ (counted (s .args .often .now) (f .network .calls) o (getD b 0 0) (getD b 1 0) (c .before .before .before .often-at .result) (omega (arith, s .pre .0)) (omega arith) (c .before .before .before .often-at .ensures) ∙ lt-leb maxCallsAtStop (c .before .before .before .often-at .result) (omega (arith, c .before .before .if3 .left)))
+          ∙ first-miss _ _ _ _ (lt-leb maxCalls (length (f .network .calls)) (omega (arith, h .calls)))
           ∙ first-none),
       λ e. omega arith,
     )

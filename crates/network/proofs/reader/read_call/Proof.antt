@@ -6,7 +6,7 @@ use mathlib.Core.Logic.{inl}
 use native.Mathlib.Omega.{arith}
 use borrow.Author.Needs.{needs}
 use lib.ListN.{length}
-use Rattle.network.specs.Network.{Net, callsByOffset, callOf, lineOperand, stopOperand, statedOffset}
+use Rattle.network.specs.Network.{SoFar, callsByOffset, callOf, lineOperand, stopOperand, statedOffset}
 use Rattle.network.specs.Grounds.{first, grounds}
 use Rattle.network.specs.Stored.{HasSize, Often, Tells}
 use Rattle.network.proofs.Laws.Grounds.{first-hit, first-miss, not-cut-off-call}
@@ -22,7 +22,7 @@ call-cut-off-requires c κs = search needs
 
 returns : tie.Need-returns
 unfolding Tells grounds
-returns c = λ n h o. first-hit _ _ _ _ (sym (c .before .call-cut-off .ensures) ∙ c .if1 .taken)
+returns c = λ f h o. first-hit _ _ _ _ (sym (c .before .call-cut-off .ensures) ∙ c .if1 .taken)
 
 check-call-requires : tie.Need-check-call-requires
 check-call-requires c κs = (c .before .before .before .pre, four c)
@@ -43,23 +43,23 @@ word-requires : tie.Need-word-requires
 word-requires c κs = omega (arith, four (c .before .before .before .before .before))
 
 -- The grounds, where 3 doesn't apply, are those that `check_call` has tried
-tried : (c : tie.After-check-call) (n : Net) → HasSize n (c .before .before .before .before .args .size)
-    → Often (c .before .before .before .before .args .often .now) (n .calls)
-    → first (grounds callsByOffset n (c .before .before .before .before .args .at) (c .before .before .before .before .args .behind .now)) ≡ c .check-call .result
+tried : (c : tie.After-check-call) (f : SoFar) → HasSize (f .network) (c .before .before .before .before .args .size)
+    → Often (c .before .before .before .before .args .often .now) (f .network .calls)
+    → first (grounds callsByOffset f (c .before .before .before .before .args .at) (c .before .before .before .before .args .behind .now)) ≡ c .check-call .result
 unfolding grounds
-tried c n h o =
-    first-miss _ _ _ _ (sym (c .before .before .call-cut-off .ensures) ∙ c .before .if1 .left) ∙ sym (c .check-call .ensures .0 n h o)
+tried c f h o =
+    first-miss _ _ _ _ (sym (c .before .before .call-cut-off .ensures) ∙ c .before .if1 .left) ∙ sym (c .check-call .ensures .0 f h o)
 
 returns-2 : tie.Need-returns-2
 unfolding Tells
-returns-2 c = λ n h o. tried (c .before .before .before) n h o ∙ c .before .check .given .1
+returns-2 c = λ f h o. tried (c .before .before .before) f h o ∙ c .before .check .given .1
 
 returns-3 : tie.Need-returns-3
 unfolding Tells callOf lineOperand stopOperand statedOffset
 returns-3 c =
     let t = c .before .before .before .before .before in
-    λ n h o. (
-      tried t n h o ∙ c .before .before .before .enum-told .given .1,
+    λ f h o. (
+      tried t f h o ∙ c .before .before .before .enum-told .given .1,
       inl (refl, ap (callOf (t .before .before .before .before .args .behind .now)) (c .word .ensures)),
     )
 

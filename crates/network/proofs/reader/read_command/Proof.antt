@@ -25,32 +25,32 @@ returns : tie.Need-returns
 unfolding command
 returns c =
     let e : command (c .before .before .before .args .code) ≡ statesLine = ap command (c .before .match .keys1) in
-    λ n h o l. rw e (c .read-line .ensures n h)
+    λ f h o l. rw e (c .read-line .ensures f h)
 
 returns-2 : tie.Need-returns-2
 unfolding command
 returns-2 c =
     let e : command (c .before .before .before .args .code) ≡ callsByOffset = ap command (c .before .match .keys2) in
-    λ n h o l. rw e (c .read-call .ensures n h o)
+    λ f h o l. rw e (c .read-call .ensures f h o)
 
 returns-3 : tie.Need-returns-3
 unfolding command
 returns-3 c =
     let e : command (c .before .before .before .args .code) ≡ callsByRide = ap command (c .before .match .keys3) in
-    λ n h o l. rw e (c .read-ride .ensures n h o l)
+    λ f h o l. rw e (c .read-ride .ensures f h o l)
 
 returns-4 : tie.Need-returns-4
 unfolding command
 returns-4 c =
     let e : command (c .before .before .before .args .code) ≡ ends = ap command (c .before .match .keys4) in
-    λ n h o l. rw e (c .read-end .ensures n (h .lines) l)
+    λ f h o l. rw e (c .read-end .ensures f (h .lines) l)
 
 returns-5 : tie.Need-returns-5
 unfolding Tells grounds
 returns-5 c =
     let s = c .before .before in
     let r = c .match .rest in
-    λ n h o l. rw (command-unknown (s .args .code) (r .0 .0 .0 .1) (r .0 .0 .1) (r .0 .1) (r .1)) (first-hit _ _ _ _ refl)
+    λ f h o l. rw (command-unknown (s .args .code) (r .0 .0 .0 .1) (r .0 .0 .1) (r .0 .1) (r .1)) (first-hit _ _ _ _ refl)
 
 pub read-command-spec : {M : Type 1} → statement M
 read-command-spec =

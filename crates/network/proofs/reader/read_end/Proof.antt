@@ -33,7 +33,7 @@ unfolding Tells grounds
 returns c =
     let s = c .before .before in
     let b = s .args .behind .now in
-    λ n is l. first-hit _ _ _ _ (or-left _ _ (eq-eqb (length (n .periods)) 0 (omega arith)))
+    λ f is l. first-hit _ _ _ _ (or-left _ _ (eq-eqb (length (f .network .periods)) 0 (omega arith)))
 
 every-line-calls-requires : tie.Need-every-line-calls-requires
 every-line-calls-requires c κs = search needs
@@ -46,7 +46,7 @@ unfolding Tells grounds
 returns-2 c =
     let s = c .before .before .before .before .before in
     let b = s .args .behind .now in
-    λ n is l. first-miss _ _ _ _ (or-none _ _ (ne-eqb (length (n .periods)) 0 (omega (arith, c .before .before .before .if1 .left))) (silent n (s .args .lines) (s .args .latest .now) (s .pre .0) is l ∙ ap not (sym (c .before .before .every-line-calls .ensures) ∙ c .before .if2 .taken)))
+    λ f is l. first-miss _ _ _ _ (or-none _ _ (ne-eqb (length (f .network .periods)) 0 (omega (arith, c .before .before .before .if1 .left))) (silent (f .network) (s .args .lines) (s .args .latest .now) (s .pre .0) is l ∙ ap not (sym (c .before .before .every-line-calls .ensures) ∙ c .before .if2 .taken)))
     ∙ first-hit _ _ _ _ (le-leb 1 (length b) (omega arith))
 
 returns-3 : tie.Need-returns-3
@@ -54,8 +54,8 @@ unfolding Tells grounds
 returns-3 c =
     let s = c .before .before .before .before .before in
     let b = s .args .behind .now in
-    λ n is l. (
-      first-miss _ _ _ _ (or-none _ _ (ne-eqb (length (n .periods)) 0 (omega (arith, c .before .before .before .if1 .left))) (silent n (s .args .lines) (s .args .latest .now) (s .pre .0) is l ∙ ap not (sym (c .before .before .every-line-calls .ensures) ∙ c .before .if2 .taken)))
+    λ f is l. (
+      first-miss _ _ _ _ (or-none _ _ (ne-eqb (length (f .network .periods)) 0 (omega (arith, c .before .before .before .if1 .left))) (silent (f .network) (s .args .lines) (s .args .latest .now) (s .pre .0) is l ∙ ap not (sym (c .before .before .every-line-calls .ensures) ∙ c .before .if2 .taken)))
           ∙ first-miss _ _ _ _ (lt-leb 1 (length b) (omega arith))
           ∙ first-none,
       refl,
@@ -66,7 +66,7 @@ unfolding Tells grounds
 returns-4 c =
     let s = c .before .before .before .before in
     let b = s .args .behind .now in
-    λ n is l. first-hit _ _ _ _ (or-right (eqb (length (n .periods)) 0) _ (silent n (s .args .lines) (s .args .latest .now) (s .pre .0) is l ∙ ap not (sym (c .before .every-line-calls .ensures) ∙ c .if2 .left)))
+    λ f is l. first-hit _ _ _ _ (or-right (eqb (length (f .network .periods)) 0) _ (silent (f .network) (s .args .lines) (s .args .latest .now) (s .pre .0) is l ∙ ap not (sym (c .before .every-line-calls .ensures) ∙ c .if2 .left)))
 
 pub read-end-spec : {M : Type 1} → statement M
 read-end-spec =

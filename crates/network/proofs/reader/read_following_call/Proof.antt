@@ -10,7 +10,7 @@ use borrow.Author.Needs.{needs}
 use borrow.Author.Tests.{lt-ltb, le-ltb}
 use lib.ListN.{length, getD}
 use Rattle.network.specs.declared.Check.the-variants.{Passes}
-use Rattle.network.specs.Network.{Net, maxLines, maxOffset, callsByRide, operandBytes, callsAnywhere, word, callOf, lineOperand, stopOperand, rideOffset}
+use Rattle.network.specs.Network.{SoFar, maxLines, maxOffset, callsByRide, operandBytes, callsAnywhere, word, callOf, lineOperand, stopOperand, rideOffset}
 use Rattle.network.specs.Grounds.{Ground, _at_when_, first, grounds, callGrounds, cutOff}
 use Rattle.network.specs.Stored.{Latest, Tells}
 use Rattle.network.proofs.Laws.Grounds.{first-append-miss, first-none, first-hit, first-miss}
@@ -19,24 +19,24 @@ use Rattle.network.proofs.reader.read_following_call.Statement.{stateme
 use Rattle.network.proofs.reader.read_following_call.Tie as tie
 
 -- What the row's place says of the line that the operands name
-module _ (n : Net) (p : ℕ) (behind latest : List ℕ) (l : Latest latest (n .calls)) (low : getD behind 0 0 < maxLines)
-    (enough : 4 ≤ length behind) (passes : first (callGrounds n p behind) ≡ Passes) (before : ℕ) (is : before ≡ getD latest (getD behind 0 0) 0) where
+module _ (f : SoFar) (p : ℕ) (behind latest : List ℕ) (l : Latest latest (f .network .calls)) (low : getD behind 0 0 < maxLines)
+    (enough : 4 ≤ length behind) (passes : first (callGrounds f p behind) ≡ Passes) (before : ℕ) (is : before ≡ getD latest (getD behind 0 0) 0) where
   -- Ground 3 and those that 46 shares with 43 are passed
-  passed : (hs : List Ground) → first ((3 at p when cutOff callsByRide behind) ∷ callGrounds n p behind ++ hs) ≡ first hs
+  passed : (hs : List Ground) → first ((3 at p when cutOff callsByRide behind) ∷ callGrounds f p behind ++ hs) ≡ first hs
   unfolding cutOff operandBytes
-  passed hs = first-miss _ _ _ _ (le-ltb (length behind) 4 enough) ∙ first-append-miss (callGrounds n p behind) hs passes
+  passed hs = first-miss _ _ _ _ (le-ltb (length behind) 4 enough) ∙ first-append-miss (callGrounds f p behind) hs passes
 
-  none : before ≡ 0 → callsAnywhere (lineOperand behind) (n .calls) ≡ false
+  none : before ≡ 0 → callsAnywhere (lineOperand behind) (f .network .calls) ≡ false
   unfolding lineOperand
-  none e = sym (latest-calls latest (n .calls) l (getD behind 0 0) low) ∙ le-ltb 0 (getD latest (getD behind 0 0) 0) (omega arith)
+  none e = sym (latest-calls latest (f .network .calls) l (getD behind 0 0) low) ∙ le-ltb 0 (getD latest (getD behind 0 0) 0) (omega arith)
 
-  some : 0 < before → callsAnywhere (lineOperand behind) (n .calls) ≡ true
+  some : 0 < before → callsAnywhere (lineOperand behind) (f .network .calls) ≡ true
   unfolding lineOperand
-  some h = sym (latest-calls latest (n .calls) l (getD behind 0 0) low) ∙ lt-ltb 0 (getD latest (getD behind 0 0) 0) (omega arith)
+  some h = sym (latest-calls latest (f .network .calls) l (getD behind 0 0) low) ∙ lt-ltb 0 (getD latest (getD behind 0 0) 0) (omega arith)
 
-  ride : 0 < before → rideOffset n behind ≡ before - 1 + word behind 2
+  ride : 0 < before → rideOffset (f .network) behind ≡ before - 1 + word behind 2
   unfolding rideOffset lineOperand
-  ride h = omega (arith, latest-offset latest (n .calls) l (getD behind 0 0) low (some h))
+  ride h = omega (arith, latest-offset latest (f .network .calls) l (getD behind 0 0) low (some h))
 
 shared-slice-read-line : tie.Need-shared-slice-read-line
 shared-slice-read-line c = search needs
@@ -49,8 +49,8 @@ unfolding Tells grounds
 returns c =
     let s = c .before .before .before .before in
     let b = s .args .behind .now in
-    λ n l q. passed n (s .args .at) b (s .args .latest .now) l (s .pre .1) (s .pre .0) q (c .before .latest-of .result) (c .before .latest-of .ensures) _
-    ∙ first-hit _ _ _ _ (ap not (none n (s .args .at) b (s .args .latest .now) l (s .pre .1) (s .pre .0) q (c .before .latest-of .result) (c .before .latest-of .ensures) (c .if1 .taken)))
+    λ f l q. passed f (s .args .at) b (s .args .latest .now) l (s .pre .1) (s .pre .0) q (c .before .latest-of .result) (c .before .latest-of .ensures) _
+    ∙ first-hit _ _ _ _ (ap not (none f (s .args .at) b (s .args .latest .now) l (s .pre .1) (s .pre .0) q (c .before .latest-of .result) (c .before .latest-of .ensures) (c .if1 .taken)))
 
 sub-offset : tie.Need-sub-offset
 sub-offset c = search needs
@@ -75,11 +75,11 @@ unfolding Tells grounds
 returns-2 c =
     let s = c .before .before .before .before .before .before in
     let b = s .args .behind .now in
-    λ n l q. let above : 0 < c .before .before .before .latest-of .result = omega (arith, c .before .before .if1 .left) in
-    let made : rideOffset n b ≡ c .before .before .before .latest-of .result - 1 + c .before .word .result = ride n (s .args .at) b (s .args .latest .now) l (s .pre .1) (s .pre .0) q (c .before .before .before .latest-of .result) (c .before .before .before .latest-of .ensures) above ∙ ap (λ (o : ℕ). c .before .before .before .latest-of .result - 1 + o) (sym (c .before .word .ensures)) in
-    passed n (s .args .at) b (s .args .latest .now) l (s .pre .1) (s .pre .0) q (c .before .before .before .latest-of .result) (c .before .before .before .latest-of .ensures) _
-    ∙ first-miss _ _ _ _ (ap not (some n (s .args .at) b (s .args .latest .now) l (s .pre .1) (s .pre .0) q (c .before .before .before .latest-of .result) (c .before .before .before .latest-of .ensures) above))
-    ∙ first-hit _ _ _ _ (lt-ltb maxOffset (rideOffset n b) (rw made (omega (arith, c .if2 .taken))))
+    λ f l q. let above : 0 < c .before .before .before .latest-of .result = omega (arith, c .before .before .if1 .left) in
+    let made : rideOffset (f .network) b ≡ c .before .before .before .latest-of .result - 1 + c .before .word .result = ride f (s .args .at) b (s .args .latest .now) l (s .pre .1) (s .pre .0) q (c .before .before .before .latest-of .result) (c .before .before .before .latest-of .ensures) above ∙ ap (λ (o : ℕ). c .before .before .before .latest-of .result - 1 + o) (sym (c .before .word .ensures)) in
+    passed f (s .args .at) b (s .args .latest .now) l (s .pre .1) (s .pre .0) q (c .before .before .before .latest-of .result) (c .before .before .before .latest-of .ensures) _
+    ∙ first-miss _ _ _ _ (ap not (some f (s .args .at) b (s .args .latest .now) l (s .pre .1) (s .pre .0) q (c .before .before .before .latest-of .result) (c .before .before .before .latest-of .ensures) above))
+    ∙ first-hit _ _ _ _ (lt-ltb maxOffset (rideOffset (f .network) b) (rw made (omega (arith, c .if2 .taken))))
 
 shared-slice-read-t9 : tie.Need-shared-slice-read-t9
 shared-slice-read-t9 c = search needs
@@ -92,11 +92,11 @@ unfolding Tells grounds callOf lineOperand stopOperand
 returns-3 c =
     let s = c .before .before .before .before .before .before .before in
     let b = s .args .behind .now in
-    λ n l q. let above : 0 < c .before .before .before .before .latest-of .result = omega (arith, c .before .before .before .if1 .left) in
-    let made : rideOffset n b ≡ c .before .before .before .before .latest-of .result - 1 + c .before .before .word .result = ride n (s .args .at) b (s .args .latest .now) l (s .pre .1) (s .pre .0) q (c .before .before .before .before .latest-of .result) (c .before .before .before .before .latest-of .ensures) above ∙ ap (λ (o : ℕ). c .before .before .before .before .latest-of .result - 1 + o) (sym (c .before .before .word .ensures)) in (
-      passed n (s .args .at) b (s .args .latest .now) l (s .pre .1) (s .pre .0) q (c .before .before .before .before .latest-of .result) (c .before .before .before .before .latest-of .ensures) _
-          ∙ first-miss _ _ _ _ (ap not (some n (s .args .at) b (s .args .latest .now) l (s .pre .1) (s .pre .0) q (c .before .before .before .before .latest-of .result) (c .before .before .before .before .latest-of .ensures) above))
-          ∙ first-miss _ _ _ _ (le-ltb maxOffset (rideOffset n b) (rw made (omega (arith, c .before .if2 .left))))
+    λ f l q. let above : 0 < c .before .before .before .before .latest-of .result = omega (arith, c .before .before .before .if1 .left) in
+    let made : rideOffset (f .network) b ≡ c .before .before .before .before .latest-of .result - 1 + c .before .before .word .result = ride f (s .args .at) b (s .args .latest .now) l (s .pre .1) (s .pre .0) q (c .before .before .before .before .latest-of .result) (c .before .before .before .before .latest-of .ensures) above ∙ ap (λ (o : ℕ). c .before .before .before .before .latest-of .result - 1 + o) (sym (c .before .before .word .ensures)) in (
+      passed f (s .args .at) b (s .args .latest .now) l (s .pre .1) (s .pre .0) q (c .before .before .before .before .latest-of .result) (c .before .before .before .before .latest-of .ensures) _
+          ∙ first-miss _ _ _ _ (ap not (some f (s .args .at) b (s .args .latest .now) l (s .pre .1) (s .pre .0) q (c .before .before .before .before .latest-of .result) (c .before .before .before .before .latest-of .ensures) above))
+          ∙ first-miss _ _ _ _ (le-ltb maxOffset (rideOffset (f .network) b) (rw made (omega (arith, c .before .if2 .left))))
           ∙ first-none,
       inr (refl, ap (callOf b) (sym made)),
     )

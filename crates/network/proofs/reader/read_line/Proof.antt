@@ -18,15 +18,15 @@ unfolding Tells grounds cutOff operandBytes
 returns c =
     let s = c .before .before in
     let b = s .args .behind .now in
-    λ n h. first-hit _ _ _ _ (lt-ltb (length b) 2 (omega arith))
+    λ f h. first-hit _ _ _ _ (lt-ltb (length b) 2 (omega arith))
 
 returns-2 : tie.Need-returns-2
 unfolding Tells grounds cutOff operandBytes
 returns-2 c =
     let s = c .before .before .before .before in
     let b = s .args .behind .now in
-    λ n h. first-miss _ _ _ _ (le-ltb (length b) 2 (omega arith))
-    ∙ first-hit _ _ _ _ (le-leb maxLines (length (n .periods)) (omega (arith, h .lines)))
+    λ f h. first-miss _ _ _ _ (le-ltb (length b) 2 (omega arith))
+    ∙ first-hit _ _ _ _ (le-leb maxLines (length (f .network .periods)) (omega (arith, h .lines)))
 
 word-requires : tie.Need-word-requires
 word-requires c κs = search needs
@@ -37,8 +37,8 @@ returns-3 c =
     let s = c .before .before .before .before .before .before in
     let b = s .args .behind .now in
     let w = c .before .word in
-    λ n h. first-miss _ _ _ _ (le-ltb (length b) 2 (omega arith))
-    ∙ first-miss _ _ _ _ (lt-leb maxLines (length (n .periods)) (omega (arith, h .lines)))
+    λ f h. first-miss _ _ _ _ (le-ltb (length b) 2 (omega arith))
+    ∙ first-miss _ _ _ _ (lt-leb maxLines (length (f .network .periods)) (omega (arith, h .lines)))
     ∙ first-hit _ _ _ _ (period-too-short (word b 0) (omega (arith, w .ensures)))
 
 returns-4 : tie.Need-returns-4
@@ -47,8 +47,8 @@ returns-4 c =
     let s = c .before .before .before .before .before .before .before in
     let b = s .args .behind .now in
     let w = c .before .before .word in
-    λ n h. first-miss _ _ _ _ (le-ltb (length b) 2 (omega arith))
-    ∙ first-miss _ _ _ _ (lt-leb maxLines (length (n .periods)) (omega (arith, h .lines)))
+    λ f h. first-miss _ _ _ _ (le-ltb (length b) 2 (omega arith))
+    ∙ first-miss _ _ _ _ (lt-leb maxLines (length (f .network .periods)) (omega (arith, h .lines)))
     ∙ first-hit _ _ _ _ (period-too-long (word b 0) (omega (arith, w .ensures)))
 
 cast-lcm : tie.Need-cast-lcm
@@ -64,11 +64,11 @@ returns-5 c =
     let b = s .args .behind .now in
     let w = c .before .before .before .before .word in
     let l = c .before .lcm in
-    λ n h. let made : l .result ≡ lcm (cycle n) (word b 0) = cc (l .ensures, w .ensures, h .cycle-is) in
+    λ f h. let made : l .result ≡ lcm (cycle (f .network)) (word b 0) = cc (l .ensures, w .ensures, h .cycle-is) in
     first-miss _ _ _ _ (le-ltb (length b) 2 (omega arith))
-    ∙ first-miss _ _ _ _ (lt-leb maxLines (length (n .periods)) (omega (arith, h .lines)))
+    ∙ first-miss _ _ _ _ (lt-leb maxLines (length (f .network .periods)) (omega (arith, h .lines)))
     ∙ first-miss _ _ _ _ (period-in-range (word b 0) (omega (arith, w .ensures)) (omega (arith, w .ensures)))
-    ∙ first-hit _ _ _ _ (lt-ltb maxCycle (lcm (cycle n) (word b 0)) (rw (← made) (omega arith)))
+    ∙ first-hit _ _ _ _ (lt-ltb maxCycle (lcm (cycle (f .network)) (word b 0)) (rw (← made) (omega arith)))
 
 returns-6 : tie.Need-returns-6
 unfolding Tells grounds cutOff operandBytes
@@ -77,11 +77,11 @@ returns-6 c =
     let b = s .args .behind .now in
     let w = c .before .before .before .before .word in
     let l = c .before .lcm in
-    λ n h. let made : l .result ≡ lcm (cycle n) (word b 0) = cc (l .ensures, w .ensures, h .cycle-is) in (
+    λ f h. let made : l .result ≡ lcm (cycle (f .network)) (word b 0) = cc (l .ensures, w .ensures, h .cycle-is) in (
       first-miss _ _ _ _ (le-ltb (length b) 2 (omega arith))
-          ∙ first-miss _ _ _ _ (lt-leb maxLines (length (n .periods)) (omega (arith, h .lines)))
+          ∙ first-miss _ _ _ _ (lt-leb maxLines (length (f .network .periods)) (omega (arith, h .lines)))
           ∙ first-miss _ _ _ _ (period-in-range (word b 0) (omega (arith, w .ensures)) (omega (arith, w .ensures)))
-          ∙ first-miss _ _ _ _ (le-ltb maxCycle (lcm (cycle n) (word b 0)) (rw (← made) (omega arith)))
+          ∙ first-miss _ _ _ _ (le-ltb maxCycle (lcm (cycle (f .network)) (word b 0)) (rw (← made) (omega arith)))
           ∙ first-none,
       refl,
       w .ensures,

@@ -1,5 +1,5 @@
 -- `network::reader::read_network` meets its contract. The loop's invariant: the network, how often each line calls at each stop and the latest
--- offsets agree, and reading the part that is left, with the network before it, gives what reading the whole file gives. Assumes nothing.
+-- offsets agree, and reading the part that is left, with what has been read before it, gives what reading the whole file gives. Assumes nothing.
 use Prim.Native.Nat.{ℕ, _+_, _*_, _-_, _<_, _≤_}
 use mathlib.Core.Path.{_≡_, refl, sym, ap, ap₂, subst, _∙_}
 use mathlib.Core.List.{List, [], _∷_}
@@ -14,7 +14,7 @@ use Rattle.network.specs.declared.Check.the-variants.{Passes}
 use Rattle.network.specs.declared.Network.{Network}
 use Rattle.network.specs.declared.Told.{Told}
 use Rattle.network.specs.declared.Told.the-variants as told
-use Rattle.network.specs.Network.{Net, Command, command, ends, operandBytes, extend, maxLines, maxStop, maxCalls, maxCallsAtStop}
+use Rattle.network.specs.Network.{Net, SoFar, soFar, Command, command, ends, operandBytes, extend, maxLines, maxStop, maxCalls, maxCallsAtStop}
 use Rattle.network.specs.Grounds.{first, grounds}
 use Rattle.network.specs.Reading.{readFrom, readFile, refused}
 use Rattle.network.specs.Stored.{netOf, Often, Tells, readingOf}
@@ -32,7 +32,7 @@ abbrev Inv-loop : tie.InvT-loop
 Inv-loop file network₀ often₀ latest₀ rest₀ network often latest rest =
     Kept network often latest
     × (length rest ≤ length file)
-    × (readFrom (netOf network) (length file - length rest) 0 rest ≡ readFile file)
+    × (readFrom (soFar (netOf network)) (length file - length rest) 0 rest ≡ readFile file)
 
 abbrev μ-loop : tie.MeasureT-loop
 μ-loop file network₀ often₀ latest₀ rest₀ network often latest rest = length rest
@@ -72,20 +72,20 @@ module _ (r : tie.After-read-command Inv-loop μ-loop) where
   length-behind : length rest ≡ length behind + 1
   length-behind = omega (arith, ap length rest-is)
 
-  read-here : readFrom (netOf network) place 0 (getD rest 0 0 ∷ behind) ≡ readFile file
-  read-here = ap (readFrom (netOf network) place 0) (sym rest-is) ∙ r .before .before .before .before .before .before .loop .inv .2
+  read-here : readFrom (soFar (netOf network)) place 0 (getD rest 0 0 ∷ behind) ≡ readFile file
+  read-here = ap (readFrom (soFar (netOf network)) place 0) (sym rest-is) ∙ r .before .before .before .before .before .before .loop .inv .2
 
   -- what the command tells, once it is known which it is
-  tells : (t : Told) → result ≡ t → Tells code (netOf network) place behind t
+  tells : (t : Told) → result ≡ t → Tells code (soFar (netOf network)) place behind t
   tells t e =
-      subst (Tells code (netOf network) place behind) e
-      (r .read-command .ensures (netOf network) (has-size network (kept .sound)) (kept .often-is) (kept .latest-is))
+      subst (Tells code (soFar (netOf network)) place behind) e
+      (r .read-command .ensures (soFar (netOf network)) (has-size network (kept .sound)) (kept .often-is) (kept .latest-is))
 
-  line-told : {period common : ℕ} → result ≡ told.Line period common → LineTold code (netOf network) place behind period common
-  line-told e = tells-line code (netOf network) place behind _ _ (rw (← kept .sound .cycle-is) (kept .sound .cycle-pos)) (tells _ e)
+  line-told : {period common : ℕ} → result ≡ told.Line period common → LineTold code (soFar (netOf network)) place behind period common
+  line-told e = tells-line code (soFar (netOf network)) place behind _ _ (rw (← kept .sound .cycle-is) (kept .sound .cycle-pos)) (tells _ e)
 
-  call-told : {call : Call} → result ≡ told.Calls call → CallTold code (netOf network) place behind call
-  call-told e = tells-call code (netOf network) place behind _ (tells _ e)
+  call-told : {call : Call} → result ≡ told.Calls call → CallTold code (soFar (netOf network)) place behind call
+  call-told e = tells-call code (soFar (netOf network)) place behind _ (tells _ e)
 
   line-room : {period common : ℕ} → result ≡ told.Line period common → network .lines < maxLines
   line-room e = omega (arith, line-told e .room, held-lines network (kept .sound))
@@ -108,9 +108,9 @@ module _ (r : tie.After-read-command Inv-loop μ-loop) where
   -- a line or a call goes on with the part behind it
   record Next (n : Network) (often latest : List ℕ) : Type 0 where
     kept-on : Kept n often latest
-    passes : first (grounds code (netOf network) place behind) ≡ Passes
+    passes : first (grounds code (soFar (netOf network)) place behind) ≡ Passes
     onward : code ≡ ends → ⊥
-    extended : netOf n ≡ extend code (netOf network) behind
+    extended : soFar (netOf n) ≡ extend code (soFar (netOf network)) behind
 
   next-as : (n m : Network) (a b c d : List ℕ) → n ≡ m → a ≡ b → c ≡ d → Next m b d → Next n a c
   next-as n m a b c d e f g x =
@@ -130,7 +130,7 @@ next c =
       kept-on = kept-line (network r) _ _ k _ _ room (t .cycle-pos) (t .cycle-le) (t .cycle-is);
       passes = t .passes;
       onward = t .onward;
-      extended = line-added (network r) (k .sound) _ _ room ∙ t .extended;
+      extended = ap soFar (line-added (network r) (k .sound) _ _ room) ∙ t .extended;
     }))
     (λ w.
     let t = call-told r (w .1 .given .1) in
@@ -140,15 +140,15 @@ next c =
       kept-on = kept-call (network r) _ _ k _ room (line-low r (w .1 .given .1)) (t .stop);
       passes = t .passes;
       onward = t .onward;
-      extended = call-added (network r) (k .sound) _ room ∙ t .extended;
+      extended = ap soFar (call-added (network r) (k .sound) _ room) ∙ t .extended;
     }))
     (c .match .came)
 
 -- Where nothing is left, a command is due
-read-empty : (n : Net) (size : ℕ) (rest : List ℕ) → length rest ≤ 0 → refused 1 size ≡ readFrom n (size - length rest) 0 rest
+read-empty : (f : SoFar) (size : ℕ) (rest : List ℕ) → length rest ≤ 0 → refused 1 size ≡ readFrom f (size - length rest) 0 rest
 unfolding readFrom
-read-empty n size [] h = ap (refused 1) (sym (sub-zero size))
-read-empty n size (b ∷ rest) h = absurd (omega arith)
+read-empty f size [] h = ap (refused 1) (sym (sub-zero size))
+read-empty f size (b ∷ rest) h = absurd (omega arith)
 
 new-requires : tie.Need-new-requires Inv-loop μ-loop
 new-requires c κs = tt
@@ -166,7 +166,7 @@ loop-holds c =
         latest-is = rw empty (latest-none _ (λ line. getD-zeros 16 line));
       },
       omega arith,
-      ap₂ (λ (n : Net) (p : ℕ). readFrom n p 0 file) empty (sub-self (length file)),
+      ap₂ (λ (n : Net) (p : ℕ). readFrom (soFar n) p 0 file) empty (sub-self (length file)),
     )
 
 sub-at : tie.Need-sub-at Inv-loop μ-loop
@@ -201,7 +201,7 @@ returns c =
     let r = c .before .before .before .before in (
       rw (c .refused .ensures .1) (kept r .sound),
       ap₂ readingOf (c .refused .ensures .0) refl
-          ∙ sym (read-refused (getD (rest r) 0 0) (netOf (network r)) (place r) (behind r) _ _ (tells r _ (c .before .before .told .given .1)))
+          ∙ sym (read-refused (getD (rest r) 0 0) (soFar (netOf (network r))) (place r) (behind r) _ _ (tells r _ (c .before .before .told .given .1)))
           ∙ read-here r,
     )
 
@@ -218,7 +218,7 @@ returns-2 c =
     let t = tells r _ (c .before .enum-told .given .1) in (
       rw (c .passed .ensures .1) (kept r .sound),
       ap₂ readingOf (c .passed .ensures .0) (c .passed .ensures .1)
-          ∙ sym (read-ended (getD (rest r) 0 0) (netOf (network r)) (place r) (behind r) (t .0) (t .1))
+          ∙ sym (read-ended (getD (rest r) 0 0) (soFar (netOf (network r))) (place r) (behind r) (t .0) (t .1))
           ∙ read-here r,
     )
 
@@ -285,7 +285,7 @@ array-write-latest c = omega (arith, line-low (c .before .before .before .before
 part-behind-requires : tie.Need-part-behind-requires Inv-loop μ-loop
 part-behind-requires c κs =
     let r = c .before in
-    passes-operands (code r) (netOf (network r)) (place r) (behind r) (next c .passes)
+    passes-operands (code r) (soFar (netOf (network r))) (place r) (behind r) (next c .passes)
 
 loop-less : tie.Need-loop-less Inv-loop μ-loop
 loop-less c =
@@ -298,13 +298,13 @@ loop-again c =
     let k = operandBytes (code r) in
     let x = next (c .before) in
     let left : length (c .part-behind .result .now) ≡ length (behind r) - k = ap length (c .part-behind .ensures) ∙ length-drop k (behind r) in
-    let fits : k ≤ length (behind r) = passes-operands (code r) (netOf (network r)) (place r) (behind r) (x .passes) in
+    let fits : k ≤ length (behind r) = passes-operands (code r) (soFar (netOf (network r))) (place r) (behind r) (x .passes) in
     let within : length (rest r) ≤ length (file r) = r .before .before .before .before .before .before .loop .inv .1 in
     let onto : length (file r) - length (c .part-behind .result .now) ≡ place r + 1 + k = omega (arith, length-behind r) in (
       x .kept-on,
       omega (arith, length-behind r),
-      ap₂ (λ (p : ℕ) (l : List ℕ). readFrom (netOf (c .before .match .network)) p 0 l) onto (c .part-behind .ensures)
-          ∙ sym (read-onward (getD (rest r) 0 0) (netOf (network r)) (place r) (behind r) (netOf (c .before .match .network)) (x .passes) (x .onward) (x .extended))
+      ap₂ (λ (p : ℕ) (l : List ℕ). readFrom (soFar (netOf (c .before .match .network))) p 0 l) onto (c .part-behind .ensures)
+          ∙ sym (read-onward (getD (rest r) 0 0) (soFar (netOf (network r))) (place r) (behind r) (soFar (netOf (c .before .match .network))) (x .passes) (x .onward) (x .extended))
           ∙ read-here r,
     )
 
@@ -318,7 +318,7 @@ returns-3 c =
     let file = c .before .before .before .before .before .args .file .now in (
       rw (c .refused2 .ensures .1) (l .inv .0 .sound),
       ap₂ readingOf (c .refused2 .ensures .0) refl
-          ∙ read-empty (netOf (l .network)) (length file) (l .rest .now) (omega (arith, c .before .loop-test .left))
+          ∙ read-empty (soFar (netOf (l .network))) (length file) (l .rest .now) (omega (arith, c .before .loop-test .left))
           ∙ l .inv .2,
     )
 

@@ -16,7 +16,7 @@ call-cut-off-requires c κs = search needs
 
 returns : tie.Need-returns
 unfolding Tells grounds
-returns c = λ n h o l. first-hit _ _ _ _ (cut-off-alike _ ∙ sym (c .before .call-cut-off .ensures) ∙ c .if1 .taken)
+returns c = λ f h o l. first-hit _ _ _ _ (cut-off-alike _ ∙ sym (c .before .call-cut-off .ensures) ∙ c .if1 .taken)
 
 -- Where ground 3 doesn't apply the operands are there
 not-cut : (c : tie.Else1) → cutOff callsByOffset (c .before .before .before .args .behind .now) ≡ false
@@ -40,13 +40,13 @@ returns-2 : tie.Need-returns-2
 unfolding Tells grounds
 returns-2 c =
     let t = c .before .before .before in
-    λ n h o l. first-miss _ _ _ _ (cut-off-alike _ ∙ not-cut (t .before))
-    ∙ first-append-hit (callGrounds _ _ _) _ _ _ (sym (t .check-call .ensures .0 n h o) ∙ c .before .check .given .1)
+    λ f h o l. first-miss _ _ _ _ (cut-off-alike _ ∙ not-cut (t .before))
+    ∙ first-append-hit (callGrounds _ _ _) _ _ _ (sym (t .check-call .ensures .0 f h o) ∙ c .before .check .given .1)
 
 returns-3 : tie.Need-returns-3
 returns-3 c =
     let t = c .before .before .before in
-    λ n h o l. c .read-following-call .ensures n l (sym (t .check-call .ensures .0 n h o) ∙ c .before .enum-told .given .1)
+    λ f h o l. c .read-following-call .ensures f l (sym (t .check-call .ensures .0 f h o) ∙ c .before .enum-told .given .1)
 
 pub read-ride-spec : {M : Type 1} → statement M
 read-ride-spec =
