@@ -22,8 +22,10 @@ use Rattle.network.specs.Valid.{Valid}
 use Rattle.network.specs.Rating.{Counted, counted, IsRatingOver, IsRating, rating, ratingOver}
 use Rattle.network.specs.ByLines.{IsStopGapOfLines}
 use Rattle.network.specs.Rate.{rateAnswer, rateOutcome}
-use Rattle.network.specs.Classes.{Alike, unserved, classRow, weightRow, classCount, lowestStops}
+use Rattle.network.specs.ByLines.{AlikeOfLines}
+use Rattle.network.specs.Classes.{unserved, classRow, weightRow, classCount, lowestStops}
 use Rattle.network.specs.ClassCall.{classAnswer, weightedRating, weightedOutcome}
+use Rattle.network.proofs.Laws.AlikeByLines.{alike-by-lines}
 use Rattle.network.proofs.Laws.Valid.{accepted-valid, cycle-multiple, cycle-least, cycle-pos}
 use Rattle.network.proofs.Laws.Reading.{gives-what-is-read, readFile-gives}
 use Rattle.network.proofs.Laws.Refusals.{read-refuses, read-refuses-only, sheet-refuses, sheet-refuses-only, sheet-answers}
@@ -196,8 +198,8 @@ module _ (κs : Lfts 2) (a : ArgsD weighted.signature κs) (r : ResD weighted.si
 pub record Classified (n : Net) (answer : Outcome) (classes weights : List ℕ) : Type 0 where
   pub lengths : (length classes ≡ stopCount) × (length weights ≡ stopCount)
   -- the class row holds for each served stop the lowest stop alike to it ..
-  pub alike : (s : ℕ) → s ≤ maxStop → isServed s (n .calls) ≡ true → Alike n (getD classes s 0) s
-  pub lowest : (s t : ℕ) → s ≤ maxStop → Alike n t s → getD classes s 0 ≤ t
+  pub alike : (s : ℕ) → s ≤ maxStop → isServed s (n .calls) ≡ true → AlikeOfLines n (getD classes s 0) s
+  pub lowest : (s t : ℕ) → s ≤ maxStop → AlikeOfLines n t s → getD classes s 0 ≤ t
   -- .. and 255 if unserved
   pub unserved-is-255 : (s : ℕ) → s ≤ maxStop → isServed s (n .calls) ≡ false → getD classes s 0 ≡ unserved
   -- the weight row the size of the class at its lowest stop, 0 elsewhere: how many stops have it for their lowest
@@ -215,8 +217,8 @@ pub classified : {n : Net} → Valid n → Classified n (values (classCount n �
 classified {n} valid =
     record {
       lengths = (length-classRow n, length-weightRow n);
-      alike = λ s low. entry-alike valid s low;
-      lowest = λ s t low. entry-least valid s low;
+      alike = λ s low e. alike-by-lines valid (getD (classRow n) s 0) s .0 (entry-alike valid s low e);
+      lowest = λ s t low a. entry-least valid s low (alike-by-lines valid t s .1 a);
       unserved-is-255 = λ s low. entry-unserved n s low;
       weight = λ s low. weight-counts valid s low;
       count = classCount n;

@@ -11,6 +11,7 @@ pub mod Grounds
 pub mod Reading
 pub mod Refusals
 pub mod Valid
+pub mod Packed
 pub mod Stored
 pub mod Latest
 pub mod Often
@@ -23,17 +24,17 @@ pub mod Starts
 pub mod Permuted
 pub mod Trips
 pub mod Tidy
-pub mod Places
 pub mod Order
 pub mod Gaps
 pub mod Representatives
 pub mod Alike
 pub mod AlikeGap
+pub mod AlikeByLines
+pub mod Placed
 pub mod Classes
 pub mod Scan
 pub mod Filled
 pub mod Rate
-pub mod Offsets
 pub mod Kept
 pub mod ClassRows
 pub mod Weighted

@@ -1,14 +1,22 @@
--- Document 01, "Gap and rating", in its own words: the gap of two lines at a stop, and the gap of a stop as the least over its pairs of different
--- lines (source 000, definitions 2.1.4 and 2.1.5). No line calls twice at a stop, so that it is the gap by calls of specs/Rating.antt.
+-- Document 01, "Gap and rating" and "Classes of stops", in its own words: the gap of two lines at a stop, the gap of a stop as the least over its
+-- pairs of different lines (source 000, definitions 2.1.4 and 2.1.5), and stops that are alike over lines and pairs of lines. No line calls twice
+-- at a stop, so that these are the gap by calls of specs/Rating.antt and the stops alike by places of specs/Classes.antt.
 use Prim.Native.Nat.{ℕ, _<_, _≤_}
 use mathlib.Core.Path.{_≡_}
-use mathlib.Core.List.{List}
-use lib.IntN.{ℤ}
+use mathlib.Core.Bool.{true, _&&_}
+use mathlib.Core.List.{List, [], _∷_}
+use lib.Dec.{eqb}
+use lib.IntN.{ℤ, pos, _-ℤ_}
 use lib.ListN.{length, getD}
-use Rattle.network.specs.Network.{Net}
+use Rattle.network.specs.declared.Call.{Call}
+use Rattle.network.specs.Lists.{pick}
+use Rattle.network.specs.Divisor.{gcd}
+use Rattle.network.specs.Network.{Net, callsAt, isServed}
 use Rattle.network.specs.Valid.{noCall}
-use Rattle.network.specs.Gap.{trip, distance}
+use Rattle.network.specs.Gap.{trip, distance, residue}
 use Rattle.network.specs.Rating.{arrivalOf}
+
+-- ---- Gap and rating
 
 -- The file has a call of the line at the stop: its `call`th
 pub record LineCallsThere (n : Net) (line stop call : ℕ) : Type 0 where
@@ -44,3 +52,27 @@ pub data IsStopGapOfLines (n : Net) (starts : List ℤ) (stop : ℕ) : ℕ → T
       → ((call : ℕ) × LineCallsThere n i stop call)
       → ((j call : ℕ) → LineCallsThere n j stop call → j ≡ i)
       → IsStopGapOfLines n starts stop (getD (n .periods) i 0)
+
+-- ---- Classes of stops
+
+-- The offset of the line's call at the stop, 0 where there is none
+unfoldable pub offsetAt : ℕ → ℕ → List Call → ℕ
+offsetAt line stop [] = 0
+offsetAt line stop (c ∷ cs) = pick (eqb (c .line) line && eqb (c .stop) stop) (c .offset) (offsetAt line stop cs)
+
+-- The remainder by g of the difference of two lines' offsets at a stop
+unfoldable pub offsetDifference : Net → ℕ → ℕ → ℕ → ℕ
+offsetDifference n stop i j =
+    residue (pos (offsetAt i stop (n .calls)) -ℤ pos (offsetAt j stop (n .calls))) (gcd (getD (n .periods) i 0) (getD (n .periods) j 0))
+
+-- Two served stops are alike if the same lines call at both, and for each pair of those lines the differences of their offsets leave the same
+-- remainder by g
+pub record AlikeOfLines (n : Net) (s t : ℕ) : Type 0 where
+  pub first-served : isServed s (n .calls) ≡ true
+  pub second-served : isServed t (n .calls) ≡ true
+  pub same-lines : (line : ℕ) → callsAt line s (n .calls) ≡ callsAt line t (n .calls)
+  pub same-differences :
+      (i j : ℕ)
+      → callsAt i s (n .calls) ≡ true
+      → callsAt j s (n .calls) ≡ true
+      → offsetDifference n s i j ≡ offsetDifference n t i j

@@ -1,8 +1,8 @@
 -- Document 01, "Classes of stops": which served stops are alike, the class row and the weight row, and the lowest stops with their weights
 -- as the rows give them. (A class is an equivalence class of stops, and its lowest stop its representative.)
-use Prim.Native.Nat.{ℕ, zero, suc}
+use Prim.Native.Nat.{ℕ, zero, suc, _<_}
 use mathlib.Core.Path.{_≡_}
-use mathlib.Core.Bool.{Bool, true, not, _&&_, _||_, Bool·beq}
+use mathlib.Core.Bool.{Bool, true, _&&_}
 use mathlib.Core.List.{List, [], _∷_, _++_, map}
 use lib.Dec.{eqb}
 use lib.IntN.{pos, _-ℤ_}
@@ -10,45 +10,52 @@ use lib.ListN.{length, getD}
 use Rattle.network.specs.declared.Call.{Call}
 use Rattle.network.specs.Lists.{pick, allBelow, countBelow, below}
 use Rattle.network.specs.Divisor.{gcd}
-use Rattle.network.specs.Network.{Net, maxStop, callsAt, isServed}
+use Rattle.network.specs.Network.{Net, maxStop, isServed}
+use Rattle.network.specs.Valid.{noCall}
 use Rattle.network.specs.Gap.{residue}
-use Rattle.network.specs.Rating.{Counted}
+use Rattle.network.specs.Rating.{Counted, periodOf, callsOfStop}
+use Rattle.network.specs.Tidy.{tidy}
 
--- The offset of the line's call at the stop, 0 where there is none
-unfoldable pub offsetAt : ℕ → ℕ → List Call → ℕ
-offsetAt line stop [] = 0
-offsetAt line stop (c ∷ cs) = pick (eqb (c .line) line && eqb (c .stop) stop) (c .offset) (offsetAt line stop cs)
+-- The calls at a stop in their order: by line, and those of one line by offset
+unfoldable pub ordered : Net → ℕ → List Call
+ordered n s = tidy (callsOfStop n s)
 
--- The remainder by g of the difference of two lines' offsets at a stop
-unfoldable pub offsetDifference : Net → ℕ → ℕ → ℕ → ℕ
-offsetDifference n stop i j =
-    residue (pos (offsetAt i stop (n .calls)) -ℤ pos (offsetAt j stop (n .calls))) (gcd (getD (n .periods) i 0) (getD (n .periods) j 0))
+-- The call at a place of that order
+abbrev pub orderedCall : Net → ℕ → ℕ → Call
+orderedCall n s place = getD (ordered n s) place noCall
 
--- Alike: the same lines call at both, and for each pair of those lines the differences of their offsets leave the same remainder by g
+-- The remainder by g of the difference of two calls' offsets
+unfoldable pub remainder : Net → Call → Call → ℕ
+remainder n c d = residue (pos (c .offset) -ℤ pos (d .offset)) (gcd (periodOf n c) (periodOf n d))
+
+-- Alike: the same lines call at both, place by place, and for each two places the differences of the offsets leave the same remainder by g. No
+-- line calls twice at a stop, so that this is document 01's test over lines and pairs of lines: specs/ByLines.antt has it in those words, and
+-- `alike-by-lines` of proofs/Laws/AlikeByLines.antt says that they agree
 pub record Alike (n : Net) (s t : ℕ) : Type 0 where
   pub first-served : isServed s (n .calls) ≡ true
   pub second-served : isServed t (n .calls) ≡ true
-  pub same-lines : (line : ℕ) → callsAt line s (n .calls) ≡ callsAt line t (n .calls)
-  pub same-differences :
-      (i j : ℕ)
-      → callsAt i s (n .calls) ≡ true
-      → callsAt j s (n .calls) ≡ true
-      → offsetDifference n s i j ≡ offsetDifference n t i j
+  pub same-lines : map (λ (c : Call). c .line) (ordered n s) ≡ map (λ (c : Call). c .line) (ordered n t)
+  pub same-remainders :
+      (j k : ℕ)
+      → j < length (ordered n s)
+      → k < length (ordered n s)
+      → remainder n (orderedCall n s j) (orderedCall n s k) ≡ remainder n (orderedCall n t j) (orderedCall n t k)
 
--- The same as a test over the stated lines
-unfoldable pub sameLines : Net → ℕ → ℕ → Bool
-sameLines n s t = allBelow (λ line. Bool·beq (callsAt line s (n .calls)) (callsAt line t (n .calls))) (length (n .periods))
+-- The same as a test: a place, two places ..
+unfoldable pub sameLine : Net → ℕ → ℕ → ℕ → Bool
+sameLine n s t j = eqb (orderedCall n s j .line) (orderedCall n t j .line)
 
-unfoldable pub sameDifference : Net → ℕ → ℕ → ℕ → ℕ → Bool
-sameDifference n s t i j =
-    not (callsAt i s (n .calls) && callsAt j s (n .calls)) || eqb (offsetDifference n s i j) (offsetDifference n t i j)
+unfoldable pub sameRemainder : Net → ℕ → ℕ → ℕ → ℕ → Bool
+sameRemainder n s t j k = eqb (remainder n (orderedCall n s j) (orderedCall n s k)) (remainder n (orderedCall n t j) (orderedCall n t k))
 
+-- .. and all places, each with those before it
 unfoldable pub isAlike : Net → ℕ → ℕ → Bool
 isAlike n s t =
     isServed s (n .calls)
     && isServed t (n .calls)
-    && sameLines n s t
-    && allBelow (λ i. allBelow (λ j. sameDifference n s t i j) i) (length (n .periods))
+    && eqb (length (ordered n s)) (length (ordered n t))
+    && allBelow (sameLine n s t) (length (ordered n s))
+    && allBelow (λ j. allBelow (sameRemainder n s t j) j) (length (ordered n s))
 
 -- The first number below `bound` that passes, or `bound` where none does
 unfoldable pub firstBelow : (ℕ → Bool) → ℕ → ℕ

@@ -14,5 +14,5 @@ pub mod ByLines
 pub mod Classes
 pub mod Scan
 pub mod Rate
-pub mod Offsets
+pub mod Placed
 pub mod ClassCall

@@ -53,6 +53,10 @@ maxCalls = 256
 abbrev pub maxCallsAtStop : ℕ
 maxCallsAtStop = 1
 
+-- .. so that a stop has at most so many calls
+abbrev pub maxAtStop : ℕ
+maxAtStop = maxLines * maxCallsAtStop
+
 -- The common cycle: the least common multiple of all periods
 unfoldable pub cycle : Net → ℕ
 cycle n = commonCycle (n .periods)

@@ -11,7 +11,7 @@ use Rattle.network.specs.declared.Network.{Network}
 use Rattle.network.specs.declared.Rating.{Rating}
 use Rattle.network.specs.Lists.{pick, keep, below}
 use Rattle.network.specs.Network.{maxStop}
-use Rattle.network.specs.Stored.{netOf, Sound}
+use Rattle.network.specs.Stored.{netOf, callsIn, Sound}
 use Rattle.network.specs.Valid.{Valid, noCall}
 use Rattle.network.specs.Rating.{Counted, noRating, ratingBy}
 
@@ -52,19 +52,18 @@ unfoldable pub withStop : Rating → ℕ → ℕ → Rating
 withStop r gap weight =
     record { some = true; least = pick (r .some) (min (r .least) gap) gap; sum = r .sum + weight * gap }
 
--- Rows that are lent in place of a network: its periods, the lines and offsets of its calls, and the way back from each of the first `k` calls
-pub record Rows (periods lines offsets previous : List ℕ) (k : ℕ) : Type 0 where
+-- Rows that are lent in place of a network: its periods, its calls, and the way back from each of the first `k` calls
+pub record Rows (periods list previous : List ℕ) (k : ℕ) : Type 0 where
   pub network : Network
   pub sound : Sound network
   pub valid : Valid (netOf network)
   pub periods-are : periods ≡ network .periods
-  pub line-of : (j : ℕ) → j < network .calls → getD lines j 0 ≡ getD (network .list) j noCall .line
-  pub offset-of : (j : ℕ) → j < network .calls → getD offsets j 0 ≡ getD (network .list) j noCall .offset
-  pub leads : LeadsBack previous (network .list) k
+  pub list-is : list ≡ network .list
+  pub leads : LeadsBack previous (callsIn (network .list)) k
 
 -- A call of the network beside the first `k` calls, of which the latest is at its stop, and a sheet that fits
 pub record Beside (n : Network) (sheet : List ℤ) (call : Call) (k : ℕ) : Type 0 where
   pub fits : length sheet ≡ length (netOf n .periods)
   pub own-line : call .line < length (netOf n .periods)
   pub within : k ≤ n .calls
-  pub lands : 0 < k → getD (n .list) (k - 1) noCall .stop ≡ call .stop
+  pub lands : 0 < k → getD (callsIn (n .list)) (k - 1) noCall .stop ≡ call .stop

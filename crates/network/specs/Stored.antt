@@ -1,7 +1,7 @@
 -- How the engine holds a network: rows of fixed length of which the first places count, and the common cycle beside them.
-use Prim.Native.Nat.{ℕ, suc, _+_, _*_, _≤_, _<_}
+use Prim.Native.Nat.{ℕ, suc, _+_, _*_, _/_, _%_, _≤_, _<_}
 use mathlib.Core.Path.{_≡_}
-use mathlib.Core.List.{List}
+use mathlib.Core.List.{List, map}
 use mathlib.Core.Logic.{_⊎_}
 use lib.ListN.{length, getD, take}
 use Rattle.network.specs.declared.Call.{Call}
@@ -18,16 +18,29 @@ use Rattle.network.specs.Network.{callsAnywhere, howOftenAt, latestOffse
 use Rattle.network.specs.Grounds.{first, grounds}
 use Rattle.network.specs.Reading.{Reading, accepted, refused}
 
+-- A call as one number: the line counts above the stop and that above the offset, so that the numbers are in the order of the calls
+unfoldable pub packed : Call → ℕ
+packed c = c .line * 4194304 + c .stop * 65536 + c .offset
+
+-- The call that a number holds; every number holds one
+unfoldable pub callIn : ℕ → Call
+callIn code = record { line = code / 4194304 % 16; stop = code / 65536 % 64; offset = code % 65536 }
+
+-- The calls that a row holds
+abbrev pub callsIn : List ℕ → List Call
+callsIn row = map callIn row
+
 -- The network that is held
 unfoldable pub netOf : Network → Net
-netOf n = netWith (take (n .lines) (n .periods)) (take (n .calls) (n .list))
+netOf n = netWith (take (n .lines) (n .periods)) (take (n .calls) (callsIn (n .list)))
 
--- The counts are within the rows, and the cycle is that of the periods
+-- The counts are within the rows, each number is a call packed, and the cycle is that of the periods
 pub record Sound (n : Network) : Type 0 where
   pub periods-row : length (n .periods) ≡ maxLines
   pub list-row : length (n .list) ≡ maxCalls
   pub lines : n .lines ≤ maxLines
   pub calls : n .calls ≤ maxCalls
+  pub packs : (i : ℕ) → i < n .calls → packed (callIn (getD (n .list) i 0)) ≡ getD (n .list) i 0
   pub cycle-is : n .cycle ≡ cycle (netOf n)
   pub cycle-pos : 0 < n .cycle
   pub cycle-le : n .cycle ≤ maxCycle

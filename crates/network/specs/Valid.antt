@@ -5,7 +5,7 @@ use mathlib.Core.Bool.{true}
 use mathlib.Core.List.{List}
 use lib.ListN.{length, getD}
 use Rattle.network.specs.declared.Call.{Call}
-use Rattle.network.specs.Network.{Net, maxLines, maxPeriod, maxCycle, maxStop, maxOffset, maxCalls, cycle, callsAnywhere}
+use Rattle.network.specs.Network.{Net, maxLines, maxPeriod, maxCycle, maxStop, maxOffset, maxCalls, maxCallsAtStop, cycle, howOftenAt, callsAnywhere}
 
 -- A list of bytes
 unfoldable pub IsBytes : List ℕ → Type 0
@@ -29,13 +29,7 @@ pub record Valid (n : Net) : Type 0 where
   pub call-line : (k : ℕ) → k < length (n .calls) → getD (n .calls) k noCall .line < length (n .periods)
   pub call-stop : (k : ℕ) → k < length (n .calls) → getD (n .calls) k noCall .stop ≤ maxStop
   pub call-offset : (k : ℕ) → k < length (n .calls) → getD (n .calls) k noCall .offset ≤ maxOffset
-  -- no line calls twice at a stop
-  pub once :
-      (j k : ℕ)
-      → j < k
-      → k < length (n .calls)
-      → getD (n .calls) j noCall .line ≡ getD (n .calls) k noCall .line
-      → getD (n .calls) j noCall .stop ≡ getD (n .calls) k noCall .stop
-      → ⊥
+  -- a line calls at a stop at most as often as it may: once
+  pub often : (line stop : ℕ) → howOftenAt line stop (n .calls) ≤ maxCallsAtStop
   -- every line has a call
   pub every-line-calls : (i : ℕ) → i < length (n .periods) → callsAnywhere i (n .calls) ≡ true

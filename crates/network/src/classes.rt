@@ -5,9 +5,8 @@ use crate::Network;
 use crate::RateAnswer;
 use crate::Rating;
 use crate::alike::alike;
-use crate::alike::offset_table;
+use crate::places::place_calls;
 use crate::ratings::rating_over;
-use crate::ratings::served_row;
 use crate::ratings::stop_gaps;
 use crate::reader::read_network;
 ghost use mathlib.Core.Path.{_≡_};
@@ -18,30 +17,28 @@ ghost use Rattle.network.specs.ClassCall as call;
 ghost use Rattle.network.specs.Classes as class;
 ghost use Rattle.network.specs.Lists.{pick};
 ghost use Rattle.network.specs.Network as net;
-ghost use Rattle.network.specs.Offsets.{Marks};
+ghost use Rattle.network.specs.Placed.{CountsOf, Placed};
 ghost use Rattle.network.specs.Rate.{rateAnswer};
 ghost use Rattle.network.specs.Reading.{readFile};
 ghost use Rattle.network.specs.Stored.{netOf, Sound};
 ghost use Rattle.network.specs.Valid.{Valid, IsBytes};
 
-// The lowest stop alike to a stop, 255 if it is unserved. Of the stops below it none needs to be asked whether it is served: without a line
-// it has other lines than a served stop.
+// The lowest stop alike to a stop, 255 if it is unserved. Of the stops below it none needs to be asked whether it is served: it would have
+// as many calls as a served stop.
 fn class_of(
-    network: Network,
-    marks: &[u32; Network::TABLE],
-    served: &[u8; Network::STOPS],
+    codes: &[u32; Network::PLACES],
+    counts: &[u8; Network::STOPS],
+    periods: &[u16; Network::MAX_LINES],
     stop: usize,
 ) -> u8
-    requires { ⌜ Sound network × Valid (netOf network) × Marks (now marks) (netOf network .calls) ⌝ }
-    requires { ⌜ (stop < net.stopCount) × (ltb 0 (getD (now served) stop 0) ≡ net.isServed stop (netOf network .calls)) ⌝ }
-    ensures { λ r. ⌜ r ≡ pick (net.isServed stop (netOf network .calls)) (class.lowestAlike (netOf network) stop) class.unserved ⌝ }
+    requires { ⌜ ((h : Placed (now codes) (now periods)) × CountsOf (h .net) (now counts) × (stop < net.stopCount)) ⌝ }
+    ensures { λ r. ⌜ ((h : Placed (now (codes .entry)) (now (periods .entry))) → CountsOf (h .net) (now (counts .entry)) → r ≡ pick (net.isServed stop (h .net .calls)) (class.lowestAlike (h .net) stop) class.unserved) ⌝ }
 {
-    if served[stop] == 0 {
+    if counts[stop] == 0 {
         return Network::UNSERVED;
     }
-    let lines = network.lines;
     for other in 0..stop {
-        if alike(marks, &network.periods, lines, other, stop) {
+        if alike(codes, counts, periods, other, stop) {
             return other as u8;
         }
     }
@@ -56,11 +53,12 @@ fn fill_rows(network: Network, class_row: &mut [u8], weight_row: &mut [u16]) -> 
     ensures { λ r. ⌜ now («class_row» .exit) ≡ class.classRow (netOf network) ⌝ }
     ensures { λ r. ⌜ now («weight_row» .exit) ≡ class.weightRow (netOf network) ⌝ }
 {
-    let marks = offset_table(network);
-    let served = served_row(network);
+    let placed = place_calls(network);
+    let counts = placed.counts;
+    let periods = network.periods;
     let mut count: u32 = 0;
     for stop in 0..Network::STOPS {
-        let lowest = class_of(network, &marks, &served, stop);
+        let lowest = class_of(&placed.codes, &counts, &periods, stop);
         let at = lowest as usize;
         class_row[stop] = lowest;
         weight_row[stop] = 0;

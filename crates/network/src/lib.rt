@@ -3,17 +3,18 @@ pub mod alike;
 pub mod classes;
 pub mod divisor;
 pub mod gaps;
+pub mod places;
 pub mod rate;
 pub mod ratings;
 pub mod reader;
 pub mod rows;
 
 ghost use mathlib.Core.Path.{_≡_};
-ghost use Prim.Native.Nat.{_+_, _*_, _^_, _<_};
+ghost use Prim.Native.Nat.{_+_, _*_, _^_, _<_, _≤_};
 ghost use Rattle.network.specs.Network as net;
 ghost use Rattle.network.specs.Rating as rating;
 ghost use Rattle.network.specs.Scan as scan;
-ghost use Rattle.network.specs.Stored.{netOf, Sound};
+ghost use Rattle.network.specs.Stored.{netOf, packed, callIn, Sound};
 
 // A line calls at a stop, `offset` minutes after its start.
 pub struct Call {
@@ -22,13 +23,39 @@ pub struct Call {
     pub offset: u16,
 }
 
-// A network: the periods of its lines and its calls, both in file order, and the common cycle. Of each row the first places
+impl Call {
+    // What one line is worth in a packed call, and one stop.
+    pub const LINE_UNIT: u32 = 4194304;
+
+    pub const STOP_UNIT: u32 = 65536;
+
+    // The call as one number, so that a row of calls can be lent. The numbers are in the order of the calls, by line, stop and offset.
+    pub fn packed(self) -> u32
+        requires { ⌜ (self .line < net.maxLines) × (self .stop ≤ net.maxStop) ⌝ }
+        ensures { λ r. ⌜ (r ≡ packed self) × (callIn r ≡ self) ⌝ }
+    {
+        self.line as u32 * Call::LINE_UNIT + self.stop as u32 * Call::STOP_UNIT + self.offset as u32
+    }
+
+    // The call that a number holds. Every number holds one, so that a row is read without asking what stands there.
+    pub fn unpacked(code: u32) -> Call
+        ensures { λ r. ⌜ r ≡ callIn code ⌝ }
+    {
+        Call {
+            line: (code / Call::LINE_UNIT % 16) as u8,
+            stop: (code / Call::STOP_UNIT % 64) as u8,
+            offset: (code % Call::STOP_UNIT) as u16,
+        }
+    }
+}
+
+// A network: the periods of its lines and its calls, each packed, both in file order, and the common cycle. Of each row the first places
 // count, as many as `lines` and `calls` say.
 pub struct Network {
     pub lines: usize,
     pub periods: [u16; Network::MAX_LINES],
     pub calls: usize,
-    pub list: [Call; Network::MAX_CALLS],
+    pub list: [u32; Network::MAX_CALLS],
     pub cycle: u32,
 }
 
@@ -54,6 +81,12 @@ impl Network {
     // A place for each line at each stop.
     pub const TABLE: usize = 1024;
 
+    // The most calls that a stop can have: each line as often as it may call there.
+    pub const MAX_AT_STOP: usize = 16;
+
+    // So many places for each stop.
+    pub const PLACES: usize = 1024;
+
     // A place for each two lines.
     pub const PAIRS: usize = 256;
 
@@ -64,30 +97,31 @@ impl Network {
     pub fn new() -> Network
         ensures { λ r. ⌜ Sound r × (netOf r ≡ net.emptyNet) ⌝ }
     {
-        let nowhere = Call {
-            line: 0,
-            stop: 0,
-            offset: 0,
-        };
         Network {
             lines: 0,
             periods: [0u16; Network::MAX_LINES],
             calls: 0,
-            list: [nowhere; Network::MAX_CALLS],
+            list: [0u32; Network::MAX_CALLS],
             cycle: 1,
         }
     }
 
     // One call more.
     pub fn with_call(mut self, call: Call) -> Network
-        requires { ⌜ Sound self × (self .calls < net.maxCalls) ⌝ }
+        requires { ⌜ Sound self × (self .calls < net.maxCalls) × (call .line < net.maxLines) × (call .stop ≤ net.maxStop) ⌝ }
         ensures { λ r. ⌜ Sound r × (netOf r ≡ net.withCall (netOf self) call) ⌝ }
     {
         let at = self.calls;
-        self.list[at] = call;
+        self.list[at] = call.packed();
         self.calls = at + 1;
         self
     }
+}
+
+// The calls of each stop in their order: each stop has MAX_AT_STOP places, of which the first hold its calls, as many as it has.
+pub struct StopCalls {
+    pub codes: [u32; Network::PLACES],
+    pub counts: [u8; Network::STOPS],
 }
 
 // Whether a ground for refusing applies: its number, and the place of the file that it names.

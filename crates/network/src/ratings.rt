@@ -4,8 +4,6 @@ use crate::Network;
 use crate::Rating;
 use crate::gaps::arrival;
 use crate::gaps::gap;
-use crate::rows::line_row;
-use crate::rows::offset_row;
 ghost use mathlib.Core.Path.{_≡_};
 ghost use mathlib.Core.List.{map, _++_, _∷_, []};
 ghost use Prim.Native.Nat.{ℕ, _+_, _-_, _<_, _≤_};
@@ -15,7 +13,7 @@ ghost use Rattle.network.specs.Gap.{gapOf};
 ghost use Rattle.network.specs.Network as net;
 ghost use Rattle.network.specs.Rating as rating;
 ghost use Rattle.network.specs.Scan as scan;
-ghost use Rattle.network.specs.Stored.{netOf, Sound};
+ghost use Rattle.network.specs.Stored.{netOf, callsIn, Sound};
 ghost use Rattle.network.specs.Valid.{Valid};
 
 // The gap of two calls, on a sheet of starts and the lines' periods.
@@ -35,26 +33,21 @@ fn call_gap(sheet: &[i32], periods: &[u16; Network::MAX_LINES], first: Call, sec
 // `previous` leads on from each to the one before. The rows are lent, since a copy of the network for each call takes longer than the gaps.
 fn least_gap(
     periods: &[u16; Network::MAX_LINES],
-    lines: &[u8; Network::MAX_CALLS],
-    offsets: &[u16; Network::MAX_CALLS],
+    list: &[u32; Network::MAX_CALLS],
     previous: &[u16; Network::MAX_CALLS],
     sheet: &[i32],
     call: Call,
     next: u16,
     least: u32,
 ) -> u32
-    requires { ⌜ ((h : scan.Rows (now periods) (now lines) (now offsets) (now previous) next) × scan.Beside (h .network) (now sheet) call next) ⌝ }
-    ensures { λ r. ⌜ ((h : scan.Rows (now (periods .entry)) (now (lines .entry)) (now (offsets .entry)) (now (previous .entry)) next) → scan.Beside (h .network) (now (sheet .entry)) call next → r ≡ scan.leastFrom least (map (λ d. rating.gapOfCalls (netOf (h .network)) (now (sheet .entry)) d call) (scan.callsBefore (call .stop) (h .network .list) next))) ⌝ }
+    requires { ⌜ ((h : scan.Rows (now periods) (now list) (now previous) next) × scan.Beside (h .network) (now sheet) call next) ⌝ }
+    ensures { λ r. ⌜ ((h : scan.Rows (now (periods .entry)) (now (list .entry)) (now (previous .entry)) next) → scan.Beside (h .network) (now (sheet .entry)) call next → r ≡ scan.leastFrom least (map (λ d. rating.gapOfCalls (netOf (h .network)) (now (sheet .entry)) d call) (scan.callsBefore (call .stop) (callsIn (h .network .list)) next))) ⌝ }
 {
     let mut lesser = least;
     let mut from = next as usize;
     while 0 < from {
         let at = from - 1;
-        let other = Call {
-            line: lines[at],
-            stop: call.stop,
-            offset: offsets[at],
-        };
+        let other = Call::unpacked(list[at]);
         let between = call_gap(sheet, periods, other, call);
         if between < lesser {
             lesser = between;
@@ -68,22 +61,21 @@ fn least_gap(
 // calls before.
 fn gap_with(
     periods: &[u16; Network::MAX_LINES],
-    lines: &[u8; Network::MAX_CALLS],
-    offsets: &[u16; Network::MAX_CALLS],
+    list: &[u32; Network::MAX_CALLS],
     previous: &[u16; Network::MAX_CALLS],
     sheet: &[i32],
     call: Call,
     before: u16,
     gap: u32,
 ) -> u32
-    requires { ⌜ ((h : scan.Rows (now periods) (now lines) (now offsets) (now previous) before) × scan.Beside (h .network) (now sheet) call before) ⌝ }
-    ensures { λ r. ⌜ ((h : scan.Rows (now (periods .entry)) (now (lines .entry)) (now (offsets .entry)) (now (previous .entry)) before) → scan.Beside (h .network) (now (sheet .entry)) call before → gap ≡ rating.gapOfStop (netOf (h .network)) (now (sheet .entry)) (scan.callsBefore (call .stop) (h .network .list) before) → r ≡ rating.gapOfStop (netOf (h .network)) (now (sheet .entry)) (scan.callsBefore (call .stop) (h .network .list) before ++ (call ∷ []))) ⌝ }
+    requires { ⌜ ((h : scan.Rows (now periods) (now list) (now previous) before) × scan.Beside (h .network) (now sheet) call before) ⌝ }
+    ensures { λ r. ⌜ ((h : scan.Rows (now (periods .entry)) (now (list .entry)) (now (previous .entry)) before) → scan.Beside (h .network) (now (sheet .entry)) call before → gap ≡ rating.gapOfStop (netOf (h .network)) (now (sheet .entry)) (scan.callsBefore (call .stop) (callsIn (h .network .list)) before) → r ≡ rating.gapOfStop (netOf (h .network)) (now (sheet .entry)) (scan.callsBefore (call .stop) (callsIn (h .network .list)) before ++ (call ∷ []))) ⌝ }
 {
     if before == 0 {
         let line = call.line as usize;
         return periods[line] as u32;
     }
-    least_gap(periods, lines, offsets, previous, sheet, call, before, gap)
+    least_gap(periods, list, previous, sheet, call, before, gap)
 }
 
 // The gaps of the stops that count, in one pass over the calls. `last` has for each stop one more than the latest call there, and
@@ -96,29 +88,18 @@ pub fn stop_gaps(
     requires { ⌜ Sound network × Valid (netOf network) × (length (now sheet) ≡ length (netOf network .periods)) ⌝ }
     ensures { λ r. ⌜ ((stop : ℕ) → stop < net.stopCount → 0 < getD (now (counts .entry)) stop 0 → getD r stop 0 ≡ rating.stopGap (netOf network) (now (sheet .entry)) stop) ⌝ }
 {
-    let lines = line_row(network);
-    let offsets = offset_row(network);
     let periods = network.periods;
     let mut gaps = [0u32; Network::STOPS];
     let mut last = [0u16; Network::STOPS];
     let mut previous = [0u16; Network::MAX_CALLS];
     let count = network.calls;
     for i in 0..count {
-        let call = network.list[i];
+        let call = Call::unpacked(network.list[i]);
         let stop = call.stop as usize;
         let before = last[stop];
         if 0 < counts[stop] {
             let gap = gaps[stop];
-            gaps[stop] = gap_with(
-                &periods,
-                &lines,
-                &offsets,
-                &previous,
-                sheet,
-                call,
-                before,
-                gap,
-            );
+            gaps[stop] = gap_with(&periods, &network.list, &previous, sheet, call, before, gap);
         }
         previous[i] = before;
         last[stop] = i as u16 + 1;
@@ -157,7 +138,7 @@ pub fn served_row(network: Network) -> [u8; Network::STOPS]
     let mut row = [0u8; Network::STOPS];
     let count = network.calls;
     for i in 0..count {
-        let call = network.list[i];
+        let call = Call::unpacked(network.list[i]);
         let stop = call.stop as usize;
         row[stop] = 1;
     }

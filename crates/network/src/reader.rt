@@ -338,7 +338,7 @@ pub fn read_network(file: &[u8]) -> Step
             }
             Told::Calls { call } => {
                 let place = network.calls;
-                network.list[place] = call;
+                network.list[place] = call.packed();
                 network.calls = place + 1;
                 let at_stop = call.stop as usize * Network::MAX_LINES + call.line as usize;
                 often[at_stop] = often[at_stop] + 1;

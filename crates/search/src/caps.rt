@@ -9,7 +9,7 @@ ghost use lib.ListN.{length, getD};
 ghost use Rattle.network.specs.Network as net;
 ghost use Rattle.network.specs.Rating.{callsOfStop};
 ghost use Rattle.network.specs.Scan.{leastFrom, callsBefore};
-ghost use Rattle.network.specs.Stored.{netOf, Sound};
+ghost use Rattle.network.specs.Stored.{netOf, callsIn, Sound};
 ghost use Rattle.network.specs.Valid.{Valid};
 ghost use Rattle.search.specs.Caps.{cap};
 ghost use Rattle.search.specs.CapScan.{halfOf, boundsOf};
@@ -18,13 +18,13 @@ ghost use Rattle.search.specs.CapScan.{halfOf, boundsOf};
 fn least_half(network: Network, call: Call, at: usize, least: u32) -> u32
     requires { ⌜ Sound network × Valid (netOf network) ⌝ }
     requires { ⌜ (call .line < length (netOf network .periods)) × (at ≤ network .calls) ⌝ }
-    ensures { λ r. ⌜ r ≡ leastFrom least (map (λ d. halfOf (netOf network) d call) (callsBefore (call .stop) (network .list) at)) ⌝ }
+    ensures { λ r. ⌜ r ≡ leastFrom least (map (λ d. halfOf (netOf network) d call) (callsBefore (call .stop) (callsIn (network .list)) at)) ⌝ }
 {
     let line = call.line as usize;
     let period = network.periods[line] as u32;
     let mut lesser = least;
     for i in 0..at {
-        let other = network.list[i];
+        let other = Call::unpacked(network.list[i]);
         if other.stop == call.stop {
             let other_line = other.line as usize;
             let half = gcd(network.periods[other_line] as u32, period) / 2;
@@ -48,8 +48,8 @@ pub struct Bounds {
 fn with_call(bounds: Bounds, network: Network, call: Call, at: usize) -> Bounds
     requires { ⌜ Sound network × Valid (netOf network) ⌝ }
     requires { ⌜ (call .line < length (netOf network .periods)) × (at ≤ network .calls) ⌝ }
-    requires { ⌜ bounds ≡ boundsOf (netOf network) (callsBefore (call .stop) (network .list) at) ⌝ }
-    ensures { λ r. ⌜ r ≡ boundsOf (netOf network) (callsBefore (call .stop) (network .list) at ++ (call ∷ [])) ⌝ }
+    requires { ⌜ bounds ≡ boundsOf (netOf network) (callsBefore (call .stop) (callsIn (network .list)) at) ⌝ }
+    ensures { λ r. ⌜ r ≡ boundsOf (netOf network) (callsBefore (call .stop) (callsIn (network .list)) at ++ (call ∷ [])) ⌝ }
 {
     let line = call.line as usize;
     let period = network.periods[line] as u32;
@@ -80,7 +80,7 @@ fn bounds_of(network: Network, stop: u8) -> Bounds
     };
     let count = network.calls;
     for i in 0..count {
-        let call = network.list[i];
+        let call = Call::unpacked(network.list[i]);
         if call.stop == stop {
             bounds = with_call(bounds, network, call, i);
         }

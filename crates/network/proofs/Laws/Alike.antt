@@ -1,26 +1,30 @@
--- Which stops are alike: it is an equivalence of served stops, and the test over the stated lines and their pairs in one order tells it,
--- since a line that is not stated calls nowhere and a remainder settles that of the difference the other way round. Assumes nothing.
+-- Which stops are alike: it is an equivalence of served stops, and the test of each place beside those before it tells it, since a remainder
+-- settles that of the difference the other way round. Assumes nothing.
 use Prim.Native.Nat.{ℕ, _<_, _≤_}
-use mathlib.Core.Path.{_≡_, refl, sym, ap, subst, _∙_}
-use mathlib.Core.Bool.{Bool, true, false, not, _&&_, _||_, Bool·beq, and-eq-true-iff}
+use mathlib.Core.Path.{_≡_, refl, sym, ap, ap₂, subst, _∙_}
+use mathlib.Core.Bool.{true, and-eq-true-iff}
 use mathlib.Core.Logic.{_↔_}
-use mathlib.Core.List.{List, List·Memᴰ}
+use mathlib.Core.List.{List, map, Permᴰ·symm}
 use native.Mathlib.Decide.{decLt}
 use native.Mathlib.Omega.{arith}
-use lib.Dec.{eqb}
 use lib.IntN.{ℤ, pos, _-ℤ_, +ℤ-invr}
-use lib.ListN.{length, getD}
+use lib.ListN.{length, getD, length-map}
 use borrow.Author.Tests.{eqb-true, eq-eqb}
 use Rattle.network.specs.declared.Call.{Call}
 use Rattle.network.specs.Lists.{allBelow}
 use Rattle.network.specs.Divisor.{gcd}
-use Rattle.network.specs.Network.{Net, maxStop, callsAt, isServed}
+use Rattle.network.specs.Network.{Net, maxStop, isServed}
 use Rattle.network.specs.Valid.{noCall, Valid}
 use Rattle.network.specs.Gap.{residue}
-use Rattle.network.specs.Classes.{offsetAt, offsetDifference, Alike, sameLines, sameDifference, isAlike}
-use Rattle.network.proofs.Laws.Lists.{zero-ne-one, and-both, allBelow-at}
+use Rattle.network.specs.Rating.{CallsThere, periodOf, callsOfStop}
+use Rattle.network.specs.Classes.{ordered, orderedCall, remainder, Alike, sameLine, sameRemainder, isAlike}
+use Rattle.network.proofs.Laws.Lists.{and-both, allBelow-at}
 use Rattle.network.proofs.Laws.Tables.{allBelow-of-each}
-use Rattle.network.proofs.Laws.Membership.{any-of-member, member-of-any, place-of-member}
+use Rattle.network.proofs.Laws.Members.{All, getD-map, map-same-places}
+use Rattle.network.proofs.Laws.Membership.{member-of-any, place-of-member}
+use Rattle.network.proofs.Laws.Permuted.{all-permuted}
+use Rattle.network.proofs.Laws.Tidy.{tidy-is-permutation}
+use Rattle.network.proofs.Laws.StopGap.{callsOfStop-all}
 use Rattle.network.proofs.Laws.Divisor.{gcd-comm, gcd-pos-left}
 use Rattle.network.proofs.Laws.Integers.{difference, difference-sub, difference-add-multiple, difference-of-eq, eq-of-difference}
 use Rattle.network.proofs.Laws.Gap.{multiple-of-residue-eq, residue-eq-of-multiple}
@@ -34,43 +38,59 @@ served-le-maxStop {n} v s e =
     let (k, h, q) = place-of-member (n .calls) noCall m in
     rw (eqb-true (c .stop) s f) at (rw q at (v .call-stop k h))
 
+-- ---- its calls in order
+
+-- What holds of each call of the file at the stop holds of each in order
+pub ordered-all : (n : Net) (s : ℕ) (P : Call → Type 0) → ((k : ℕ) → CallsThere n s k → P (getD (n .calls) k noCall)) → All noCall P (ordered n s)
+unfolding ordered
+ordered-all n s P f =
+    all-permuted noCall P (Permᴰ·symm (tidy-is-permutation (callsOfStop n s)))
+    (λ i h. let (k, (c, e)) = callsOfStop-all n s i h in subst P e (f k c))
+
+pub ordered-period-pos : {n : Net} → Valid n → (s : ℕ) → All noCall (λ c. 0 < periodOf n c) (ordered n s)
+unfolding periodOf
+ordered-period-pos {n} v s =
+    ordered-all n s (λ c. 0 < periodOf n c) (λ k c. v .period-pos (getD (n .calls) k noCall .line) (v .call-line k (c .stated)))
+
+pub ordered-line-lt : {n : Net} → Valid n → (s : ℕ) → All noCall (λ c. c .line < length (n .periods)) (ordered n s)
+ordered-line-lt {n} v s = ordered-all n s (λ c. c .line < length (n .periods)) (λ k c. v .call-line k (c .stated))
+
+-- Stops with the same lines place by place
+module _ (n : Net) (s t : ℕ) (e : map (λ (c : Call). c .line) (ordered n s) ≡ map (λ (c : Call). c .line) (ordered n t)) where
+  pub same-length : length (ordered n s) ≡ length (ordered n t)
+  same-length = sym (length-map (ordered n s) _) ∙ ap length e ∙ length-map (ordered n t) _
+
+  pub same-line : (j : ℕ) → j < length (ordered n s) → orderedCall n s j .line ≡ orderedCall n t j .line
+  same-line j h =
+      sym (getD-map (λ (c : Call). c .line) (ordered n s) j noCall 0 h)
+      ∙ ap (λ (ls : List ℕ). getD ls j 0) e
+      ∙ getD-map (λ (c : Call). c .line) (ordered n t) j noCall 0 (omega (arith, same-length))
+
 -- ---- an equivalence
 
 pub alike-refl : (n : Net) (s : ℕ) → isServed s (n .calls) ≡ true → Alike n s s
-alike-refl n s e = record { first-served = e; second-served = e; same-lines = λ line. refl; same-differences = λ i j c d. refl }
+alike-refl n s e = record { first-served = e; second-served = e; same-lines = refl; same-remainders = λ j k h l. refl }
 
 pub alike-sym : {n : Net} {s t : ℕ} → Alike n s t → Alike n t s
-alike-sym a =
+alike-sym {n} {s} {t} a =
     record {
       first-served = a .second-served;
       second-served = a .first-served;
-      same-lines = λ line. sym (a .same-lines line);
-      same-differences = λ i j c d. sym (a .same-differences i j (a .same-lines i ∙ c) (a .same-lines j ∙ d));
+      same-lines = sym (a .same-lines);
+      same-remainders = λ j k h l.
+          let m = same-length n s t (a .same-lines) in sym (a .same-remainders j k (omega (arith, h, m)) (omega (arith, l, m)));
     }
 
 pub alike-trans : {n : Net} {s t u : ℕ} → Alike n s t → Alike n t u → Alike n s u
-alike-trans a b =
+alike-trans {n} {s} {t} {u} a b =
     record {
       first-served = a .first-served;
       second-served = b .second-served;
-      same-lines = λ line. a .same-lines line ∙ b .same-lines line;
-      same-differences =
-          λ i j c d. a .same-differences i j c d ∙ b .same-differences i j (sym (a .same-lines i) ∙ c) (sym (a .same-lines j) ∙ d);
+      same-lines = a .same-lines ∙ b .same-lines;
+      same-remainders = λ j k h l.
+          let m = same-length n s t (a .same-lines) in
+          a .same-remainders j k h l ∙ b .same-remainders j k (omega (arith, h, m)) (omega (arith, l, m));
     }
-
--- ---- the calls of a line at a stop
-
-pub callsAt-of-member : {c : Call} (cs : List Call) → List·Memᴰ c cs → callsAt (c .line) (c .stop) cs ≡ true
-unfolding callsAt
-callsAt-of-member {c} cs m = any-of-member _ cs m (and-both _ _ (eq-eqb (c .line) _ refl) (eq-eqb (c .stop) _ refl))
-
-pub member-of-callsAt : (line stop : ℕ) (cs : List Call) → callsAt line stop cs ≡ true
-    → (c : Call) × List·Memᴰ c cs × (c .line ≡ line) × (c .stop ≡ stop)
-unfolding callsAt
-member-of-callsAt line stop cs e =
-    let (c, m, f) = member-of-any _ cs e in
-    let (g, h) = and-eq-true-iff (eqb (c .line) line) (eqb (c .stop) stop) .0 f in
-    (c, m, eqb-true _ _ g, eqb-true _ _ h)
 
 -- ---- the test
 
@@ -84,104 +104,77 @@ residue-of-swapped a b c d g h e =
     (eq-of-difference (difference-sub (difference b) (difference a))
     (difference-add-multiple (difference-sub (difference d) (difference c)) (difference k) g) (omega arith))
 
-beq-true : (a b : Bool) → Bool·beq a b ≡ true → a ≡ b
-beq-true true true e = refl
-beq-true true false e = absurd (zero-ne-one (cc))
-beq-true false true e = absurd (zero-ne-one (cc))
-beq-true false false e = refl
-
-eq-beq : (a b : Bool) → a ≡ b → Bool·beq a b ≡ true
-eq-beq true b e = rw (← e)
-eq-beq false b e = rw (← e)
-
 module _ {n : Net} (v : Valid n) where
-  pub line-of-member : {c : Call} → List·Memᴰ c (n .calls) → c .line < length (n .periods)
-  line-of-member m =
-      let (i, h, e) = place-of-member (n .calls) noCall m in
-      subst (λ (c : Call). c .line < length (n .periods)) e (v .call-line i h)
+  gcd-pos : (s j : ℕ) (d : Call) → j < length (ordered n s) → 0 < gcd (periodOf n (orderedCall n s j)) (periodOf n d)
+  gcd-pos s j d h = gcd-pos-left _ _ (ordered-period-pos v s j h)
 
-  pub line-of-callsAt : (line stop : ℕ) → callsAt line stop (n .calls) ≡ true → line < length (n .periods)
-  line-of-callsAt line stop e = let (c, m, f, _) = member-of-callsAt line stop (n .calls) e in rw f at (line-of-member m)
+  module _ (s t : ℕ) (lines : allBelow (sameLine n s t) (length (ordered n s)) ≡ true)
+      (test : allBelow (λ j. allBelow (sameRemainder n s t j) j) (length (ordered n s)) ≡ true) where
+    line-of-test : (j : ℕ) → j < length (ordered n s) → orderedCall n s j .line ≡ orderedCall n t j .line
+    unfolding sameLine
+    line-of-test j h = eqb-true _ _ (allBelow-at (sameLine n s t) (length (ordered n s)) j lines h)
 
-  -- a line that is not stated calls nowhere
-  not-stated : (line stop : ℕ) → length (n .periods) ≤ line → callsAt line stop (n .calls) ≡ false
-  not-stated line stop h = go (callsAt line stop (n .calls)) refl
-    where
-      go : (t : Bool) → callsAt line stop (n .calls) ≡ t → t ≡ false
-      go true e = absurd (omega (arith, line-of-callsAt line stop e))
-      go false e = refl
+    period-of-test : (j : ℕ) → j < length (ordered n s) → periodOf n (orderedCall n s j) ≡ periodOf n (orderedCall n t j)
+    unfolding periodOf
+    period-of-test j h = ap (λ (i : ℕ). getD (n .periods) i 0) (line-of-test j h)
 
-  gcd-pos : (i j : ℕ) → i < length (n .periods) → 0 < gcd (getD (n .periods) i 0) (getD (n .periods) j 0)
-  gcd-pos i j h = gcd-pos-left _ _ (v .period-pos i h)
+    abbrev Same : ℕ → ℕ → Type 0
+    Same j k = remainder n (orderedCall n s j) (orderedCall n s k) ≡ remainder n (orderedCall n t j) (orderedCall n t k)
 
-  -- the test's parts
-  same-line-of-sameLines : (s t line : ℕ) → sameLines n s t ≡ true → callsAt line s (n .calls) ≡ callsAt line t (n .calls)
-  unfolding sameLines
-  same-line-of-sameLines s t line e = go (decLt line (length (n .periods)))
-    where
-      go : Dec (line < length (n .periods)) → callsAt line s (n .calls) ≡ callsAt line t (n .calls)
-      go (yes h) = beq-true _ _ (allBelow-at _ (length (n .periods)) line e h)
-      go (no h) = not-stated line s (omega arith) ∙ sym (not-stated line t (omega arith))
+    same-before : (j k : ℕ) → k < j → j < length (ordered n s) → Same j k
+    unfolding sameRemainder
+    same-before j k h l = eqb-true _ _ (allBelow-at (sameRemainder n s t j) j k (allBelow-at _ (length (ordered n s)) j test l) h)
 
-  module _ (s t : ℕ) (test : allBelow (λ i. allBelow (λ j. sameDifference n s t i j) i) (length (n .periods)) ≡ true) where
-    same-difference-below : (i j : ℕ) → j < i → callsAt i s (n .calls) ≡ true → callsAt j s (n .calls) ≡ true
-        → offsetDifference n s i j ≡ offsetDifference n t i j
-    unfolding sameDifference
-    same-difference-below i j h c d =
-        eqb-true _ _ (rw (c, d) at (allBelow-at _ i j (allBelow-at _ (length (n .periods)) i test (line-of-callsAt i s c)) h))
+    same-behind : (j k : ℕ) → j < k → k < length (ordered n s) → Same j k
+    unfolding remainder
+    same-behind j k h l =
+        let at : ℕ → ℕ → ℤ = λ stop place. pos (orderedCall n stop place .offset) in
+        let there : j < length (ordered n s) = omega (arith, h, l) in
+        let g = gcd (periodOf n (orderedCall n s k)) (periodOf n (orderedCall n s j)) in
+        let turned = same-before k j h l in
+        ap (residue (at s j -ℤ at s k)) (gcd-comm _ _)
+        ∙ residue-of-swapped (at s k) (at s j) (at t k) (at t j) g (gcd-pos s k (orderedCall n s j) l)
+        (turned ∙ ap (residue (at t k -ℤ at t j)) (sym (ap₂ gcd (period-of-test k l) (period-of-test j there))))
+        ∙ ap (residue (at t j -ℤ at t k)) (gcd-comm _ _ ∙ ap₂ gcd (period-of-test j there) (period-of-test k l))
 
-    same-difference-above : (i j : ℕ) → i < j → callsAt i s (n .calls) ≡ true → callsAt j s (n .calls) ≡ true
-        → offsetDifference n s i j ≡ offsetDifference n t i j
-    unfolding offsetDifference
-    same-difference-above i j h c d =
-        let at : ℕ → ℕ → ℤ = λ stop line. pos (offsetAt line stop (n .calls)) in
-        rw (gcd-comm (getD (n .periods) i 0) (getD (n .periods) j 0))
-        (residue-of-swapped (at s j) (at s i) (at t j) (at t i) _ (gcd-pos j i (line-of-callsAt j s d)) (same-difference-below j i h d c))
+    same-itself : (j k : ℕ) → j ≡ k → j < length (ordered n s) → Same j k
+    unfolding remainder
+    same-itself j k e l =
+        rw (← e)
+        (ap₂ residue (+ℤ-invr (pos (orderedCall n s j .offset)) ∙ sym (+ℤ-invr (pos (orderedCall n t j .offset))))
+        (ap₂ gcd (period-of-test j l) (period-of-test j l)))
 
-    same-difference-self : (i j : ℕ) → i ≡ j → offsetDifference n s i j ≡ offsetDifference n t i j
-    unfolding offsetDifference
-    same-difference-self i j e = rw e (ap (λ (x : ℤ). residue x (gcd (getD (n .periods) j 0) (getD (n .periods) j 0)))
-        (+ℤ-invr (pos (offsetAt j s (n .calls))) ∙ sym (+ℤ-invr (pos (offsetAt j t (n .calls))))))
-
-    same-difference-of-test : (i j : ℕ) → callsAt i s (n .calls) ≡ true → callsAt j s (n .calls) ≡ true
-        → offsetDifference n s i j ≡ offsetDifference n t i j
-    same-difference-of-test i j c d = go (decLt j i) (decLt i j)
+    same-of-test : (j k : ℕ) → j < length (ordered n s) → k < length (ordered n s) → Same j k
+    same-of-test j k h l = go (decLt k j) (decLt j k)
       where
-        go : Dec (j < i) → Dec (i < j) → offsetDifference n s i j ≡ offsetDifference n t i j
-        go (yes h) k = same-difference-below i j h c d
-        go (no h) (yes k) = same-difference-above i j k c d
-        go (no h) (no k) = same-difference-self i j (omega arith)
+        go : Dec (k < j) → Dec (j < k) → Same j k
+        go (yes q) p = same-before j k q h
+        go (no q) (yes p) = same-behind j k p l
+        go (no q) (no p) = same-itself j k (omega arith) h
 
   alike-of-isAlike : (s t : ℕ) → isAlike n s t ≡ true → Alike n s t
   unfolding isAlike
   alike-of-isAlike s t e =
-      let (abc, differences) = and-eq-true-iff _ _ .0 e in
-      let (ab, lines) = and-eq-true-iff _ _ .0 abc in
+      let (abcd, test) = and-eq-true-iff _ _ .0 e in
+      let (abc, lines) = and-eq-true-iff _ _ .0 abcd in
+      let (ab, long) = and-eq-true-iff _ _ .0 abc in
       let (first, second) = and-eq-true-iff _ _ .0 ab in
       record {
         first-served = first;
         second-served = second;
-        same-lines = λ line. same-line-of-sameLines s t line lines;
-        same-differences = same-difference-of-test s t differences;
+        same-lines = map-same-places _ _ (ordered n s) (ordered n t) noCall noCall (eqb-true _ _ long) (line-of-test s t lines test);
+        same-remainders = same-of-test s t lines test;
       }
 
-sameDifference-of-alike : {n : Net} {s t : ℕ} → Alike n s t → (i j : ℕ) → sameDifference n s t i j ≡ true
-unfolding sameDifference
-sameDifference-of-alike {n} {s} {t} a i j = go (callsAt i s (n .calls)) (callsAt j s (n .calls)) (a .same-differences i j)
-  where
-    go : (x y : Bool) → (x ≡ true → y ≡ true → offsetDifference n s i j ≡ offsetDifference n t i j)
-        → (not (x && y) || eqb (offsetDifference n s i j) (offsetDifference n t i j)) ≡ true
-    go true true h = eq-eqb _ _ (h refl refl)
-    go true false h = refl
-    go false y h = refl
-
 isAlike-of-alike : {n : Net} {s t : ℕ} → Alike n s t → isAlike n s t ≡ true
-unfolding isAlike sameLines
-isAlike-of-alike {n} a =
+unfolding isAlike sameLine sameRemainder
+isAlike-of-alike {n} {s} {t} a =
     and-both _ _
-    (and-both _ _ (and-both _ _ (a .first-served) (a .second-served))
-    (allBelow-of-each _ (length (n .periods)) (λ line _. eq-beq _ _ (a .same-lines line))))
-    (allBelow-of-each _ (length (n .periods)) (λ i _. allBelow-of-each _ i (λ j _. sameDifference-of-alike a i j)))
+    (and-both _ _
+    (and-both _ _ (and-both _ _ (a .first-served) (a .second-served)) (eq-eqb _ _ (same-length n s t (a .same-lines))))
+    (allBelow-of-each _ (length (ordered n s)) (λ j h. eq-eqb _ _ (same-line n s t (a .same-lines) j h))))
+    (allBelow-of-each _ (length (ordered n s))
+    (λ j h. allBelow-of-each _ j (λ k l. eq-eqb _ _ (a .same-remainders j k h (omega (arith, h, l))))))
 
 pub alike-is-alike : {n : Net} → Valid n → (s t : ℕ) → (isAlike n s t ≡ true) ↔ Alike n s t
 alike-is-alike v s t = (alike-of-isAlike v s t, isAlike-of-alike)

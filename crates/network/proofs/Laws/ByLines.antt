@@ -18,6 +18,7 @@ use Rattle.network.specs.Rating.{arrivalOf, periodOf, CallsThere, IsStop
 use Rattle.network.specs.ByLines.{LineCallsThere, Reaches, IsLinesGap, IsStopGapOfLines, least-of-lines, period-of-line}
 use Rattle.network.proofs.Laws.Members.{AllPairs}
 use Rattle.network.proofs.Laws.Gap.{distance-comm}
+use Rattle.network.proofs.Laws.Often.{no-line-twice}
 use Rattle.network.proofs.Laws.Pairs.{gapOfStop-attained, gapOfStop-single}
 use Rattle.network.proofs.Laws.StopGap.{callAt, IsNumber, served-of-call, call-of-served, callsOfStop-has, callsOfStop-all, callsOfStop-pairs}
 use Rattle.network.proofs.Laws.StopGap.{gapAt, gap-of-calls, stopGap-le-calls, stopGap-is-stop-gap, IsStopGap-served, IsStopGap-unique}
@@ -35,8 +36,8 @@ module _ {n : Net} (valid : Valid n) where
   once-one-call-of-a-line {c = c} {d = d} h k = go (decLt c d) (decLt d c)
     where
       go : Dec (c < d) → Dec (d < c) → c ≡ d
-      go (yes l) m = absurd (valid .once c d l (k .stated) (h .of-line ∙ sym (k .of-line)) (h .at-stop ∙ sym (k .at-stop)))
-      go (no f) (yes l) = absurd (valid .once d c l (h .stated) (k .of-line ∙ sym (h .of-line)) (k .at-stop ∙ sym (h .at-stop)))
+      go (yes l) m = absurd (no-line-twice valid c d l (k .stated) (h .of-line ∙ sym (k .of-line)) (h .at-stop ∙ sym (k .at-stop)))
+      go (no f) (yes l) = absurd (no-line-twice valid d c l (h .stated) (k .of-line ∙ sym (h .of-line)) (k .at-stop ∙ sym (h .at-stop)))
       go (no f) (no g) = omega arith
 
   -- .. so that two calls at a stop are of two lines

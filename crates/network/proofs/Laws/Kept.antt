@@ -7,7 +7,7 @@ use lib.ListN.{length, getD, set, length-set}
 use Rattle.network.specs.declared.Call.{Call}
 use Rattle.network.specs.declared.Network.{Network}
 use Rattle.network.specs.Network.{Net, maxLines, maxCycle, maxStop, maxCalls, cycle, withLine, withCall}
-use Rattle.network.specs.Stored.{netOf, Sound, Latest, Often}
+use Rattle.network.specs.Stored.{netOf, packed, callIn, Sound, Latest, Often}
 use Rattle.network.proofs.Laws.Stored.{lineAdded, callAdded, sound-line, sound-call, call-added}
 use Rattle.network.proofs.Laws.Latest.{latest-call}
 use Rattle.network.proofs.Laws.Often.{often-call}
@@ -32,17 +32,17 @@ module _ (n : Network) (often latest : List ℕ) (k : Kept n often latest) where
         latest-is = k .latest-is;
       }
 
-  pub kept-call : (call : Call) → n .calls < maxCalls → call .line < maxLines → call .stop ≤ maxStop
-      → Kept (callAdded n call) (set often (call .stop * 16 + call .line) (getD often (call .stop * 16 + call .line) 0 + 1)) (set latest (call .line) (call .offset + 1))
+  pub kept-call : (code : ℕ) (call : Call) → code ≡ packed call → callIn code ≡ call → n .calls < maxCalls → call .line < maxLines → call .stop ≤ maxStop
+      → Kept (callAdded n code) (set often (call .stop * 16 + call .line) (getD often (call .stop * 16 + call .line) 0 + 1)) (set latest (call .line) (call .offset + 1))
   unfolding withCall
-  kept-call call room low high =
+  kept-call code call d e room low high =
       record {
-        sound = sound-call n (k .sound) call room;
+        sound = sound-call n (k .sound) code room (ap packed e ∙ sym d);
         often-row = length-set often _ _ ∙ k .often-row;
         often-is = subst (Often _) (sym grown) (often-call often (netOf n .calls) call (k .often-row) low high (k .often-is));
         latest-row = length-set latest _ _ ∙ k .latest-row;
         latest-is = subst (Latest _) (sym grown) (latest-call latest (netOf n .calls) call (k .latest-row) low (k .latest-is));
       }
     where
-      grown : netOf (callAdded n call) .calls ≡ netOf n .calls ++ (call ∷ [])
-      grown = ap (λ (m : Net). m .calls) (call-added n (k .sound) call room)
+      grown : netOf (callAdded n code) .calls ≡ netOf n .calls ++ (call ∷ [])
+      grown = ap (λ (m : Net). m .calls) (call-added n (k .sound) code room call e)

@@ -9,7 +9,7 @@ use native.Mathlib.Nat.{le-of-suc-le-suc, eq-or-lt-of-le, zero-lt-suc}
 use native.Mathlib.Omega.{arith}
 use lib.ListN.{length, getD, length-append, List·getD-append}
 use lib.Seq.{take-length, getD-append-add}
-use Rattle.network.specs.Lists.{pick, any, keep, below, sumOf}
+use Rattle.network.specs.Lists.{pick, any, keep, below, sumOf, pairsOf}
 use Rattle.network.proofs.Laws.Lists.{zero-ne-one, any-take-found}
 
 -- ---- `d` is what is read behind a list's end
@@ -162,3 +162,25 @@ pub sumOf-cong : {A : Type 0} (d : A) (f g : A → ℕ) (xs : List A) → All d 
 unfolding sumOf
 sumOf-cong d f g [] h = refl
 sumOf-cong d f g (x ∷ xs) h = ap₂ _+_ (h 0 (zero-lt-suc _)) (sumOf-cong d f g xs (all-tail d (λ a. f a ≡ g a) x xs h))
+
+-- ---- two lists, place by place
+
+module _ {A B C : Type 0} (f : A → C) (g : B → C) where
+  pub map-same-places : (xs : List A) (ys : List B) (d : A) (e : B) → length xs ≡ length ys
+      → ((i : ℕ) → i < length xs → f (getD xs i d) ≡ g (getD ys i e)) → map f xs ≡ map g ys
+  map-same-places [] [] d e m h = refl
+  map-same-places [] (y ∷ ys) d e m h = absurd (omega (arith, m))
+  map-same-places (x ∷ xs) [] d e m h = absurd (omega (arith, m))
+  map-same-places (x ∷ xs) (y ∷ ys) d e m h =
+      ap₂ _∷_ (h 0 (zero-lt-suc _)) (map-same-places xs ys d e (omega (arith, m)) (λ i l. h (suc i) (suc-le-suc l)))
+
+pub pairsOf-same-places : {A : Type 0} (f : A → A → ℕ) (xs ys : List A) (d : A) → length xs ≡ length ys
+    → ((j k : ℕ) → j < k → k < length xs → f (getD xs j d) (getD xs k d) ≡ f (getD ys j d) (getD ys k d)) → pairsOf f xs ≡ pairsOf f ys
+unfolding pairsOf
+pairsOf-same-places f [] [] d m h = refl
+pairsOf-same-places f [] (y ∷ ys) d m h = absurd (omega (arith, m))
+pairsOf-same-places f (x ∷ xs) [] d m h = absurd (omega (arith, m))
+pairsOf-same-places f (x ∷ xs) (y ∷ ys) d m h =
+    let shorter : length xs ≡ length ys = omega (arith, m) in
+    ap₂ _++_ (map-same-places (f x) (f y) xs ys d d shorter (λ i l. h 0 (suc i) (zero-lt-suc i) (suc-le-suc l)))
+    (pairsOf-same-places f xs ys d shorter (λ j k l o. h (suc j) (suc k) (suc-le-suc l) (suc-le-suc o)))

@@ -1,5 +1,5 @@
--- Laws of the table that has how often each line calls at each stop: one call more is one more at its line and stop, and at no other,
--- since each two have a place of their own. Assumes nothing.
+-- How often a line calls at a stop: one call more is one more at its line and stop, and at no other; so for the table that has the numbers, since
+-- each line at each stop has a place of its own; and no line calls at a stop twice. Assumes nothing.
 use Prim.Native.Nat.{ℕ, _*_, _+_, _<_, _≤_}
 use mathlib.Core.Path.{_≡_, refl, sym, ap, _∙_}
 use mathlib.Core.Bool.{Bool, true, false, _&&_, and-false}
@@ -12,9 +12,11 @@ use lib.Seq.{getD-set-same, getD-set-other}
 use borrow.Author.Tests.{eq-eqb, ne-eqb}
 use Rattle.network.specs.declared.Call.{Call}
 use Rattle.network.specs.Lists.{pick, keep}
-use Rattle.network.specs.Network.{maxLines, maxStop, howOftenAt}
+use Rattle.network.specs.Network.{Net, maxLines, maxStop, maxCallsAtStop, howOftenAt}
 use Rattle.network.specs.Stored.{Often}
+use Rattle.network.specs.Valid.{noCall, Valid}
 use Rattle.network.proofs.Laws.Lists.{and-both}
+use Rattle.network.proofs.Laws.Members.{keep-has-pair}
 use Rattle.network.proofs.Laws.Scan.{keep-append}
 
 module _ (line stop : ℕ) (cs : List Call) (c : Call) where
@@ -43,6 +45,30 @@ module _ (line stop : ℕ) (cs : List Call) (c : Call) where
       other : Dec (c .line ≡ line) → (eqb (c .line) line && eqb (c .stop) stop) ≡ false
       other (yes e) = rw (ne-eqb _ _ (f e)) (and-false (eqb (c .line) line))
       other (no d) = rw (ne-eqb _ _ d) refl
+
+  -- a line that may call there once more still calls there at most as often as it may
+  pub often-more : howOftenAt line stop cs ≤ maxCallsAtStop → howOftenAt (c .line) (c .stop) cs < maxCallsAtStop
+      → howOftenAt line stop (cs ++ (c ∷ [])) ≤ maxCallsAtStop
+  often-more few free = go (ℕ-discrete (c .line) line) (ℕ-discrete (c .stop) stop)
+    where
+      go : Dec (c .line ≡ line) → Dec (c .stop ≡ stop) → howOftenAt line stop (cs ++ (c ∷ [])) ≤ maxCallsAtStop
+      go (yes e) (yes f) = rw (once-more e f, ← e, ← f) (omega (arith, free))
+      go (yes e) (no g) = rw (as-often (λ _. g)) few
+      go (no g) q = rw (as-often (λ e _. g e)) few
+
+-- ---- no line calls twice at a stop
+
+pub no-line-twice : {n : Net} → Valid n → (j k : ℕ) → j < k → k < length (n .calls)
+    → getD (n .calls) j noCall .line ≡ getD (n .calls) k noCall .line → getD (n .calls) j noCall .stop ≡ getD (n .calls) k noCall .stop → ⊥
+unfolding howOftenAt
+no-line-twice {n} v j k h l e f =
+    let isIt : Call → Bool = λ (c : Call). eqb (c .line) (getD (n .calls) k noCall .line) && eqb (c .stop) (getD (n .calls) k noCall .stop) in
+    let first : isIt (getD (n .calls) j noCall) ≡ true = and-both _ _ (eq-eqb _ _ e) (eq-eqb _ _ f) in
+    let second : isIt (getD (n .calls) k noCall) ≡ true = and-both _ _ (eq-eqb (getD (n .calls) k noCall .line) _ refl) (eq-eqb (getD (n .calls) k noCall .stop) _ refl) in
+    let (p, q, m, o, _, _) = keep-has-pair noCall isIt (n .calls) j k h l first second in
+    omega (arith, m, o, v .often (getD (n .calls) k noCall .line) (getD (n .calls) k noCall .stop))
+
+-- ---- the table
 
 pub often-none : (often : List ℕ) → ((place : ℕ) → getD often place 0 ≡ 0) → Often often []
 unfolding Often howOftenAt keep

@@ -2,11 +2,12 @@
 -- behind those that count, and what a command tells says how the reading goes on. Assumes nothing.
 use Prim.Native.Nat.{ℕ, _+_, _<_, _≤_}
 use mathlib.Core.Path.{_≡_, refl, sym, ap, subst, _∙_}
-use mathlib.Core.List.{List}
+use mathlib.Core.List.{List, [], _∷_, _++_}
 use mathlib.Core.Logic.{inl, inr}
+use native.Mathlib.Decide.{ℕ-discrete}
 use native.Mathlib.Omega.{arith}
-use lib.ListN.{length, getD, take, set, length-set}
-use lib.Seq.{length-take-le, getD-take}
+use lib.ListN.{length, getD, take, set, length-set, length-map}
+use lib.Seq.{length-take-le, getD-take, getD-set-same, getD-set-other}
 use Rattle.network.specs.declared.Call.{Call}
 use Rattle.network.specs.declared.Check.the-variants.{Passes}
 use Rattle.network.specs.declared.Network.{Network}
@@ -15,35 +16,38 @@ use Rattle.network.specs.Network.{netWith, SoFar, withNetwork, Command, 
 use Rattle.network.specs.Network.{maxLines, maxCycle, maxStop, maxCalls, maxCallsAtStop, cycle, howOftenAt, word, callOf, withLine, withCall}
 use Rattle.network.specs.Valid.{Valid, noCall}
 use Rattle.network.specs.Grounds.{first, grounds}
-use Rattle.network.specs.Stored.{netOf, Sound, HasSize, Tells}
+use Rattle.network.specs.Stored.{netOf, packed, callIn, callsIn, Sound, HasSize, Tells}
 use Rattle.network.proofs.Laws.Divisor.{lcm-pos}
 use Rattle.network.proofs.Laws.Grounds.{CallFits, line-passes, offset-passes, ride-passes}
-use Rattle.network.proofs.Laws.Lists.{zero-ne-one, take-set-next}
+use Rattle.network.proofs.Laws.Lists.{zero-ne-one, map-set, take-set-next}
 use Rattle.network.proofs.Laws.Network.{cycle-withLine}
 
 pub held-lines : (n : Network) → Sound n → length (netOf n .periods) ≡ n .lines
 unfolding netOf
 held-lines n s = length-take-le (n .lines) (n .periods) (omega (arith, s .lines, s .periods-row))
 
+pub length-held : (n : Network) → Sound n → length (callsIn (n .list)) ≡ maxCalls
+length-held n s = length-map (n .list) callIn ∙ s .list-row
+
 pub held-calls : (n : Network) → Sound n → length (netOf n .calls) ≡ n .calls
 unfolding netOf
-held-calls n s = length-take-le (n .calls) (n .list) (omega (arith, s .calls, s .list-row))
+held-calls n s = length-take-le (n .calls) (callsIn (n .list)) (omega (arith, s .calls, length-held n s))
 
 pub held-period : (n : Network) (line : ℕ) → line < n .lines → getD (netOf n .periods) line 0 ≡ getD (n .periods) line 0
 unfolding netOf
 held-period n line h = getD-take (n .lines) (n .periods) line 0 h
 
-pub held-call : (n : Network) (k : ℕ) → k < n .calls → getD (netOf n .calls) k noCall ≡ getD (n .list) k noCall
+pub held-call : (n : Network) (k : ℕ) → k < n .calls → getD (netOf n .calls) k noCall ≡ getD (callsIn (n .list)) k noCall
 unfolding netOf
-held-call n k h = getD-take (n .calls) (n .list) k noCall h
+held-call n k h = getD-take (n .calls) (callsIn (n .list)) k noCall h
 
 -- The calls that count are of stated lines, whose periods are at least 1
 module _ (n : Network) (s : Sound n) (v : Valid (netOf n)) where
-  pub held-call-line : (k : ℕ) → k < n .calls → getD (n .list) k noCall .line < n .lines
+  pub held-call-line : (k : ℕ) → k < n .calls → getD (callsIn (n .list)) k noCall .line < n .lines
   held-call-line k h =
       rw (held-lines n s) at (rw (held-call n k h) at (v .call-line k (rw (held-calls n s) h)))
 
-  pub held-call-stop : (k : ℕ) → k < n .calls → getD (n .list) k noCall .stop ≤ maxStop
+  pub held-call-stop : (k : ℕ) → k < n .calls → getD (callsIn (n .list)) k noCall .stop ≤ maxStop
   held-call-stop k h = rw (held-call n k h) at (v .call-stop k (rw (held-calls n s) h))
 
   pub held-period-pos : (line : ℕ) → line < n .lines → 0 < getD (n .periods) line 0
@@ -55,16 +59,16 @@ abbrev pub lineAdded : Network → ℕ → ℕ → Network
 lineAdded n period common =
     record { lines = n .lines + 1; periods = set (n .periods) (n .lines) period; calls = n .calls; list = n .list; cycle = common }
 
-abbrev pub callAdded : Network → Call → Network
-callAdded n call =
-    record { lines = n .lines; periods = n .periods; calls = n .calls + 1; list = set (n .list) (n .calls) call; cycle = n .cycle }
+abbrev pub callAdded : Network → ℕ → Network
+callAdded n code =
+    record { lines = n .lines; periods = n .periods; calls = n .calls + 1; list = set (n .list) (n .calls) code; cycle = n .cycle }
 
 module _ (n : Network) (s : Sound n) where
   module _ (period common : ℕ) (room : n .lines < maxLines) where
     pub line-added : netOf (lineAdded n period common) ≡ withLine (netOf n) period
     unfolding netOf withLine
     line-added =
-        ap (λ (ps : List ℕ). netWith ps (take (n .calls) (n .list)))
+        ap (λ (ps : List ℕ). netWith ps (take (n .calls) (callsIn (n .list))))
         (take-set-next (n .periods) (n .lines) period (omega (arith, s .periods-row)))
 
     pub sound-line : 0 < common → common ≤ maxCycle → common ≡ cycle (withLine (netOf n) period) → Sound (lineAdded n period common)
@@ -74,30 +78,45 @@ module _ (n : Network) (s : Sound n) where
           list-row = s .list-row;
           lines = omega arith;
           calls = s .calls;
+          packs = s .packs;
           cycle-is = is ∙ ap cycle (sym line-added);
           cycle-pos = pos;
           cycle-le = low;
         }
 
-  module _ (call : Call) (room : n .calls < maxCalls) where
-    pub call-added : netOf (callAdded n call) ≡ withCall (netOf n) call
+  module _ (code : ℕ) (room : n .calls < maxCalls) where
+    pub call-added : (call : Call) → callIn code ≡ call → netOf (callAdded n code) ≡ withCall (netOf n) call
     unfolding netOf withCall
-    call-added =
-        ap (λ (cs : List Call). netWith (take (n .lines) (n .periods)) cs)
-        (take-set-next (n .list) (n .calls) call (omega (arith, s .list-row)))
+    call-added call e =
+        ap (λ (cs : List Call). netWith (take (n .lines) (n .periods)) (take (n .calls + 1) cs)) (map-set callIn (n .list) (n .calls) code)
+        ∙ ap (λ (cs : List Call). netWith (take (n .lines) (n .periods)) cs)
+        (take-set-next (callsIn (n .list)) (n .calls) (callIn code) (omega (arith, length-held n s)))
+        ∙ ap (λ (c : Call). netWith (take (n .lines) (n .periods)) (take (n .calls) (callsIn (n .list)) ++ (c ∷ []))) e
 
-    pub sound-call : Sound (callAdded n call)
+    pub sound-call : packed (callIn code) ≡ code → Sound (callAdded n code)
     unfolding netOf cycle
-    sound-call =
+    sound-call packs =
         record {
           periods-row = s .periods-row;
-          list-row = length-set (n .list) (n .calls) call ∙ s .list-row;
+          list-row = length-set (n .list) (n .calls) code ∙ s .list-row;
           lines = s .lines;
           calls = omega arith;
+          packs = λ i h. packs-at i h (ℕ-discrete i (n .calls));
           cycle-is = s .cycle-is;
           cycle-pos = s .cycle-pos;
           cycle-le = s .cycle-le;
         }
+      where
+        row : List ℕ
+        row = set (n .list) (n .calls) code
+
+        packs-at : (i : ℕ) → i < n .calls + 1 → Dec (i ≡ n .calls) → packed (callIn (getD row i 0)) ≡ getD row i 0
+        packs-at i h (yes e) =
+            let there : getD row i 0 ≡ code = ap (λ (k : ℕ). getD row k 0) e ∙ getD-set-same (n .list) (n .calls) code 0 (omega (arith, s .list-row)) in
+            ap (λ (k : ℕ). packed (callIn k)) there ∙ packs ∙ sym there
+        packs-at i h (no f) =
+            let there : getD row i 0 ≡ getD (n .list) i 0 = getD-set-other (n .list) (n .calls) i code 0 f in
+            ap (λ (k : ℕ). packed (callIn k)) there ∙ s .packs i (omega (arith, h, f)) ∙ sym there
 
 -- The numbers of a network that is held are those that the grounds ask for
 pub has-size : (n : Network) → Sound n → HasSize (netOf n) (record { lines = n .lines; calls = n .calls; cycle = n .cycle })

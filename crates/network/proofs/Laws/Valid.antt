@@ -1,26 +1,24 @@
 -- Every network that the reader accepts is within the limits of document 01: each command that passes keeps them, and the last shows what
 -- only a whole network has. And the laws of its common cycle, which are those of a least common multiple. Assumes nothing.
 use Prim.Native.Nat.{ℕ, suc, _+_, _≤_, _<_}
-use mathlib.Core.Path.{_≡_, refl, sym, ap, subst, _∙_}
-use mathlib.Core.Bool.{false, _&&_}
+use mathlib.Core.Path.{_≡_, refl, sym, ap, subst}
 use mathlib.Core.List.{List, [], _∷_}
 use native.Mathlib.Omega.{arith}
-use lib.Dec.{eqb}
 use lib.ListN.{length, getD, length-append}
-use lib.Seq.{getD-drop, take-length}
-use borrow.Author.Tests.{eq-eqb, lt-leb}
+use lib.Seq.{getD-drop}
 use Rattle.network.specs.declared.Call.{Call}
 use Rattle.network.specs.declared.Check.the-variants.{Passes}
 use Rattle.network.specs.Divisor.{Divides, cycleFrom, commonCycle}
+use Rattle.network.specs.Lists.{keep}
 use Rattle.network.specs.Network.{Net, SoFar, emptyNet, Command, statesLine, callsByOffset, callsByRide, ends, unknown}
-use Rattle.network.specs.Network.{maxLines, maxPeriod, maxCycle, maxStop, maxOffset, maxCallsAtStop, cycle, callsAt, howOftenAt, command, operandBytes}
-use Rattle.network.specs.Network.{word, lineOperand, stopOperand, statedOffset, withLine, withCall, callOf, extend}
+use Rattle.network.specs.Network.{maxLines, maxPeriod, maxCycle, maxStop, maxOffset, maxCallsAtStop, cycle, howOftenAt, command, operandBytes}
+use Rattle.network.specs.Network.{word, statedOffset, withLine, withCall, callOf, extend}
 use Rattle.network.specs.Grounds.{first, grounds}
 use Rattle.network.specs.Reading.{Reading, readFile, accepted, refused, Outcome, values, refusal, readOutcome}
 use Rattle.network.specs.Gives.{Reached, start, next, Gives, accepts}
 use Rattle.network.specs.Valid.{IsBytes, noCall, Valid}
-use Rattle.network.proofs.Laws.Lists.{zero-ne-one, and-both, any-take-found, snoc-all, snoc-pairs}
-use Rattle.network.proofs.Laws.Network.{howOftenAt-some}
+use Rattle.network.proofs.Laws.Lists.{zero-ne-one, snoc-all}
+use Rattle.network.proofs.Laws.Often.{often-more}
 use Rattle.network.proofs.Laws.Divisor.{commonCycle-snoc, period-divides-commonCycle, commonCycle-least, commonCycle-pos}
 use Rattle.network.proofs.Laws.Grounds.{LineFits, CallFits, line-passes, offset-passes, ride-passes, end-passes}
 use Rattle.network.proofs.Laws.Reading.{reached-within, readFile-gives}
@@ -33,16 +31,10 @@ record Sound (n : Net) : Type 0 where
   call-line : (k : ℕ) → k < length (n .calls) → getD (n .calls) k noCall .line < length (n .periods)
   call-stop : (k : ℕ) → k < length (n .calls) → getD (n .calls) k noCall .stop ≤ maxStop
   call-offset : (k : ℕ) → k < length (n .calls) → getD (n .calls) k noCall .offset ≤ maxOffset
-  once :
-      (j k : ℕ)
-      → j < k
-      → k < length (n .calls)
-      → getD (n .calls) j noCall .line ≡ getD (n .calls) k noCall .line
-      → getD (n .calls) j noCall .stop ≡ getD (n .calls) k noCall .stop
-      → ⊥
+  often : (line stop : ℕ) → howOftenAt line stop (n .calls) ≤ maxCallsAtStop
 
 sound-empty : Sound emptyNet
-unfolding cycle commonCycle cycleFrom
+unfolding cycle commonCycle cycleFrom howOftenAt keep
 sound-empty = omega arith
 
 sound-line : (n : Net) (behind : List ℕ) → LineFits n behind → Sound n → Sound (withLine n (word behind 0))
@@ -56,21 +48,8 @@ sound-line n behind f s =
       call-line = λ k h. omega (arith, s .call-line k h, length-append (n .periods) (t ∷ []));
       call-stop = s .call-stop;
       call-offset = s .call-offset;
-      once = s .once;
+      often = s .often;
     }
-
--- A line that may call once more at a stop doesn't call there yet
-not-yet : (line stop : ℕ) (cs : List Call) → howOftenAt line stop cs < maxCallsAtStop → callsAt line stop cs ≡ false
-not-yet line stop cs h = sym (howOftenAt-some line stop cs) ∙ lt-leb 1 (howOftenAt line stop cs) h
-
-not-called : (line stop : ℕ) (cs : List Call) (j : ℕ) → callsAt line stop cs ≡ false → j < length cs → getD cs j noCall .line ≡ line
-    → getD cs j noCall .stop ≡ stop → ⊥
-unfolding callsAt
-not-called line stop cs j e h f g =
-    let passes = and-both _ _ (eq-eqb _ _ f) (eq-eqb _ _ g) in
-    let called = any-take-found (λ (c : Call). eqb (c .line) line && eqb (c .stop) stop) cs j (length cs) noCall h h passes in
-    let again = rw take-length at called in
-    zero-ne-one (cc)
 
 sound-call : (c : Command) (n : Net) (behind : List ℕ) (offset : ℕ) → CallFits c n behind → offset ≤ maxOffset → Sound n
     → Sound (withCall n (callOf behind offset))
@@ -84,8 +63,7 @@ sound-call c n behind offset f o s =
       call-line = snoc-all call noCall (λ d. d .line < length (n .periods)) (n .calls) (s .call-line) (f .line);
       call-stop = snoc-all call noCall (λ d. d .stop ≤ maxStop) (n .calls) (s .call-stop) (f .stop);
       call-offset = snoc-all call noCall (λ d. d .offset ≤ maxOffset) (n .calls) (s .call-offset) o;
-      once = snoc-pairs call noCall (λ d e. d .line ≡ e .line → d .stop ≡ e .stop → ⊥) (n .calls) (s .once)
-          (λ j h. not-called (lineOperand behind) (stopOperand behind) (n .calls) j (not-yet _ _ (n .calls) (f .often)) h);
+      often = λ line stop. often-more line stop (n .calls) call (s .often line stop) (f .often);
     }
 
 stated-max : (bs : List ℕ) → IsBytes bs → statedOffset bs ≤ maxOffset
@@ -129,7 +107,7 @@ module _ {file : List ℕ} (bytes : IsBytes file) where
         call-line = s .call-line;
         call-stop = s .call-stop;
         call-offset = s .call-offset;
-        once = s .once;
+        often = s .often;
         every-line-calls = end .every-line-calls;
       }
 

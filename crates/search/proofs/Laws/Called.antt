@@ -18,7 +18,7 @@ use Rattle.network.specs.Network.{Net, isServed, maxStop, maxPeriod}
 use Rattle.network.specs.Rating.{pairGaps, callsOfStop, servedList, counted, ratingBy, noRating}
 use Rattle.network.specs.Reading.{accepted}
 use Rattle.network.specs.Scan.{leastFrom, lastAt, LeadsBack, countedStops}
-use Rattle.network.specs.Stored.{netOf, Sound}
+use Rattle.network.specs.Stored.{netOf, callsIn, Sound}
 use Rattle.network.specs.Valid.{Valid, noCall}
 use Rattle.network.proofs.Laws.Gaps.{ratingBy-same, counted-of-member, counted-served, ratingBy-counted}
 use Rattle.network.proofs.Laws.Gaps.{getD-zeros}
@@ -135,10 +135,10 @@ module _
   pub count-is : by .calls ≡ length (netOf network .calls)
   count-is = sym (held-calls by by-sound) ∙ ap (λ (cs : List Call). length cs) calls-are ∙ length-inOrder
 
-  pub call-at : (i : ℕ) → i < length (netOf network .calls) → getD (by .list) i noCall ≡ getD inOrder i noCall
+  pub call-at : (i : ℕ) → i < length (netOf network .calls) → getD (callsIn (by .list)) i noCall ≡ getD inOrder i noCall
   call-at i h = sym (held-call by i (omega (arith, h, count-is))) ∙ ap (λ (cs : List Call). getD cs i noCall) calls-are
 
-  pub stops-low : (i : ℕ) → i < by .calls → getD (by .list) i noCall .stop < 64
+  pub stops-low : (i : ℕ) → i < by .calls → getD (callsIn (by .list)) i noCall .stop < 64
   stops-low i h =
       omega (
         arith,
@@ -149,15 +149,15 @@ module _
 
   module _
       (stops lines offsets previous divisors first : List ℕ)
-      (stop-of : (i : ℕ) → i < by .calls → getD stops i 0 ≡ getD (by .list) i noCall .stop)
-      (line-of : (i : ℕ) → i < by .calls → getD lines i 0 ≡ getD (by .list) i noCall .line)
-      (offset-of : (i : ℕ) → i < by .calls → getD offsets i 0 ≡ getD (by .list) i noCall .offset)
-      (leads : LeadsBack previous (by .list) (by .calls))
+      (stop-of : (i : ℕ) → i < by .calls → getD stops i 0 ≡ getD (callsIn (by .list)) i noCall .stop)
+      (line-of : (i : ℕ) → i < by .calls → getD lines i 0 ≡ getD (callsIn (by .list)) i noCall .line)
+      (offset-of : (i : ℕ) → i < by .calls → getD offsets i 0 ≡ getD (callsIn (by .list)) i noCall .offset)
+      (leads : LeadsBack previous (callsIn (by .list)) (by .calls))
       (divisor-of : (i j : ℕ) → i < 16 → j < 16 → getD divisors (i * 16 + j) 0 ≡ withReciprocal (gcd (getD (network .periods) j 0) (getD (network .periods) i 0)))
       (first-of : (k : ℕ) → k ≤ length (netOf network .periods) → getD first k 0 ≡ length (byLine (netOf network .calls) k)) where
     pub leads-in-order : LeadsBack previous inOrder (length (netOf network .calls))
     unfolding LeadsBack
-    leads-in-order = leads-same previous (by .list) inOrder (length (netOf network .calls)) call-at (λ j b. leads j (omega (arith, b, count-is)))
+    leads-in-order = leads-same previous (callsIn (by .list)) inOrder (length (netOf network .calls)) call-at (λ j b. leads j (omega (arith, b, count-is)))
 
     pub divisor-in-order :
         (i j : ℕ)

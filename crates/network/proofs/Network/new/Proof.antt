@@ -9,7 +9,7 @@ use Rattle.network.proofs.Network.new.Tie as tie
 
 returns : tie.Need-returns
 unfolding netOf cycle commonCycle cycleFrom
-returns c = (record { periods-row = refl; list-row = refl; lines = omega arith; calls = omega arith; cycle-is = refl; cycle-pos = omega arith; cycle-le = omega arith }, refl)
+returns c = (record { periods-row = refl; list-row = refl; lines = omega arith; calls = omega arith; packs = λ i h. absurd (omega (arith, h)); cycle-is = refl; cycle-pos = omega arith; cycle-le = omega arith }, refl)
 
 pub new-spec : {M : Type 1} → statement M
 new-spec = tie.close (tie.spec returns)

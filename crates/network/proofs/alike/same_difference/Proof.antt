@@ -1,107 +1,109 @@
--- `network::alike::same_difference` meets its contract, by the tests of the two marks. Assumes nothing.
-use Prim.Native.Nat.{ℕ, _<_, _≤_}
-use mathlib.Core.Path.{_≡_, refl, sym, _∙_}
-use mathlib.Core.Bool.{true, and-false}
-use mathlib.Core.List.{List}
+-- `network::alike::same_difference` meets its contract: the calls that are read are those at the places of the two stops, and where both stops
+-- have the same lines one divisor serves both. Assumes nothing.
+use Prim.Native.Nat.{_<_}
+use mathlib.Core.Path.{_≡_, _∙_}
 use native.Mathlib.Omega.{arith}
-use borrow.Author.Tests.{lt-ltb, le-ltb}
-use lib.Dec.{eqb, ltb}
-use lib.IntN.{pos, _-ℤ_}
-use lib.ListN.{getD}
-use Rattle.network.specs.Divisor.{gcd}
-use Rattle.network.specs.Gap.{residue}
-use Rattle.network.specs.Offsets.{markIn, sameDifferenceIn}
 use borrow.Author.Needs.{needs}
+use lib.ListN.{length, getD}
+use Rattle.network.specs.Rating.{periodOf}
+use Rattle.network.specs.Classes.{ordered, orderedCall}
+use Rattle.network.proofs.Laws.Placed.{ordered-le-maxAtStop, call-there, period-there, same-remainder-of-rows}
 use Rattle.network.proofs.alike.same_difference.Statement.{statement}
 use Rattle.network.proofs.alike.same_difference.Tie as tie
 
-module _ (marks periods : List ℕ) (s t i j : ℕ) where
-  abbrev g : ℕ
-  g = gcd (getD periods i 0) (getD periods j 0)
+-- The places are within the stops' runs
+low : (s : tie.Start) → (s .args .first < 64) × (s .args .second < 64) × (s .args .place < 16) × (s .args .before < 16)
+low s =
+    let (h, l, p, b) = s .pre in
+    let few = ordered-le-maxAtStop (h .valid) (s .args .first) in
+    (omega (arith, l .first-low), omega (arith, l .second-low), omega (arith, p, few), omega (arith, p, b, few))
 
-  both-call :
-      (a b c d : ℕ)
-      → a ≡ markIn marks i s
-      → b ≡ markIn marks j s
-      → c ≡ markIn marks i t
-      → d ≡ markIn marks j t
-      → 0 < a
-      → 0 < b
-      → sameDifferenceIn marks periods s t i j ≡ eqb (residue (pos a -ℤ pos b) g) (residue (pos c -ℤ pos d) g)
-  unfolding sameDifferenceIn
-  both-call a b c d ea eb ec ed h k = rw (← ea, ← eb, ← ec, ← ed, lt-ltb 0 a h, lt-ltb 0 b k) refl
+call-at-requires : tie.Need-call-at-requires
+call-at-requires c κs = let l = low c in (l .0, l .2)
 
-  first-absent : markIn marks i s ≤ 0 → sameDifferenceIn marks periods s t i j ≡ true
-  unfolding sameDifferenceIn
-  first-absent h = rw (le-ltb 0 (markIn marks i s) h) refl
+call-at-requires-2 : tie.Need-call-at-requires-2
+call-at-requires-2 c κs = let l = low (c .before) in (l .0, l .3)
 
-  second-absent : markIn marks j s ≤ 0 → sameDifferenceIn marks periods s t i j ≡ true
-  unfolding sameDifferenceIn
-  second-absent h = rw (le-ltb 0 (markIn marks j s) h, and-false (ltb 0 (markIn marks i s))) refl
+call-at-requires-3 : tie.Need-call-at-requires-3
+call-at-requires-3 c κs = let l = low (c .before .before) in (l .1, l .2)
 
-mark-requires : tie.Need-mark-requires
-mark-requires c κs = search needs
+call-at-requires-4 : tie.Need-call-at-requires-4
+call-at-requires-4 c κs = let l = low (c .before .before .before) in (l .1, l .3)
 
-mark-requires-2 : tie.Need-mark-requires-2
-mark-requires-2 c κs = search needs
+-- The two calls at the first stop, whose lines have a period
+module _ (c : tie.After-call-at2) where
+  abbrev start : tie.Start
+  start = c .before .before
 
-mark-requires-3 : tie.Need-mark-requires-3
-mark-requires-3 c κs = search needs
+  here : (getD (start .args .periods .now) (c .before .call-at .result .line) 0 ≡ periodOf (start .pre .0 .net) (orderedCall (start .pre .0 .net) (start .args .first) (start .args .place)))
+      × (0 < getD (start .args .periods .now) (c .before .call-at .result .line) 0)
+      × (c .before .call-at .result .line < 16)
+  here =
+      let (h, l, p, b) = start .pre in
+      period-there _ _ h (start .args .first) (start .args .place) (c .before .call-at .result)
+      (c .before .call-at .ensures ∙ call-there _ _ h (start .args .first) (start .args .place) (l .first-low) p) p
 
-mark-requires-4 : tie.Need-mark-requires-4
-mark-requires-4 c κs = search needs
+  earlier : c .call-at2 .result .line < 16
+  earlier =
+      let (h, l, p, b) = start .pre in
+      let q : start .args .before < length (ordered (h .net) (start .args .first)) = omega (arith, p, b) in
+      period-there _ _ h (start .args .first) (start .args .before) (c .call-at2 .result)
+      (c .call-at2 .ensures ∙ call-there _ _ h (start .args .first) (start .args .before) (l .first-low) q) q .2
+
+cast-same-remainder : tie.Need-cast-same-remainder
+cast-same-remainder c = search needs
 
 mul-same-remainder : tie.Need-mul-same-remainder
 mul-same-remainder c = search needs
 
 element-copy-out-same-remainder : tie.Need-element-copy-out-same-remainder
-element-copy-out-same-remainder c = search needs
+element-copy-out-same-remainder c = here (c .before .before .before) .2
+
+cast-same-remainder-2 : tie.Need-cast-same-remainder-2
+cast-same-remainder-2 c = search needs
 
 mul-same-remainder-2 : tie.Need-mul-same-remainder-2
 mul-same-remainder-2 c = search needs
 
 element-copy-out-same-remainder-2 : tie.Need-element-copy-out-same-remainder-2
-element-copy-out-same-remainder-2 c = search needs
+element-copy-out-same-remainder-2 c = earlier (c .before .before .before .before .before)
 
 same-remainder-requires : tie.Need-same-remainder-requires
-same-remainder-requires c κs = search needs
+same-remainder-requires c κs = here (c .before .before .before .before .before .before) .1
 
 returns : tie.Need-returns
-returns c =
-    let m = c .before .before .before in
-    let k = m .before .before in
-    let s = k .before .before .before .before in
+returns c h l p =
+    let s = c .before .before .before .before .before .before .before .before .before in
+    let first = s .args .first in
+    let second = s .args .second in
+    let place = s .args .place in
+    let before = s .args .before in
+    let q : before < length (ordered (h .net) first) = omega (arith, p, s .pre .3) in
+    let there = call-there (s .args .codes .now) (s .args .periods .now) h in
     c .same-remainder .ensures
-    ∙ sym (both-call (s .args .marks .now) (s .args .periods .now) (s .args .first) (s .args .second) (s .args .line) (s .args .other) _ _ _ _
-    (k .before .before .before .mark .ensures) (k .before .before .mark2 .ensures) (m .before .mark3 .ensures) (m .mark4 .ensures) (k .before .if1 .taken) (k .if2 .taken))
-
-returns-2 : tie.Need-returns-2
-returns-2 c =
-    let s = c .before .before .before .before in
-    sym
-    (second-absent (s .args .marks .now) (s .args .periods .now) (s .args .first) (s .args .second) (s .args .line) (s .args .other)
-    (omega (arith, c .before .before .mark2 .ensures)))
-
-returns-3 : tie.Need-returns-3
-returns-3 c =
-    let s = c .before .before .before in
-    sym
-    (first-absent (s .args .marks .now) (s .args .periods .now) (s .args .first) (s .args .second) (s .args .line) (s .args .other)
-    (omega (arith, c .before .before .mark .ensures)))
+    ∙ same-remainder-of-rows (s .args .codes .now) (s .args .periods .now) h first second l place before
+    (c .before .before .before .before .before .before .before .before .call-at .result)
+    (c .before .before .before .before .before .before .before .call-at2 .result)
+    (c .before .before .before .before .before .before .call-at3 .result)
+    (c .before .before .before .before .before .call-at4 .result) p (s .pre .3)
+    (c .before .before .before .before .before .before .before .before .call-at .ensures ∙ there first place (l .first-low) p)
+    (c .before .before .before .before .before .before .before .call-at2 .ensures ∙ there first before (l .first-low) q)
+    (c .before .before .before .before .before .before .call-at3 .ensures ∙ there second place (l .second-low) (rw (← l .same-length) p))
+    (c .before .before .before .before .before .call-at4 .ensures ∙ there second before (l .second-low) (rw (← l .same-length) q))
 
 pub same-difference-spec : {M : Type 1} → statement M
 same-difference-spec =
     tie.close
     (tie.spec
-    mark-requires
-    mark-requires-2
-    mark-requires-3
-    mark-requires-4
+    call-at-requires
+    call-at-requires-2
+    call-at-requires-3
+    call-at-requires-4
+    cast-same-remainder
     mul-same-remainder
     element-copy-out-same-remainder
+    cast-same-remainder-2
     mul-same-remainder-2
     element-copy-out-same-remainder-2
     same-remainder-requires
-    returns
-    returns-2
-    returns-3)
+    returns)

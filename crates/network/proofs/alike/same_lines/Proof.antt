@@ -1,65 +1,63 @@
--- `network::alike::same_lines` meets its contract. The loop's invariant: every line passed calls at both stops or at neither. Assumes nothing.
-use Prim.Native.Nat.{ℕ, _≤_, _-_}
+-- `network::alike::same_lines` meets its contract. The loop's invariant: every place passed has the same line at both stops. Assumes nothing.
+use Prim.Native.Nat.{_≤_, _-_}
 use mathlib.Core.Path.{_≡_, refl, sym, ap, ap₂, _∙_}
-use mathlib.Core.Bool.{true, Bool·beq}
+use mathlib.Core.Bool.{true}
 use native.Mathlib.Omega.{arith}
 use native.Mathlib.Nat.{le-antisymm}
 use borrow.Author.Needs.{needs}
-use borrow.Author.Tests.{not-true, not-false}
-use lib.Dec.{ltb}
+use borrow.Author.Tests.{eq-eqb, ne-eqb}
+use lib.Dec.{eqb}
+use Rattle.network.specs.declared.Call.{Call}
 use Rattle.network.specs.Lists.{allBelow}
-use Rattle.network.specs.Offsets.{sameLineIn}
+use Rattle.network.specs.Placed.{sameLineIn}
 use Rattle.network.proofs.Laws.Lists.{allBelow-next, allBelow-fails}
 use Rattle.network.proofs.alike.same_lines.Statement.{statement}
 use Rattle.network.proofs.alike.same_lines.Tie as tie
 
 abbrev Inv-loop : tie.InvT-loop
-Inv-loop marks lines first second line₀ line = (line ≤ lines) × (allBelow (sameLineIn marks first second) line ≡ true)
+Inv-loop codes first second count place₀ place = (place ≤ count) × (allBelow (sameLineIn codes first second) place ≡ true)
 
 abbrev μ-loop : tie.MeasureT-loop
-μ-loop marks lines first second line₀ line = lines - line
-
--- What the test of a turn tells
-tested :
-    (c : tie.After-both-or-neither Inv-loop μ-loop)
-    → c .both-or-neither .result
-    ≡ sameLineIn (c .before .before .before .before .before .args .marks .now) (c .before .before .before .before .before .args .first)
-    (c .before .before .before .before .before .args .second) (c .before .before .before .before .loop .line)
-unfolding sameLineIn
-tested c =
-    c .both-or-neither .ensures
-    ∙ ap₂ (λ (a b : ℕ). Bool·beq (ltb 0 a) (ltb 0 b)) (c .before .before .mark .ensures) (c .before .mark2 .ensures)
+μ-loop codes first second count place₀ place = count - place
 
 loop-holds : tie.Need-loop-holds Inv-loop μ-loop
 unfolding allBelow
 loop-holds c = (omega arith, refl)
 
-mark-requires : tie.Need-mark-requires Inv-loop μ-loop
-mark-requires c κs = search needs
+-- What a turn compares
+module _ (c : tie.After-call-at2 Inv-loop μ-loop) where
+  abbrev turn : tie.In-loop Inv-loop μ-loop
+  turn = c .before .before
 
-mark-requires-2 : tie.Need-mark-requires-2 Inv-loop μ-loop
-mark-requires-2 c κs = search needs
+  compared : eqb (c .before .call-at .result .line) (c .call-at2 .result .line)
+      ≡ sameLineIn (turn .before .before .args .codes .now) (turn .before .before .args .first) (turn .before .before .args .second) (turn .before .loop .place)
+  compared = ap₂ (λ (a b : Call). eqb (a .line) (b .line)) (c .before .call-at .ensures) (c .call-at2 .ensures)
 
-both-or-neither-requires : tie.Need-both-or-neither-requires Inv-loop μ-loop
-both-or-neither-requires c κs = search needs
+call-at-requires : tie.Need-call-at-requires Inv-loop μ-loop
+call-at-requires c κs = search needs
+
+call-at-requires-2 : tie.Need-call-at-requires-2 Inv-loop μ-loop
+call-at-requires-2 c κs = search needs
 
 returns : tie.Need-returns Inv-loop μ-loop
 returns c =
-    let l = c .before .before .before .before .before in
+    let t = turn (c .before .before .before) in
     sym
-    (allBelow-fails _ (l .before .args .lines) (l .loop .line) (c .before .before .before .before .loop-test .taken)
-    (sym (tested (c .before)) ∙ not-true _ (c .if1 .taken)))
+    (allBelow-fails _ (t .before .before .args .count) (t .before .loop .place) (t .loop-test .taken)
+    (sym (compared (c .before .before .before)) ∙ ne-eqb _ _ (c .if1 .taken)))
 
-add-line : tie.Need-add-line Inv-loop μ-loop
-add-line c = search needs
+add-place : tie.Need-add-place Inv-loop μ-loop
+add-place c = search needs
 
 loop-less : tie.Need-loop-less Inv-loop μ-loop
 loop-less c = search needs
 
 loop-again : tie.Need-loop-again Inv-loop μ-loop
 loop-again c =
-    let l = c .before .before .before .before .before .loop in
-    (search needs, allBelow-next _ (l .line) (l .inv .1) (sym (tested (c .before)) ∙ not-false _ (c .if1 .left)))
+    let t = turn (c .before .before .before) in (
+      omega (arith, t .loop-test .taken),
+      allBelow-next _ (t .before .loop .place) (t .before .loop .inv .1) (sym (compared (c .before .before .before)) ∙ eq-eqb _ _ (c .if1 .left)),
+    )
 
 returns-2 : tie.Need-returns-2 Inv-loop μ-loop
 returns-2 c =
@@ -73,11 +71,10 @@ same-lines-spec =
     Inv-loop
     μ-loop
     loop-holds
-    mark-requires
-    mark-requires-2
-    both-or-neither-requires
+    call-at-requires
+    call-at-requires-2
     returns
-    add-line
+    add-place
     loop-less
     loop-again
     returns-2)

@@ -1,11 +1,11 @@
--- `network::alike::same_remainder` meets its contract: differences of numbers of 32 bits are far from the ends of 64 bits. Assumes nothing.
+-- `network::alike::same_remainder` meets its contract: differences of numbers of 16 bits are far from the ends of 64 bits. Assumes nothing.
 use Prim.Native.Nat.{ℕ, _<_}
 use mathlib.Core.Path.{_≡_, ap, ap₂, _∙_}
 use native.Mathlib.Omega.{arith}
 use borrow.Author.Needs.{needs}
 use lib.Dec.{eqb}
 use lib.IntN.{ℤ, pos, _-ℤ_}
-use mir.Syntax.{w32, w64}
+use mir.Syntax.{w16, w64}
 use mir.Val.{Fits, SFits, toZ, ofZ}
 use mir.Facts.{toZ-ofZ, toZ-pos}
 use Rattle.network.specs.Divisor as divisor
@@ -16,7 +16,7 @@ use Rattle.network.proofs.alike.same_remainder.Statement.{statement}
 use Rattle.network.proofs.alike.same_remainder.Tie as tie
 
 -- What the code subtracts is the difference of the two numbers
-module _ (x y : ℕ) (fx : Fits w32 x) (fy : Fits w32 y) where
+module _ (x y : ℕ) (fx : Fits w16 x) (fy : Fits w16 y) where
   fits : SFits w64 (pos x -ℤ pos y)
   fits = sfits-of-natAbs (pos x -ℤ pos y) (omega (arith, natAbs-sub-le (pos x) (pos y)))
 

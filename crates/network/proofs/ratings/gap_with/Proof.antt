@@ -14,28 +14,28 @@ use Rattle.network.specs.declared.Network.{Network}
 use Rattle.network.specs.Lists.{keep}
 use Rattle.network.specs.Rating.{periodOf, gapOfCalls, gapOfStop}
 use Rattle.network.specs.Scan.{callsBefore, leastFrom}
-use Rattle.network.specs.Stored.{netOf, Sound}
+use Rattle.network.specs.Stored.{netOf, callsIn, Sound}
 use Rattle.network.specs.Valid.{Valid, noCall}
 use Rattle.network.proofs.Laws.Scan.{keep-all, callsBefore-some, gapOfStop-next}
-use Rattle.network.proofs.Laws.Stored.{held-lines, held-period, held-call-line, held-period-pos}
+use Rattle.network.proofs.Laws.Stored.{length-held, held-lines, held-period, held-call-line, held-period-pos}
 use Rattle.network.proofs.ratings.gap_with.Statement.{statement}
 use Rattle.network.proofs.ratings.gap_with.Tie as tie
 
 -- In a network that the rows hold, the calls that stand at the stop have periods of at least 1
 module _ (n : Network) (sound : Sound n) (valid : Valid (netOf n)) (stop k : ℕ) (within : k ≤ n .calls) where
-  length-taken : length (take k (n .list)) ≡ k
-  length-taken = length-take-le k (n .list) (omega (arith, within, sound .calls, sound .list-row))
+  length-taken : length (take k (callsIn (n .list))) ≡ k
+  length-taken = length-take-le k (callsIn (n .list)) (omega (arith, within, sound .calls, length-held n sound))
 
-  taken-pos : (j : ℕ) → j < k → 0 < periodOf (netOf n) (getD (take k (n .list)) j noCall)
+  taken-pos : (j : ℕ) → j < k → 0 < periodOf (netOf n) (getD (take k (callsIn (n .list))) j noCall)
   unfolding periodOf
   taken-pos j h =
       let l = held-call-line n sound valid j (omega (arith, within, h)) in
-      rw (getD-take k (n .list) j noCall h, periodOf, held-period n _ l) (held-period-pos n sound valid _ l)
+      rw (getD-take k (callsIn (n .list)) j noCall h, periodOf, held-period n _ l) (held-period-pos n sound valid _ l)
 
-  periods-pos : (i : ℕ) → i < length (callsBefore stop (n .list) k) → 0 < periodOf (netOf n) (getD (callsBefore stop (n .list) k) i noCall)
+  periods-pos : (i : ℕ) → i < length (callsBefore stop (callsIn (n .list)) k) → 0 < periodOf (netOf n) (getD (callsBefore stop (callsIn (n .list)) k) i noCall)
   unfolding callsBefore
   periods-pos =
-      keep-all (λ (c : Call). 0 < periodOf (netOf n) c) (λ (c : Call). eqb (c .stop) stop) noCall (take k (n .list))
+      keep-all (λ (c : Call). 0 < periodOf (netOf n) c) (λ (c : Call). eqb (c .stop) stop) noCall (take k (callsIn (n .list)))
       (λ j h. taken-pos j (omega (arith, length-taken, h)))
 
 cast-line : tie.Need-cast-line
@@ -64,7 +64,7 @@ returns c h b e =
     let s = c .before .before .before in
     ap (λ (ps : List ℕ). getD ps (s .args .call .line) 0) (h .periods-are)
     ∙ sym
-    (ap (λ (k : ℕ). gapOfStop (netOf (h .network)) (s .args .sheet .now) (callsBefore (s .args .call .stop) (h .network .list) k ++ (s .args .call ∷ [])))
+    (ap (λ (k : ℕ). gapOfStop (netOf (h .network)) (s .args .sheet .now) (callsBefore (s .args .call .stop) (callsIn (h .network .list)) k ++ (s .args .call ∷ [])))
     (c .before .before .if1 .taken)
     ∙ held-period (h .network) (s .args .call .line) (omega (arith, b .own-line, held-lines (h .network) (h .sound))))
 
@@ -74,14 +74,14 @@ least-gap-requires c κs = c .before .pre
 returns-2 : tie.Need-returns-2
 returns-2 c h b e =
     let s = c .before .before in
-    let cs = callsBefore (s .args .call .stop) (h .network .list) (s .args .before) in
+    let cs = callsBefore (s .args .call .stop) (callsIn (h .network .list)) (s .args .before) in
     let p = pos-of-ne-zero (c .before .if1 .left) in
     c .least-gap .ensures h b
     ∙ ap (λ (v : ℕ). leastFrom v (map (λ d. gapOfCalls (netOf (h .network)) (s .args .sheet .now) d (s .args .call)) cs)) e
     ∙ sym
     (gapOfStop-next (netOf (h .network)) (s .args .sheet .now) cs (s .args .call)
-    (callsBefore-some (s .args .call .stop) (h .network .list) (s .args .before) p
-    (omega (arith, b .within, h .sound .calls, h .sound .list-row))
+    (callsBefore-some (s .args .call .stop) (callsIn (h .network .list)) (s .args .before) p
+    (omega (arith, b .within, h .sound .calls, length-held (h .network) (h .sound)))
     (b .lands p))
     (periods-pos (h .network) (h .sound) (h .valid) (s .args .call .stop) (s .args .before) (b .within)))
 

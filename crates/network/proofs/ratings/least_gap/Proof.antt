@@ -1,7 +1,7 @@
 -- `network::ratings::least_gap` meets its contract. The loop's invariant: the least of `lesser` and the gaps to the calls up to `from` is
 -- that of `least` and the gaps to all, in every network that the rows hold. Assumes nothing.
 use Prim.Native.Nat.{ℕ, _-_, _<_, _≤_, min}
-use mathlib.Core.Path.{_≡_, refl, sym, ap, ap₂, _∙_}
+use mathlib.Core.Path.{_≡_, refl, sym, ap, ap₂, subst, _∙_}
 use mathlib.Core.List.{List, map}
 use mathlib.Core.Logic.{⊎-elim}
 use native.Mathlib.Omega.{arith}
@@ -13,10 +13,11 @@ use Rattle.network.specs.Lists.{keep}
 use Rattle.network.specs.Gap.{gapOf}
 use Rattle.network.specs.Rating.{arrivalOf, periodOf, gapOfCalls}
 use Rattle.network.specs.Scan.{lastAt, callsBefore, leastFrom, LeadsBack, Rows, Beside}
-use Rattle.network.specs.Stored.{netOf}
+use Rattle.network.specs.Stored.{netOf, callIn, callsIn}
 use Rattle.network.specs.Valid.{noCall}
+use Rattle.network.proofs.Laws.Packed.{call-in-row}
 use Rattle.network.proofs.Laws.Scan.{lastAt-le, lastAt-landed, step-back}
-use Rattle.network.proofs.Laws.Stored.{held-lines, held-period, held-call-line, held-period-pos}
+use Rattle.network.proofs.Laws.Stored.{length-held, held-lines, held-period, held-call-line, held-period-pos}
 use Rattle.network.proofs.ratings.least_gap.Statement.{statement}
 use Rattle.network.proofs.ratings.least_gap.Tie as tie
 
@@ -27,17 +28,17 @@ to network sheet call d = gapOfCalls (netOf network) sheet d call
 -- What holds on the way back, in a network that the rows hold: the place reached is a call at this stop, and what is left makes the whole
 abbrev OnTheWay : Network → List ℤ → Call → ℕ → ℕ → ℕ → ℕ → Type 0
 OnTheWay network sheet call next least lesser from =
-    (0 < from → getD (network .list) (from - 1) noCall .stop ≡ call .stop)
-    × (leastFrom lesser (map (to network sheet call) (callsBefore (call .stop) (network .list) from))
-    ≡ leastFrom least (map (to network sheet call) (callsBefore (call .stop) (network .list) next)))
+    (0 < from → getD (callsIn (network .list)) (from - 1) noCall .stop ≡ call .stop)
+    × (leastFrom lesser (map (to network sheet call) (callsBefore (call .stop) (callsIn (network .list)) from))
+    ≡ leastFrom least (map (to network sheet call) (callsBefore (call .stop) (callsIn (network .list)) next)))
 
 abbrev Inv-loop : tie.InvT-loop
-Inv-loop periods lines offsets previous sheet call next least lesser₀ from₀ lesser from =
+Inv-loop periods list previous sheet call next least lesser₀ from₀ lesser from =
     (from ≤ next)
-    × ((h : Rows periods lines offsets previous next) → Beside (h .network) sheet call next → OnTheWay (h .network) sheet call next least lesser from)
+    × ((h : Rows periods list previous next) → Beside (h .network) sheet call next → OnTheWay (h .network) sheet call next least lesser from)
 
 abbrev μ-loop : tie.MeasureT-loop
-μ-loop periods lines offsets previous sheet call next least lesser₀ from₀ lesser from = from
+μ-loop periods list previous sheet call next least lesser₀ from₀ lesser from = from
 
 -- At a turn of the loop
 module _ (c : tie.In-loop Inv-loop μ-loop) where
@@ -48,28 +49,35 @@ module _ (c : tie.In-loop Inv-loop μ-loop) where
   at = c .before .loop .from - 1
 
   abbrev Held : Type 0
-  Held = Rows (start .args .periods .now) (start .args .lines .now) (start .args .offsets .now) (start .args .previous .now) (start .args .next)
+  Held = Rows (start .args .periods .now) (start .args .list .now) (start .args .previous .now) (start .args .next)
 
-  -- the call that is looked at, made of the rows
+  -- the call that is looked at
   abbrev other : Call
-  other = record { line = getD (start .args .lines .now) at 0; stop = start .args .call .stop; offset = getD (start .args .offsets .now) at 0 }
+  other = callIn (getD (start .args .list .now) at 0)
+
+  -- the gap from a call to this one, as the code computes it, and what it asks of that call
+  abbrev between : Call → ℕ
+  between k =
+      gapOf (arrivalOf (start .args .sheet .now) k) (getD (start .args .periods .now) (k .line) 0)
+      (arrivalOf (start .args .sheet .now) (start .args .call)) (getD (start .args .periods .now) (start .args .call .line) 0)
+
+  abbrev Asked : Call → Type 0
+  Asked k = (k .line < 16) × (k .line < length (start .args .sheet .now)) × (0 < getD (start .args .periods .now) (k .line) 0)
 
   -- in a network that the rows hold
   module _ (h : Held) (b : Beside (h .network) (start .args .sheet .now) (start .args .call) (start .args .next)) where
     in-file : at < h .network .calls
     in-file = omega (arith, c .loop-test .taken, c .before .loop .inv .0, b .within)
 
-    landed : getD (h .network .list) at noCall .stop ≡ start .args .call .stop
+    landed : getD (callsIn (h .network .list)) at noCall .stop ≡ start .args .call .stop
     landed = c .before .loop .inv .1 h b .0 (c .loop-test .taken)
 
     -- it is one of the calls that count
-    other-is : other ≡ getD (h .network .list) at noCall
-    other-is =
-        ap₂ (λ (line offset : ℕ). record { line = line; stop = start .args .call .stop; offset = offset }) (h .line-of at in-file) (h .offset-of at in-file)
-        ∙ ap (λ (stop : ℕ). record { line = getD (h .network .list) at noCall .line; stop = stop; offset = getD (h .network .list) at noCall .offset }) (sym landed)
+    other-is : other ≡ getD (callsIn (h .network .list)) at noCall
+    other-is = ap (λ (l : List ℕ). callIn (getD l at 0)) (h .list-is) ∙ sym (call-in-row (h .network .list) at)
 
     other-line : other .line < h .network .lines
-    other-line = rw (h .line-of at in-file) (held-call-line (h .network) (h .sound) (h .valid) at in-file)
+    other-line = subst (λ (k : Call). k .line < h .network .lines) (sym other-is) (held-call-line (h .network) (h .sound) (h .valid) at in-file)
 
     own-line : start .args .call .line < h .network .lines
     own-line = omega (arith, b .own-line, held-lines (h .network) (h .sound))
@@ -77,10 +85,14 @@ module _ (c : tie.In-loop Inv-loop μ-loop) where
     sheet-length : length (start .args .sheet .now) ≡ h .network .lines
     sheet-length = b .fits ∙ held-lines (h .network) (h .sound)
 
-    gap-is :
-        gapOf (arrivalOf (start .args .sheet .now) other) (getD (start .args .periods .now) (other .line) 0)
-        (arrivalOf (start .args .sheet .now) (start .args .call)) (getD (start .args .periods .now) (start .args .call .line) 0)
-        ≡ to (h .network) (start .args .sheet .now) (start .args .call) other
+    asked : Asked other
+    asked = (
+      omega (arith, other-line, h .sound .lines),
+      omega (arith, other-line, sheet-length),
+      subst (λ (ps : List ℕ). 0 < getD ps (other .line) 0) (sym (h .periods-are)) (held-period-pos (h .network) (h .sound) (h .valid) (other .line) other-line),
+    )
+
+    gap-is : between other ≡ to (h .network) (start .args .sheet .now) (start .args .call) other
     unfolding gapOfCalls periodOf
     gap-is =
         sym
@@ -88,26 +100,26 @@ module _ (c : tie.In-loop Inv-loop μ-loop) where
         (held-period (h .network) (other .line) other-line ∙ ap (λ (ps : List ℕ). getD ps (other .line) 0) (sym (h .periods-are)))
         (held-period (h .network) (start .args .call .line) own-line ∙ ap (λ (ps : List ℕ). getD ps (start .args .call .line) 0) (sym (h .periods-are))))
 
-    led-back : getD (start .args .previous .now) at 0 ≡ lastAt (start .args .call .stop) (h .network .list) at
+    led-back : getD (start .args .previous .now) at 0 ≡ lastAt (start .args .call .stop) (callsIn (h .network .list)) at
     unfolding LeadsBack
     led-back =
-        h .leads at (omega (arith, c .loop-test .taken, c .before .loop .inv .0)) ∙ ap (λ (s : ℕ). lastAt s (h .network .list) at) landed
+        h .leads at (omega (arith, c .loop-test .taken, c .before .loop .inv .0)) ∙ ap (λ (s : ℕ). lastAt s (callsIn (h .network .list)) at) landed
 
     led-lower : getD (start .args .previous .now) at 0 ≤ at
-    led-lower = omega (arith, led-back, lastAt-le (start .args .call .stop) (h .network .list) at)
+    led-lower = omega (arith, led-back, lastAt-le (start .args .call .stop) (callsIn (h .network .list)) at)
 
     -- one call further back
     onward :
         leastFrom (min (c .before .loop .lesser) (to (h .network) (start .args .sheet .now) (start .args .call) other))
-        (map (to (h .network) (start .args .sheet .now) (start .args .call)) (callsBefore (start .args .call .stop) (h .network .list) (getD (start .args .previous .now) at 0)))
-        ≡ leastFrom (start .args .least) (map (to (h .network) (start .args .sheet .now) (start .args .call)) (callsBefore (start .args .call .stop) (h .network .list) (start .args .next)))
+        (map (to (h .network) (start .args .sheet .now) (start .args .call)) (callsBefore (start .args .call .stop) (callsIn (h .network .list)) (getD (start .args .previous .now) at 0)))
+        ≡ leastFrom (start .args .least) (map (to (h .network) (start .args .sheet .now) (start .args .call)) (callsBefore (start .args .call .stop) (callsIn (h .network .list)) (start .args .next)))
     onward =
         let g = to (h .network) (start .args .sheet .now) (start .args .call) in
         let s = start .args .call .stop in
-        ap (λ (o : Call). leastFrom (min (c .before .loop .lesser) (g o)) (map g (callsBefore s (h .network .list) (getD (start .args .previous .now) at 0)))) other-is
-        ∙ ap (λ (k : ℕ). leastFrom (min (c .before .loop .lesser) (g (getD (h .network .list) at noCall))) (map g (callsBefore s (h .network .list) k))) led-back
-        ∙ step-back g s (h .network .list) at (c .before .loop .lesser) (omega (arith, in-file, h .sound .calls, h .sound .list-row)) landed
-        ∙ ap (λ (k : ℕ). leastFrom (c .before .loop .lesser) (map g (callsBefore s (h .network .list) k))) (omega (arith, c .loop-test .taken))
+        ap (λ (o : Call). leastFrom (min (c .before .loop .lesser) (g o)) (map g (callsBefore s (callsIn (h .network .list)) (getD (start .args .previous .now) at 0)))) other-is
+        ∙ ap (λ (k : ℕ). leastFrom (min (c .before .loop .lesser) (g (getD (callsIn (h .network .list)) at noCall))) (map g (callsBefore s (callsIn (h .network .list)) k))) led-back
+        ∙ step-back g s (callsIn (h .network .list)) at (c .before .loop .lesser) (omega (arith, in-file, h .sound .calls, length-held (h .network) (h .sound))) landed
+        ∙ ap (λ (k : ℕ). leastFrom (c .before .loop .lesser) (map g (callsBefore s (callsIn (h .network .list)) k))) (omega (arith, c .loop-test .taken))
         ∙ c .before .loop .inv .1 h b .1
 
   -- in the network that the contract asks for
@@ -120,32 +132,26 @@ loop-holds c = (omega arith, λ h b. (b .lands, refl))
 sub-at : tie.Need-sub-at Inv-loop μ-loop
 sub-at c = c .loop-test .taken
 
-element-copy-out-t17 : tie.Need-element-copy-out-t17 Inv-loop μ-loop
-element-copy-out-t17 c = small c
+mul-unpacked : tie.Need-mul-unpacked Inv-loop μ-loop
+mul-unpacked c = omega (arith, small c)
 
-mul-from : tie.Need-mul-from Inv-loop μ-loop
-mul-from c = omega (arith, small (c .before))
+element-copy-out-unpacked : tie.Need-element-copy-out-unpacked Inv-loop μ-loop
+element-copy-out-unpacked c = small c
 
-element-copy-out-from : tie.Need-element-copy-out-from Inv-loop μ-loop
-element-copy-out-from c = small (c .before)
+unpacked-requires : tie.Need-unpacked-requires Inv-loop μ-loop
+unpacked-requires c κs = tt
 
 call-gap-requires : tie.Need-call-gap-requires Inv-loop μ-loop
 call-gap-requires c κs =
     let t = c .before .before in
-    let (h, b) = start t .pre in (
-      (
-        omega (arith, other-line t h b, h .sound .lines),
-        omega (arith, other-line t h b, sheet-length t h b),
-        rw (h .periods-are) (held-period-pos (h .network) (h .sound) (h .valid) (other t .line) (other-line t h b)),
-      ),
-      (omega (arith, own-line t h b, h .sound .lines), omega (arith, own-line t h b, sheet-length t h b)),
-    )
+    let (h, b) = start t .pre in
+    (subst (Asked t) (sym (c .unpacked .ensures)) (asked t h b), (omega (arith, own-line t h b, h .sound .lines), omega (arith, own-line t h b, sheet-length t h b)))
 
-mul-from-2 : tie.Need-mul-from-2 Inv-loop μ-loop
-mul-from-2 c = omega (arith, small (c .before .before .before .before))
+mul-from : tie.Need-mul-from Inv-loop μ-loop
+mul-from c = omega (arith, small (c .before .before .before .before))
 
-element-copy-out-from-2 : tie.Need-element-copy-out-from-2 Inv-loop μ-loop
-element-copy-out-from-2 c = small (c .before .before .before .before)
+element-copy-out-from : tie.Need-element-copy-out-from Inv-loop μ-loop
+element-copy-out-from c = small (c .before .before .before .before)
 
 cast-from : tie.Need-cast-from Inv-loop μ-loop
 cast-from c =
@@ -167,11 +173,11 @@ loop-again c =
       λ h b.
           let stop = start t .args .call .stop in
           let g = to (h .network) (start t .args .sheet .now) (start t .args .call) in
-          let is = c .before .before .call-gap .ensures ∙ gap-is t h b in
+          let is = c .before .before .call-gap .ensures ∙ ap (between t) (c .before .before .before .unpacked .ensures) ∙ gap-is t h b in
           let lesser : c .before .if1 .lesser ≡ min (t .before .loop .lesser) (g (other t)) =
           ⊎-elim (λ w. omega (arith, is, w .1, w .0 .taken)) (λ w. omega (arith, is, w .1, w .0 .left)) (c .before .if1 .came) in (
-            lastAt-landed (h .network .list) stop (at t) (getD (start t .args .previous .now) (at t) 0) (led-back t h b),
-            ap (λ (v : ℕ). leastFrom v (map g (callsBefore stop (h .network .list) (getD (start t .args .previous .now) (at t) 0)))) lesser ∙ onward t h b,
+            lastAt-landed (callsIn (h .network .list)) stop (at t) (getD (start t .args .previous .now) (at t) 0) (led-back t h b),
+            ap (λ (v : ℕ). leastFrom v (map g (callsBefore stop (callsIn (h .network .list)) (getD (start t .args .previous .now) (at t) 0)))) lesser ∙ onward t h b,
           ),
     )
 
@@ -181,7 +187,7 @@ returns c h b =
     let s = c .before .before in
     let l = c .before .loop in
     let none : 0 ≡ l .from = omega (arith, c .loop-test .left) in
-    ap (λ (k : ℕ). leastFrom (l .lesser) (map (to (h .network) (s .args .sheet .now) (s .args .call)) (callsBefore (s .args .call .stop) (h .network .list) k))) none
+    ap (λ (k : ℕ). leastFrom (l .lesser) (map (to (h .network) (s .args .sheet .now) (s .args .call)) (callsBefore (s .args .call .stop) (callsIn (h .network .list)) k))) none
     ∙ l .inv .1 h b .1
 
 pub least-gap-spec : {M : Type 1} → statement M
@@ -192,12 +198,12 @@ least-gap-spec =
     μ-loop
     loop-holds
     sub-at
-    element-copy-out-t17
+    mul-unpacked
+    element-copy-out-unpacked
+    unpacked-requires
+    call-gap-requires
     mul-from
     element-copy-out-from
-    call-gap-requires
-    mul-from-2
-    element-copy-out-from-2
     cast-from
     loop-less
     loop-again

@@ -1,189 +1,233 @@
 -- `network::ratings::stop_gaps` meets its contract. The loop's invariant: the rows are those after the calls passed. Assumes nothing.
 use Prim.Native.Nat.{ℕ, _+_, _-_, _<_, _≤_}
-use mathlib.Core.Path.{_≡_, refl, sym, ap, _∙_}
+use mathlib.Core.Path.{_≡_, refl, sym, ap, subst, _∙_}
 use mathlib.Core.List.{List, [], _∷_, _++_}
 use mathlib.Core.Logic.{⊎-elim}
 use native.Mathlib.Nat.{le-antisymm}
 use native.Mathlib.Omega.{arith}
-use lib.ListN.{length, getD}
+use lib.IntN.{ℤ}
+use lib.ListN.{length, getD, set}
 use Rattle.network.specs.declared.Call.{Call}
 use Rattle.network.specs.declared.Network.{Network}
 use Rattle.network.specs.Rating.{gapOfStop, callsOfStop, stopGap}
 use Rattle.network.specs.Scan.{lastAt, callsBefore, LeadsBack, Rows, Beside}
-use Rattle.network.specs.Stored.{netOf}
+use Rattle.network.specs.Stored.{netOf, callsIn}
 use Rattle.network.specs.Valid.{noCall}
+use Rattle.network.proofs.Laws.Packed.{call-in-row}
 use Rattle.network.proofs.Laws.Scan.{Scanned, scanned-none, scanned-counted, scanned-passed, lastAt-le, lastAt-landed, callsBefore-lastAt}
-use Rattle.network.proofs.Laws.Stored.{held-lines, held-call-line, held-call-stop}
+use Rattle.network.proofs.Laws.Stored.{length-held, held-lines, held-call-line, held-call-stop}
 use Rattle.network.proofs.ratings.stop_gaps.Statement.{statement}
 use Rattle.network.proofs.ratings.stop_gaps.Tie as tie
 
 abbrev Inv-loop : tie.InvT-loop
-Inv-loop sheet counts network lines offsets periods gaps₀ last₀ previous₀ count i₀ gaps last previous i =
-    (i ≤ count) × Scanned (netOf network) sheet (network .list) counts gaps last previous i
+Inv-loop sheet counts network periods gaps₀ last₀ previous₀ count i₀ gaps last previous i =
+    (i ≤ count) × Scanned (netOf network) sheet (callsIn (network .list)) counts gaps last previous i
 
 abbrev μ-loop : tie.MeasureT-loop
-μ-loop sheet counts network lines offsets periods gaps₀ last₀ previous₀ count i₀ gaps last previous i = count - i
+μ-loop sheet counts network periods gaps₀ last₀ previous₀ count i₀ gaps last previous i = count - i
+
+small : (t : tie.In-loop Inv-loop μ-loop) → t .before .loop .i < 256
+small t = omega (arith, t .loop-test .taken, t .before .before .before .pre .0 .calls)
 
 -- At a turn of the loop: the call that is looked at, and the latest before it at its stop
-module _ (t : tie.In-loop Inv-loop μ-loop) where
+module _ (u : tie.After-unpacked Inv-loop μ-loop) where
+  abbrev turn : tie.In-loop Inv-loop μ-loop
+  turn = u .before .before
+
   abbrev start : tie.Start Inv-loop μ-loop
-  start = t .before .before .before .before .before
+  start = turn .before .before .before
 
   abbrev network : Network
   network = start .args .t1
 
+  abbrev sheet : List ℤ
+  sheet = start .args .sheet .now
+
+  abbrev counts : List ℕ
+  counts = start .args .counts .now
+
+  abbrev held : List Call
+  held = callsIn (network .list)
+
   abbrev i : ℕ
-  i = t .before .loop .i
+  i = turn .before .loop .i
 
   abbrev call : Call
-  call = getD (network .list) i noCall
+  call = u .unpacked .result
 
   abbrev before : ℕ
-  before = getD (t .before .loop .last) (call .stop) 0
+  before = getD (turn .before .loop .last) (call .stop) 0
 
-  scanned : Scanned (netOf network) (start .args .sheet .now) (network .list) (start .args .counts .now) (t .before .loop .gaps) (t .before .loop .last) (t .before .loop .previous) i
-  scanned = t .before .loop .inv .1
+  abbrev scanned : Scanned (netOf network) sheet held counts (turn .before .loop .gaps) (turn .before .loop .last) (turn .before .loop .previous) i
+  scanned = turn .before .loop .inv .1
 
-  small : i < 256
-  small = omega (arith, t .loop-test .taken, start .pre .0 .calls)
+  call-is : call ≡ getD held i noCall
+  call-is = u .unpacked .ensures ∙ sym (call-in-row (network .list) i)
 
-  stated : i < length (network .list)
-  stated = omega (arith, small, start .pre .0 .list-row)
+  stated : i < length held
+  stated = omega (arith, small turn, length-held network (start .pre .0))
 
   stop-low : call .stop < 64
-  stop-low = omega (arith, held-call-stop network (start .pre .0) (start .pre .1) i (t .loop-test .taken))
+  stop-low =
+      subst (λ (k : Call). k .stop < 64) (sym call-is)
+      (omega (arith, held-call-stop network (start .pre .0) (start .pre .1) i (turn .loop-test .taken)))
 
-  before-is : before ≡ lastAt (call .stop) (network .list) i
+  line-low : call .line < network .lines
+  line-low = subst (λ (k : Call). k .line < network .lines) (sym call-is) (held-call-line network (start .pre .0) (start .pre .1) i (turn .loop-test .taken))
+
+  before-is : before ≡ lastAt (call .stop) held i
   before-is = scanned .last-is (call .stop) stop-low
 
   before-le : before ≤ i
-  before-le = omega (arith, before-is, lastAt-le (call .stop) (network .list) i)
+  before-le = omega (arith, before-is, lastAt-le (call .stop) held i)
 
-  before-same : callsBefore (call .stop) (network .list) i ≡ callsBefore (call .stop) (network .list) before
+  before-same : callsBefore (call .stop) held i ≡ callsBefore (call .stop) held before
   before-same =
-      callsBefore-lastAt (call .stop) (network .list) i (omega (arith, stated))
-      ∙ ap (callsBefore (call .stop) (network .list)) (sym before-is)
+      callsBefore-lastAt (call .stop) held i (omega (arith, stated))
+      ∙ ap (callsBefore (call .stop) held) (sym before-is)
 
-  leads-before : LeadsBack (t .before .loop .previous) (network .list) before
+  leads-before : LeadsBack (turn .before .loop .previous) held before
   unfolding LeadsBack
   leads-before j h = scanned .leads j (omega (arith, before-le, h))
 
   -- what is lent in the network's place
-  rows : Rows (network .periods) (t .before .before .before .before .line-row .result) (t .before .before .before .offset-row .result) (t .before .loop .previous) before
+  rows : Rows (network .periods) (network .list) (turn .before .loop .previous) before
   rows =
       record {
         network = network;
         sound = start .pre .0;
         valid = start .pre .1;
         periods-are = refl;
-        line-of = t .before .before .before .before .line-row .ensures;
-        offset-of = t .before .before .before .offset-row .ensures;
+        list-is = refl;
         leads = leads-before;
       }
 
-  beside : Beside network (start .args .sheet .now) call before
+  beside : Beside network sheet call before
   beside =
       record {
         fits = start .pre .2;
-        own-line = omega (arith, held-call-line network (start .pre .0) (start .pre .1) i (t .loop-test .taken), held-lines network (start .pre .0));
-        within = omega (arith, before-le, t .loop-test .taken);
-        lands = lastAt-landed (network .list) (call .stop) i before before-is;
+        own-line = omega (arith, line-low, held-lines network (start .pre .0));
+        within = omega (arith, before-le, turn .loop-test .taken);
+        lands = lastAt-landed held (call .stop) i before before-is;
       }
 
-line-row-requires : tie.Need-line-row-requires Inv-loop μ-loop
-line-row-requires c κs = c .pre .0
+  held-low : getD held i noCall .stop < 64
+  held-low = subst (λ (k : Call). k .stop < 64) call-is stop-low
 
-offset-row-requires : tie.Need-offset-row-requires Inv-loop μ-loop
-offset-row-requires c κs = c .before .pre .0
+  -- the rows after this turn, where the stop of the call counts and where it doesn't
+  abbrev Next : Call → List ℕ → Type 0
+  Next k gaps =
+      Scanned (netOf network) sheet held counts gaps (set (turn .before .loop .last) (k .stop) (i + 1))
+      (set (turn .before .loop .previous) i (getD (turn .before .loop .last) (k .stop) 0)) (i + 1)
+
+  next-counted :
+      (value : ℕ)
+      → value ≡ gapOfStop (netOf network) sheet (callsBefore (call .stop) held i ++ (call ∷ []))
+      → Next call (set (turn .before .loop .gaps) (call .stop) value)
+  next-counted =
+      let l = turn .before .loop in
+      subst
+      (λ (k : Call). (value : ℕ) → value ≡ gapOfStop (netOf network) sheet (callsBefore (k .stop) held i ++ (k ∷ [])) → Next k (set (l .gaps) (k .stop) value))
+      (sym call-is)
+      (λ value v.
+      scanned-counted (netOf network) sheet held counts (l .gaps) (l .last) (l .previous) i scanned (small turn) stated held-low _ value
+      (scanned .last-is _ held-low) v)
+
+  next-passed : getD counts (call .stop) 0 ≤ 0 → Next call (turn .before .loop .gaps)
+  next-passed =
+      let l = turn .before .loop in
+      subst (λ (k : Call). getD counts (k .stop) 0 ≤ 0 → Next k (l .gaps)) (sym call-is)
+      (λ z.
+      scanned-passed (netOf network) sheet held counts (l .gaps) (l .last) (l .previous) i scanned (small turn) stated held-low _
+      (scanned .last-is _ held-low) z)
 
 loop-holds : tie.Need-loop-holds Inv-loop μ-loop
 loop-holds c =
-    let s = c .before .before .before in (omega arith, scanned-none (netOf (s .args .t1)) (s .args .sheet .now) (s .args .t1 .list) (s .args .counts .now))
+    let s = c .before in (omega arith, scanned-none (netOf (s .args .t1)) (s .args .sheet .now) (callsIn (s .args .t1 .list)) (s .args .counts .now))
 
-mul-call : tie.Need-mul-call Inv-loop μ-loop
-mul-call c = omega (arith, small c)
+mul-unpacked : tie.Need-mul-unpacked Inv-loop μ-loop
+mul-unpacked c = omega (arith, small c)
 
-element-copy-out-call : tie.Need-element-copy-out-call Inv-loop μ-loop
-element-copy-out-call c = omega (arith, small c)
+element-copy-out-unpacked : tie.Need-element-copy-out-unpacked Inv-loop μ-loop
+element-copy-out-unpacked c = omega (arith, small c)
+
+unpacked-requires : tie.Need-unpacked-requires Inv-loop μ-loop
+unpacked-requires c κs = tt
 
 cast-stop : tie.Need-cast-stop Inv-loop μ-loop
-cast-stop c = omega (arith, stop-low (c .before .before))
+cast-stop c = omega (arith, stop-low (c .before))
 
 mul-before : tie.Need-mul-before Inv-loop μ-loop
-mul-before c = omega (arith, stop-low (c .before .before))
+mul-before c = omega (arith, stop-low (c .before))
 
 array-read-before : tie.Need-array-read-before Inv-loop μ-loop
-array-read-before c = omega (arith, stop-low (c .before .before))
+array-read-before c = omega (arith, stop-low (c .before))
 
 element-copy-out-if1 : tie.Need-element-copy-out-if1 Inv-loop μ-loop
-element-copy-out-if1 c = omega (arith, stop-low (c .before .before))
+element-copy-out-if1 c = omega (arith, stop-low (c .before))
 
 mul-gap : tie.Need-mul-gap Inv-loop μ-loop
-mul-gap c = omega (arith, stop-low (c .before .before .before .before))
+mul-gap c = omega (arith, stop-low (c .before .before .before))
 
 array-read-gap : tie.Need-array-read-gap Inv-loop μ-loop
-array-read-gap c = omega (arith, stop-low (c .before .before .before .before))
+array-read-gap c = omega (arith, stop-low (c .before .before .before))
 
 gap-with-requires : tie.Need-gap-with-requires Inv-loop μ-loop
 unfolding rows
-gap-with-requires c κs = let t = c .before .before .before .before .before .before .before .before in (rows t, beside t)
+gap-with-requires c κs = let u = c .before .before .before .before .before .before .before in (rows u, beside u)
 
 mul-gaps : tie.Need-mul-gaps Inv-loop μ-loop
-mul-gaps c = omega (arith, stop-low (c .before .before .before .before .before .before .before .before .before))
+mul-gaps c = omega (arith, stop-low (c .before .before .before .before .before .before .before .before))
 
 array-write-gaps : tie.Need-array-write-gaps Inv-loop μ-loop
-array-write-gaps c = omega (arith, stop-low (c .before .before .before .before .before .before .before .before .before))
+array-write-gaps c = omega (arith, stop-low (c .before .before .before .before .before .before .before .before))
 
 mul-previous : tie.Need-mul-previous Inv-loop μ-loop
-mul-previous c = omega (arith, small (c .before .before .before .before))
+mul-previous c = omega (arith, small (c .before .before .before .before .before))
 
 array-write-previous : tie.Need-array-write-previous Inv-loop μ-loop
-array-write-previous c = omega (arith, small (c .before .before .before .before))
+array-write-previous c = omega (arith, small (c .before .before .before .before .before))
 
 cast-last : tie.Need-cast-last Inv-loop μ-loop
-cast-last c = omega (arith, small (c .before .before .before .before))
+cast-last c = omega (arith, small (c .before .before .before .before .before))
 
 add-last : tie.Need-add-last Inv-loop μ-loop
-add-last c = omega (arith, small (c .before .before .before .before))
+add-last c = omega (arith, small (c .before .before .before .before .before))
 
 mul-last : tie.Need-mul-last Inv-loop μ-loop
-mul-last c = omega (arith, stop-low (c .before .before .before .before))
+mul-last c = omega (arith, stop-low (c .before .before .before))
 
 array-write-last : tie.Need-array-write-last Inv-loop μ-loop
-array-write-last c = omega (arith, stop-low (c .before .before .before .before))
+array-write-last c = omega (arith, stop-low (c .before .before .before))
 
 add-i : tie.Need-add-i Inv-loop μ-loop
-add-i c = omega (arith, small (c .before .before .before .before))
+add-i c = omega (arith, small (c .before .before .before .before .before))
 
 loop-less : tie.Need-loop-less Inv-loop μ-loop
-loop-less c = omega (arith, (c .before .before .before .before) .loop-test .taken)
+loop-less c = omega (arith, c .before .before .before .before .before .loop-test .taken)
 
 loop-again : tie.Need-loop-again Inv-loop μ-loop
 unfolding rows
 loop-again c =
-    let t = c .before .before .before .before in (
-      omega (arith, t .loop-test .taken),
+    let u = c .before .before .before in (
+      omega (arith, turn u .loop-test .taken),
       ⊎-elim
           (λ w.
           rw (w .6)
-          (scanned-counted (netOf (network t)) (start t .args .sheet .now) (network t .list) (start t .args .counts .now) (t .before .loop .gaps)
-          (t .before .loop .last) (t .before .loop .previous) (i t) (scanned t) (small t) (stated t) (stop-low t) (before t) (w .5 .result) (before-is t)
-          (w .5 .ensures (rows t) (beside t)
-          (scanned t .gaps-are (call t .stop) (stop-low t) (w .0 .taken) ∙ ap (gapOfStop (netOf (network t)) (start t .args .sheet .now)) (before-same t))
-          ∙ ap (λ (cs : List Call). gapOfStop (netOf (network t)) (start t .args .sheet .now) (cs ++ (call t ∷ []))) (sym (before-same t)))))
-          (λ w.
-          rw (w .1)
-          (scanned-passed (netOf (network t)) (start t .args .sheet .now) (network t .list) (start t .args .counts .now) (t .before .loop .gaps)
-          (t .before .loop .last) (t .before .loop .previous) (i t) (scanned t) (small t) (stated t) (stop-low t) (before t) (before-is t) (w .0 .left)))
+          (next-counted u (w .5 .result)
+          (w .5 .ensures (rows u) (beside u)
+          (scanned u .gaps-are (call u .stop) (stop-low u) (w .0 .taken) ∙ ap (gapOfStop (netOf (network u)) (sheet u)) (before-same u))
+          ∙ ap (λ (cs : List Call). gapOfStop (netOf (network u)) (sheet u) (cs ++ (call u ∷ []))) (sym (before-same u)))))
+          (λ w. rw (w .1) (next-passed u (w .0 .left)))
           (c .if1 .came),
     )
 
 returns : tie.Need-returns Inv-loop μ-loop
 unfolding stopGap callsOfStop callsBefore netOf
 returns c stop h k =
-    let s = c .before .before .before .before .before in
+    let s = c .before .before .before in
     c .before .loop .inv .1 .gaps-are stop h k
-    ∙ ap (λ (j : ℕ). gapOfStop (netOf (s .args .t1)) (s .args .sheet .now) (callsBefore stop (s .args .t1 .list) j))
+    ∙ ap (λ (j : ℕ). gapOfStop (netOf (s .args .t1)) (s .args .sheet .now) (callsBefore stop (callsIn (s .args .t1 .list)) j))
     (le-antisymm (c .before .loop .inv .0) (c .loop-test .left))
 
 pub stop-gaps-spec : {M : Type 1} → statement M
@@ -192,11 +236,10 @@ stop-gaps-spec =
     (tie.spec
     Inv-loop
     μ-loop
-    line-row-requires
-    offset-row-requires
     loop-holds
-    mul-call
-    element-copy-out-call
+    mul-unpacked
+    element-copy-out-unpacked
+    unpacked-requires
     cast-stop
     mul-before
     array-read-before

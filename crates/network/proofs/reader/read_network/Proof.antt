@@ -135,12 +135,12 @@ next c =
     (λ w.
     let t = call-told r (w .1 .given .1) in
     let room = call-room r (w .1 .given .1) in
-    next-as r _ _ _ _ _ _ (w .7) (w .8) (w .9)
+    next-as r _ _ _ _ _ _ (w .8) (w .9) (w .10)
     (record {
-      kept-on = kept-call (network r) _ _ k _ room (line-low r (w .1 .given .1)) (t .stop);
+      kept-on = kept-call (network r) _ _ k _ _ (w .3 .ensures .0) (w .3 .ensures .1) room (line-low r (w .1 .given .1)) (t .stop);
       passes = t .passes;
       onward = t .onward;
-      extended = ap soFar (call-added (network r) (k .sound) _ room) ∙ t .extended;
+      extended = ap soFar (call-added (network r) (k .sound) _ room _ (w .3 .ensures .1)) ∙ t .extended;
     }))
     (c .match .came)
 
@@ -237,35 +237,38 @@ add-network c = omega (arith, line-room (c .before .before .before) (c .before .
 enum-known-told-3 : tie.Need-enum-known-told-3 Inv-loop μ-loop
 enum-known-told-3 c = search needs
 
-mul-call : tie.Need-mul-call Inv-loop μ-loop
-mul-call c = omega (arith, call-room (c .before .before .before) (c .before .told3 .given .1))
+packed-requires : tie.Need-packed-requires Inv-loop μ-loop
+packed-requires c κs = (line-low (c .before .before .before) (c .before .told3 .given .1), stop-low (c .before .before .before) (c .before .told3 .given .1))
 
-element-set-from-call : tie.Need-element-set-from-call Inv-loop μ-loop
-element-set-from-call c = omega (arith, call-room (c .before .before .before) (c .before .told3 .given .1))
+mul-network-2 : tie.Need-mul-network-2 Inv-loop μ-loop
+mul-network-2 c = omega (arith, call-room (c .before .before .before .before) (c .before .before .told3 .given .1))
+
+element-write-network-2 : tie.Need-element-write-network-2 Inv-loop μ-loop
+element-write-network-2 c = omega (arith, call-room (c .before .before .before .before) (c .before .before .told3 .given .1))
 
 add-network-2 : tie.Need-add-network-2 Inv-loop μ-loop
-add-network-2 c = omega (arith, call-room (c .before .before .before) (c .before .told3 .given .1))
+add-network-2 c = omega (arith, call-room (c .before .before .before .before) (c .before .before .told3 .given .1))
 
 cast-at-stop : tie.Need-cast-at-stop Inv-loop μ-loop
-cast-at-stop c = omega (arith, line-low (c .before .before .before .before) (c .before .before .told3 .given .1), stop-low (c .before .before .before .before) (c .before .before .told3 .given .1))
+cast-at-stop c = omega (arith, line-low (c .before .before .before .before .before) (c .before .before .before .told3 .given .1), stop-low (c .before .before .before .before .before) (c .before .before .before .told3 .given .1))
 
 mul-at-stop : tie.Need-mul-at-stop Inv-loop μ-loop
-mul-at-stop c = omega (arith, line-low (c .before .before .before .before) (c .before .before .told3 .given .1), stop-low (c .before .before .before .before) (c .before .before .told3 .given .1))
+mul-at-stop c = omega (arith, line-low (c .before .before .before .before .before) (c .before .before .before .told3 .given .1), stop-low (c .before .before .before .before .before) (c .before .before .before .told3 .given .1))
 
 cast-at-stop-2 : tie.Need-cast-at-stop-2 Inv-loop μ-loop
-cast-at-stop-2 c = omega (arith, line-low (c .before .before .before .before .before) (c .before .before .before .told3 .given .1), stop-low (c .before .before .before .before .before) (c .before .before .before .told3 .given .1))
+cast-at-stop-2 c = omega (arith, line-low (c .before .before .before .before .before .before) (c .before .before .before .before .told3 .given .1), stop-low (c .before .before .before .before .before .before) (c .before .before .before .before .told3 .given .1))
 
 add-at-stop : tie.Need-add-at-stop Inv-loop μ-loop
-add-at-stop c = omega (arith, line-low (c .before .before .before .before .before) (c .before .before .before .told3 .given .1), stop-low (c .before .before .before .before .before) (c .before .before .before .told3 .given .1))
+add-at-stop c = omega (arith, line-low (c .before .before .before .before .before .before) (c .before .before .before .before .told3 .given .1), stop-low (c .before .before .before .before .before .before) (c .before .before .before .before .told3 .given .1))
 
 array-read-often : tie.Need-array-read-often Inv-loop μ-loop
-array-read-often c = omega (arith, line-low (c .before .before .before .before .before) (c .before .before .before .told3 .given .1), stop-low (c .before .before .before .before .before) (c .before .before .before .told3 .given .1))
+array-read-often c = omega (arith, line-low (c .before .before .before .before .before .before) (c .before .before .before .before .told3 .given .1), stop-low (c .before .before .before .before .before .before) (c .before .before .before .before .told3 .given .1))
 
 add-often : tie.Need-add-often Inv-loop μ-loop
-add-often c = omega (arith, often-low (c .before .before .before .before .before) (c .before .before .before .told3 .given .1))
+add-often c = omega (arith, often-low (c .before .before .before .before .before .before) (c .before .before .before .before .told3 .given .1))
 
 array-write-often : tie.Need-array-write-often Inv-loop μ-loop
-array-write-often c = omega (arith, line-low (c .before .before .before .before .before) (c .before .before .before .told3 .given .1), stop-low (c .before .before .before .before .before) (c .before .before .before .told3 .given .1))
+array-write-often c = omega (arith, line-low (c .before .before .before .before .before .before) (c .before .before .before .before .told3 .given .1), stop-low (c .before .before .before .before .before .before) (c .before .before .before .before .told3 .given .1))
 
 cast-latest : tie.Need-cast-latest Inv-loop μ-loop
 cast-latest c = omega (arith, c .struct-known3 .given)
@@ -274,13 +277,13 @@ add-latest : tie.Need-add-latest Inv-loop μ-loop
 add-latest c = omega (arith, c .struct-known3 .given)
 
 cast-latest-2 : tie.Need-cast-latest-2 Inv-loop μ-loop
-cast-latest-2 c = omega (arith, line-low (c .before .before .before .before .before .before .before) (c .before .before .before .before .before .told3 .given .1), stop-low (c .before .before .before .before .before .before .before) (c .before .before .before .before .before .told3 .given .1))
+cast-latest-2 c = omega (arith, line-low (c .before .before .before .before .before .before .before .before) (c .before .before .before .before .before .before .told3 .given .1), stop-low (c .before .before .before .before .before .before .before .before) (c .before .before .before .before .before .before .told3 .given .1))
 
 mul-latest : tie.Need-mul-latest Inv-loop μ-loop
-mul-latest c = omega (arith, line-low (c .before .before .before .before .before .before .before) (c .before .before .before .before .before .told3 .given .1), stop-low (c .before .before .before .before .before .before .before) (c .before .before .before .before .before .told3 .given .1))
+mul-latest c = omega (arith, line-low (c .before .before .before .before .before .before .before .before) (c .before .before .before .before .before .before .told3 .given .1), stop-low (c .before .before .before .before .before .before .before .before) (c .before .before .before .before .before .before .told3 .given .1))
 
 array-write-latest : tie.Need-array-write-latest Inv-loop μ-loop
-array-write-latest c = omega (arith, line-low (c .before .before .before .before .before .before .before) (c .before .before .before .before .before .told3 .given .1), stop-low (c .before .before .before .before .before .before .before) (c .before .before .before .before .before .told3 .given .1))
+array-write-latest c = omega (arith, line-low (c .before .before .before .before .before .before .before .before) (c .before .before .before .before .before .before .told3 .given .1), stop-low (c .before .before .before .before .before .before .before .before) (c .before .before .before .before .before .before .told3 .given .1))
 
 part-behind-requires : tie.Need-part-behind-requires Inv-loop μ-loop
 part-behind-requires c κs =
@@ -347,8 +350,9 @@ read-network-spec =
     element-write-network
     add-network
     enum-known-told-3
-    mul-call
-    element-set-from-call
+    packed-requires
+    mul-network-2
+    element-write-network-2
     add-network-2
     cast-at-stop
     mul-at-stop

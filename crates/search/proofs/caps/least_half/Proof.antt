@@ -1,8 +1,8 @@
 -- `search::caps::least_half` meets its contract. The loop's invariant: `lesser` is the least of `least` and the halves over the calls passed.
 -- Assumes nothing.
 use Prim.Native.Nat.{ℕ, _+_, _-_, _/_, _<_, _≤_, min}
-use mathlib.Core.Path.{_≡_, refl, sym, ap, ap₂, _∙_}
-use mathlib.Core.List.{map}
+use mathlib.Core.Path.{_≡_, refl, sym, ap, ap₂, subst, _∙_}
+use mathlib.Core.List.{List, map}
 use mathlib.Core.Logic.{⊎-elim}
 use native.Mathlib.Nat.{le-antisymm}
 use native.Mathlib.Omega.{arith}
@@ -14,9 +14,10 @@ use Rattle.network.specs.Lists.{keep}
 use Rattle.network.specs.Divisor as divisor
 use Rattle.network.specs.Rating.{periodOf}
 use Rattle.network.specs.Scan.{callsBefore, leastFrom}
-use Rattle.network.specs.Stored.{netOf}
+use Rattle.network.specs.Stored.{netOf, callsIn}
 use Rattle.network.specs.Valid.{noCall}
-use Rattle.network.proofs.Laws.Stored.{held-lines, held-period, held-call-line}
+use Rattle.network.proofs.Laws.Packed.{call-in-row}
+use Rattle.network.proofs.Laws.Stored.{length-held, held-lines, held-period, held-call-line}
 use Rattle.search.specs.CapScan.{halfOf}
 use Rattle.search.proofs.Laws.CapScan.{least-hit, least-miss}
 use Rattle.search.proofs.caps.least_half.Statement.{statement}
@@ -24,7 +25,7 @@ use Rattle.search.proofs.caps.least_half.Tie as tie
 
 -- The least of a number and the halves of g of a call with those at its stop among the first `i`
 abbrev leastTo : Network → Call → ℕ → ℕ → ℕ
-leastTo network call least i = leastFrom least (map (λ d. halfOf (netOf network) d call) (callsBefore (call .stop) (network .list) i))
+leastTo network call least i = leastFrom least (map (λ d. halfOf (netOf network) d call) (callsBefore (call .stop) (callsIn (network .list)) i))
 
 abbrev Inv-loop : tie.InvT-loop
 Inv-loop call at least network line period lesser₀ i₀ lesser i = (i ≤ at) × (lesser ≡ leastTo network call least i)
@@ -32,35 +33,49 @@ Inv-loop call at least network line period lesser₀ i₀ lesser i = (i ≤ at) 
 abbrev μ-loop : tie.MeasureT-loop
 μ-loop call at least network line period lesser₀ i₀ lesser i = at - i
 
+small : (t : tie.In-loop Inv-loop μ-loop) → t .before .loop .i < 256
+small t = let s = t .before .before .before .before in omega (arith, t .loop-test .taken, s .pre .1 .1, s .pre .0 .0 .calls)
+
 -- At a turn of the loop: the call that is looked at is one of the calls that count
-module _ (t : tie.In-loop Inv-loop μ-loop) where
+module _ (u : tie.After-unpacked Inv-loop μ-loop) where
+  abbrev turn : tie.In-loop Inv-loop μ-loop
+  turn = u .before .before
+
   abbrev start : tie.Start Inv-loop μ-loop
-  start = t .before .before .before .before
+  start = turn .before .before .before .before
 
   abbrev network : Network
   network = start .args .t1
+
+  abbrev held : List Call
+  held = callsIn (network .list)
 
   abbrev call : Call
   call = start .args .call
 
   abbrev i : ℕ
-  i = t .before .loop .i
+  i = turn .before .loop .i
 
   abbrev other : Call
-  other = getD (network .list) i noCall
+  other = u .unpacked .result
 
-  small : i < 256
-  small = omega (arith, t .loop-test .taken, start .pre .1 .1, start .pre .0 .0 .calls)
+  other-is : other ≡ getD held i noCall
+  other-is = u .unpacked .ensures ∙ sym (call-in-row (network .list) i)
 
-  stated : i < length (network .list)
-  stated = omega (arith, small, start .pre .0 .0 .list-row)
+  stated : i < length held
+  stated = omega (arith, small turn, length-held network (start .pre .0 .0))
 
   other-line : other .line < network .lines
   other-line =
-      held-call-line network (start .pre .0 .0) (start .pre .0 .1) i (omega (arith, t .loop-test .taken, start .pre .1 .1))
+      subst (λ (k : Call). k .line < network .lines) (sym other-is)
+      (held-call-line network (start .pre .0 .0) (start .pre .0 .1) i (omega (arith, turn .loop-test .taken, start .pre .1 .1)))
 
   other-small : other .line < 16
   other-small = omega (arith, other-line, start .pre .0 .0 .lines)
+
+  other-period : getD (network .periods) (other .line) 0 ≤ 1440
+  other-period =
+      rw (held-period network (other .line) other-line) at (start .pre .0 .1 .period (other .line) (omega (arith, other-line, held-lines network (start .pre .0 .0))))
 
   own-line : call .line < network .lines
   own-line = omega (arith, start .pre .1 .0, held-lines network (start .pre .0 .0))
@@ -80,17 +95,19 @@ module _ (t : tie.In-loop Inv-loop μ-loop) where
   abbrev next : ℕ
   next = leastTo network call (start .args .least) (i + 1)
 
-  at-stop : (lesser : ℕ) → other .stop ≡ call .stop → lesser ≡ min (t .before .loop .lesser) half → lesser ≡ next
+  at-stop : (lesser : ℕ) → other .stop ≡ call .stop → lesser ≡ min (turn .before .loop .lesser) half → lesser ≡ next
   at-stop lesser e f =
       f
-      ∙ ap₂ min (t .before .loop .inv .1) half-is
-      ∙ sym (least-hit (λ d. halfOf (netOf network) d call) (start .args .least) (call .stop) (network .list) i stated e)
+      ∙ ap₂ min (turn .before .loop .inv .1) (half-is ∙ ap (λ (k : Call). halfOf (netOf network) k call) other-is)
+      ∙ sym
+      (least-hit (λ d. halfOf (netOf network) d call) (start .args .least) (call .stop) held i stated (ap (λ (k : Call). k .stop) (sym other-is) ∙ e))
 
-  elsewhere : (lesser : ℕ) → (other .stop ≡ call .stop → ⊥) → lesser ≡ t .before .loop .lesser → lesser ≡ next
-  elsewhere lesser e f =
+  elsewhere : (lesser : ℕ) → (other .stop ≡ call .stop → ⊥) → lesser ≡ turn .before .loop .lesser → lesser ≡ next
+  elsewhere lesser g f =
       f
-      ∙ t .before .loop .inv .1
-      ∙ sym (least-miss (λ d. halfOf (netOf network) d call) (start .args .least) (call .stop) (network .list) i stated e)
+      ∙ turn .before .loop .inv .1
+      ∙ sym
+      (least-miss (λ d. halfOf (netOf network) d call) (start .args .least) (call .stop) held i stated (λ e. g (ap (λ (k : Call). k .stop) other-is ∙ e)))
 
 cast-line : tie.Need-cast-line Inv-loop μ-loop
 cast-line c = search needs
@@ -108,42 +125,45 @@ loop-holds : tie.Need-loop-holds Inv-loop μ-loop
 unfolding leastFrom callsBefore keep
 loop-holds c = (omega arith, refl)
 
-mul-other : tie.Need-mul-other Inv-loop μ-loop
-mul-other c = omega (arith, small c)
+mul-unpacked : tie.Need-mul-unpacked Inv-loop μ-loop
+mul-unpacked c = omega (arith, small c)
 
-element-copy-out-other : tie.Need-element-copy-out-other Inv-loop μ-loop
-element-copy-out-other c = small c
+element-copy-out-unpacked : tie.Need-element-copy-out-unpacked Inv-loop μ-loop
+element-copy-out-unpacked c = small c
+
+unpacked-requires : tie.Need-unpacked-requires Inv-loop μ-loop
+unpacked-requires c κs = tt
 
 cast-other-line : tie.Need-cast-other-line Inv-loop μ-loop
-cast-other-line c = omega (arith, other-small (c .before .before .before .before .before))
+cast-other-line c = omega (arith, other-small (c .before .before .before .before))
 
 mul-gcd : tie.Need-mul-gcd Inv-loop μ-loop
-mul-gcd c = omega (arith, other-small (c .before .before .before .before .before))
+mul-gcd c = omega (arith, other-small (c .before .before .before .before))
 
 element-copy-out-gcd : tie.Need-element-copy-out-gcd Inv-loop μ-loop
-element-copy-out-gcd c = other-small (c .before .before .before .before .before)
+element-copy-out-gcd c = other-small (c .before .before .before .before)
 
 cast-gcd : tie.Need-cast-gcd Inv-loop μ-loop
-cast-gcd c = search needs
+cast-gcd c = omega (arith, other-period (c .before .before .before .before .before))
 
 gcd-requires : tie.Need-gcd-requires Inv-loop μ-loop
 gcd-requires c κs = search needs
 
 add-i : tie.Need-add-i Inv-loop μ-loop
-add-i c = omega (arith, small (c .before .before .before .before))
+add-i c = omega (arith, small (turn (c .before .before .before)))
 
 loop-less : tie.Need-loop-less Inv-loop μ-loop
-loop-less c = omega (arith, (c .before .before .before .before) .loop-test .taken)
+loop-less c = omega (arith, turn (c .before .before .before) .loop-test .taken)
 
 loop-again : tie.Need-loop-again Inv-loop μ-loop
 loop-again c =
-    let t = c .before .before .before .before in (
-      omega (arith, t .loop-test .taken),
+    let u = c .before .before .before in (
+      omega (arith, turn u .loop-test .taken),
       ⊎-elim
-          (λ w. at-stop t _ (w .0 .taken) (omega (arith, w .5, w .4 .taken, ap (λ (g : ℕ). g / 2) (w .3 .ensures))))
+          (λ w. at-stop u _ (w .0 .taken) (omega (arith, w .5, w .4 .taken, ap (λ (g : ℕ). g / 2) (w .3 .ensures))))
           (⊎-elim
-          (λ w. at-stop t _ (w .0 .taken) (omega (arith, w .5, w .4 .left, ap (λ (g : ℕ). g / 2) (w .3 .ensures))))
-          (λ w. elsewhere t _ (w .0 .left) (w .1)))
+          (λ w. at-stop u _ (w .0 .taken) (omega (arith, w .5, w .4 .left, ap (λ (g : ℕ). g / 2) (w .3 .ensures))))
+          (λ w. elsewhere u _ (w .0 .left) (w .1)))
           (c .if1 .came),
     )
 
@@ -163,8 +183,9 @@ least-half-spec =
     element-copy-out-period
     cast-period
     loop-holds
-    mul-other
-    element-copy-out-other
+    mul-unpacked
+    element-copy-out-unpacked
+    unpacked-requires
     cast-other-line
     mul-gcd
     element-copy-out-gcd

@@ -10,7 +10,7 @@ use Rattle.network.specs.declared.Call.{Call}
 use Rattle.network.specs.declared.Network.{Network}
 use Rattle.network.specs.Rating.{periodOf}
 use Rattle.network.specs.Scan.{callsBefore, leastFrom}
-use Rattle.network.specs.Stored.{netOf}
+use Rattle.network.specs.Stored.{netOf, callsIn}
 use Rattle.network.proofs.Laws.Stored.{held-lines, held-period, held-period-pos}
 use Rattle.search.specs.declared.caps.Bounds.{Bounds}
 use Rattle.search.specs.CapScan.{halfOf, visitsOf, leastHalf, boundsOf}
@@ -28,7 +28,7 @@ module _ (s : tie.Start) where
   call = s .args .call
 
   abbrev calls : List Call
-  calls = callsBefore (call .stop) (network .list) (s .args .at)
+  calls = callsBefore (call .stop) (callsIn (network .list)) (s .args .at)
 
   abbrev period : ℕ
   period = getD (network .periods) (call .line) 0
@@ -45,7 +45,7 @@ module _ (s : tie.Start) where
   calls-are = ap (λ (b : Bounds). b .calls) (s .pre .1 .1)
 
   calls-few : length calls ≤ 256
-  calls-few = omega (arith, length-callsBefore (call .stop) (network .list) (s .args .at), s .pre .1 .0 .1, s .pre .0 .0 .calls)
+  calls-few = omega (arith, length-callsBefore (call .stop) (callsIn (network .list)) (s .args .at), s .pre .1 .0 .1, s .pre .0 .0 .calls)
 
   visits-are : s .args .bounds .visits ≡ visitsOf (netOf network) calls
   unfolding boundsOf

@@ -1,0 +1,22 @@
+-- `network::Call::unpacked` meets its contract: the quotients and remainders are those of the definition. Assumes nothing.
+use mathlib.Core.Path.{refl}
+use borrow.Author.Needs.{needs}
+use Rattle.network.specs.Stored.{callIn}
+use Rattle.network.proofs.Call.unpacked.Statement.{statement}
+use Rattle.network.proofs.Call.unpacked.Tie as tie
+
+cast-t4 : tie.Need-cast-t4
+cast-t4 c = search needs
+
+cast-t7 : tie.Need-cast-t7
+cast-t7 c = search needs
+
+cast-t9 : tie.Need-cast-t9
+cast-t9 c = search needs
+
+returns : tie.Need-returns
+unfolding callIn
+returns c = refl
+
+pub unpacked-spec : {M : Type 1} → statement M
+unpacked-spec = tie.close (tie.spec cast-t4 cast-t7 cast-t9 returns)
