@@ -4,8 +4,9 @@
 //! row for each network with the processor time per try of both, in
 //! nanoseconds, the least of some runs, and at last the ratio of the sums.
 //! Behind that, a row for each network with the processor time per rate call of
-//! the engine's library and of `plain::rate`, and the geometric mean of the
-//! ratios. A ratio below 1 says that the engine is quicker.
+//! the engine's library and of `plain::rate`, and with the weighted rating's
+//! time over the rate call's, and the geometric means of the ratios. A ratio
+//! below 1 says that the engine is quicker.
 //!
 //! Run with `cargo run --release --offline --bin bench`, after `.ci/run`.
 
