@@ -6,8 +6,8 @@
 //! * [`papers`] is the independent implementation, one file for each section of
 //!   document 01.
 //! * [`files`] makes network files and sheets, good and bad, from a seed.
-//! * [`plain`] is rate in quick Rust by hand, and [`measure`] measures the
-//!   engine's rate call beside it.
+//! * [`plain`] is rate in quick Rust by hand, [`strong`] the walk, and [`measure`]
+//!   measures the engine's rate call beside the one.
 //! * [`program`] runs the proved engine's program `best`.
 //! * [`small`] has networks so small that every timetable can be rated.
 
@@ -21,3 +21,4 @@ pub mod papers;
 pub mod plain;
 pub mod program;
 pub mod small;
+pub mod strong;

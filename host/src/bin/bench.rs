@@ -1,8 +1,9 @@
-//! Measures the proved engine's program `best` beside `papers::best` on fixed
-//! generated networks of 4, 8, 16 lines and 8, 32, 64 stops whose searches stop
-//! at the budget of 1,000,000 tries. Both must print the same line. Prints one
-//! row for each network with the processor time per try of both, in
-//! nanoseconds, the least of some runs, and at last the ratio of the sums.
+//! Measures the proved engine's program `best` beside the walk of `strong` on
+//! fixed generated networks of 4, 8, 16 lines and 8, 32, 64 stops whose searches
+//! stop at the budget of 1,000,000 tries. Both must print the papers' line.
+//! Prints one row for each network with the processor time per try of both, in
+//! nanoseconds, the least of some runs, and at last the geometric mean of the
+//! ratios.
 //! Behind that, a row for each network with the processor time per rate call of
 //! the engine's library and of `plain::rate`, and with the weighted rating's
 //! time over the rate call's, and the geometric means of the ratios. A ratio
@@ -11,10 +12,11 @@
 //! Run with `cargo run --release --offline --bin bench`, after `.ci/run`.
 
 use host::files::{dense_file, Dice};
-use host::papers::best::best;
+use host::papers::best::{best, best_by};
 use host::papers::network::read;
 use host::papers::walk::{walk, Answer};
 use host::program;
+use host::strong;
 use std::hint::black_box;
 use std::process::exit;
 use std::time::{Duration, Instant};
@@ -25,7 +27,7 @@ const TRIES: u32 = 1_000_000;
 const RUNS: usize = 7;
 
 /// Processor time per try, in nanoseconds.
-#[derive(Clone, Copy, Default)]
+#[derive(Clone, Copy)]
 struct Times {
     engine: f64,
     rust: f64,
@@ -33,21 +35,17 @@ struct Times {
 
 fn main() {
     println!("lines stops calls seed  engine ns/try  rust ns/try  ratio");
-    let mut sum = Times::default();
+    let mut logarithms = Vec::new();
     for lines in [4, 8, 16] {
         for stops in [8, 32, 64] {
             let (seed, file) = long_search(lines, stops);
             let times = measure(&file);
             print_row(seed, &file, times);
-            sum.engine += times.engine;
-            sum.rust += times.rust;
+            logarithms.push((times.engine / times.rust).ln());
         }
     }
-    let ratio = sum.engine / sum.rust;
-    println!(
-        "overall               {:14.1} {:12.1} {ratio:6.2}",
-        sum.engine, sum.rust
-    );
+    let mean = logarithms.iter().sum::<f64>() / logarithms.len() as f64;
+    println!("geometric mean {:41.2}", mean.exp());
     println!();
     let clock = Instant::now();
     host::measure::print_rates(|| time_of_thread(&clock));
@@ -87,7 +85,7 @@ fn measure(file: &[u8]) -> Times {
     };
     for _ in 0..RUNS {
         least.engine = least.engine.min(engine_time(file, &line));
-        least.rust = least.rust.min(rust_time(file));
+        least.rust = least.rust.min(rust_time(file, &line));
     }
     least
 }
@@ -125,11 +123,12 @@ fn has_ended(child: u32) -> bool {
 }
 
 /// One run of the Rust side, its reading and its line included, on this thread.
-fn rust_time(file: &[u8]) -> f64 {
+fn rust_time(file: &[u8], line: &str) -> f64 {
     let clock = Instant::now();
     let begin = time_of_thread(&clock);
-    black_box(best(black_box(file)));
+    let printed = black_box(best_by(strong::walk, black_box(file)));
     let end = time_of_thread(&clock);
+    assert_eq!(printed, line);
     (end - begin) as f64 / f64::from(TRIES)
 }
 

@@ -1,8 +1,8 @@
 //! Document 01, "Edges and cases": what the program `best` prints.
 
-use super::network::{read, Refusal};
+use super::network::{read, Network, Refusal};
 use super::rating::Rating;
-use super::walk::{walk, Answer};
+use super::walk::{walk, Answer, Walked};
 
 /// "its first 4,096 bytes decide"
 const DECIDING: usize = 4_096;
@@ -11,6 +11,11 @@ const BUDGET: u32 = 1_000_000;
 
 /// The line printed for a standard input, with its line end.
 pub fn best(input: &[u8]) -> String {
+    best_by(walk, input)
+}
+
+/// The same by another walk.
+pub fn best_by(walk: impl Fn(&Network, u32) -> Walked, input: &[u8]) -> String {
     let file = &input[..input.len().min(DECIDING)];
     let net = match read(file) {
         Ok(net) => net,
