@@ -20,7 +20,7 @@ use Rattle.network.specs.Gives.{Gives}
 use Rattle.network.specs.Reading.{Reading, Outcome, values, refusal, accepted, refused, readFile, readOutcome}
 use Rattle.network.specs.Refusals.{Refuses, by-file, after-file, Unfit, Not64, Demand1}
 use Rattle.network.specs.Rating.{IsRating, rating}
-use Rattle.network.specs.Rate.{onSheet, rateOutcome}
+use Rattle.network.specs.Rate.{ratedOnSheet, rateOutcome}
 use Rattle.network.specs.ClassCall.{weightedRating, weightedOutcome}
 use Rattle.network.specs.Valid.{IsBytes}
 use Rattle.network.proofs.Demands.{ReadValues, read-values-of, RatedAs, rated-as, Classified, classified}
@@ -39,7 +39,7 @@ use Rattle.examination.specs.Sheets.{Better, first, second, fits, better
 use Rattle.examination.specs.Sheets as sheets
 use Rattle.examination.proofs.BetterSheet.{Chosen, first-not-below, second-above, both-fit}
 use Rattle.examination.proofs.Codes.{export-demand-1, status-tells, status-code, search-status-tells, search-status-code, mark-status-tells, mark-status-code}
-use Rattle.examination.proofs.Laws.Bytes.{onSheet-on-bytes}
+use Rattle.examination.proofs.Laws.Bytes.{rated-on-bytes}
 use Rattle.examination.proofs.Laws.Refusals.{refuses-range, sheet-bytes-refuse, sheet-bytes-refuse-only, mark-bytes-refuse, mark-bytes-refuse-only, mark-refuses-only}
 use Rattle.examination.proofs.Mark.{MarkMeans, mark-means}
 use Rattle.examination.proofs.SheetBytes.{All32, bytesOf, starts-of-bytes, length-bytesOf}
@@ -138,8 +138,8 @@ on-its-bytes call refuses read {n} reads sheet in32 fit =
 
 -- Of the answer on the bytes: when it refuses, and the row
 sheet-demand-1 : (rates : Net → List ℤ → Rating) (file : List ℕ) → IsBytes file → (bytes row : List ℕ) {returned : ℕ} {after : List ℕ}
-    → returned ≡ status (byBytes (onSheet rates) refusal (readFile file) bytes)
-    → after ≡ rowAfter (byBytes (onSheet rates) refusal (readFile file) bytes) row
+    → returned ≡ status (byBytes (ratedOnSheet rates) refusal (readFile file) bytes)
+    → after ≡ rowAfter (byBytes (ratedOnSheet rates) refusal (readFile file) bytes) row
     → Demand1 (TellsRefusal returned) (Refuses file 15 (BytesUnfit bytes)) (after ≡ row)
 sheet-demand-1 rates file is-bytes bytes row e f =
     export-demand-1
@@ -161,8 +161,8 @@ module _ (κs : Lfts 3) (a : ArgsD rate.signature κs) (r : ResD rate.signature 
       → a .1 .0 .now ≡ bytesOf sheet → (r ≡ 0) × RatedAs n sheet (values (s .1 .1 .0 .now))
   unfolding rateOutcome
   rate-export-demand-2 {n} reads sheet in32 fit lent =
-      let told = ap (byBytes (onSheet rating) refusal (readFile (a .0 .now))) lent
-      ∙ on-its-bytes (onSheet rating) refusal (readFile (a .0 .now)) reads sheet in32 fit
+      let told = ap (byBytes (ratedOnSheet rating) refusal (readFile (a .0 .now))) lent
+      ∙ on-its-bytes (ratedOnSheet rating) refusal (readFile (a .0 .now)) reads sheet in32 fit
       ∙ sheet-answers rating (a .0 .now) sheet reads fit in
       let q = answered (a .1 .1 .0 .now) (kept .0) (kept .1 .0) told in
       (q .0, rw (q .1 ∙ told) (rated-as (accepted-valid (a .0 .now) n (kept .1 .1) reads) sheet))
@@ -181,9 +181,9 @@ module _ (κs : Lfts 3) (a : ArgsD weighted.signature κs) (r : ResD weighted.si
   unfolding weightedOutcome rateOutcome
   weighted-export-as-rate κs′ a′ r′ s′ kept′ file sheet row =
       let same : byBytes weightedOutcome refusal (readFile (a .0 .now)) (a .1 .0 .now) ≡ byBytes rateOutcome refusal (readFile (a′ .0 .now)) (a′ .1 .0 .now) =
-      sym (onSheet-on-bytes weightedRating (a .0 .now) (kept .1 .1) (a .1 .0 .now))
+      sym (rated-on-bytes weightedRating (a .0 .now) (kept .1 .1) (a .1 .0 .now))
       ∙ weighted-is-rate (a .0 .now) (kept .1 .1) _
-      ∙ onSheet-on-bytes rating (a .0 .now) (kept .1 .1) (a .1 .0 .now)
+      ∙ rated-on-bytes rating (a .0 .now) (kept .1 .1) (a .1 .0 .now)
       ∙ ap₂ (λ (f b : List ℕ). byBytes rateOutcome refusal (readFile f) b) file sheet in (
         kept .0 ∙ ap status same ∙ sym (kept′ .0),
         kept .1 .0 ∙ ap₂ rowAfter same row ∙ sym (kept′ .1 .0),

@@ -14,6 +14,7 @@ use lib.ListN.{length}
 use Rattle.network.specs.Lists.{pick}
 use Rattle.network.specs.Network.{Net}
 use Rattle.network.specs.Rating.{IsRating, rating}
+use Rattle.network.specs.Rate.{onSheet}
 use Rattle.network.specs.Reading.{Reading, accepted, readFile}
 use Rattle.network.specs.Valid.{IsBytes}
 use Rattle.network.proofs.Laws.Gaps.{accepted-valid, rating-is-rating}
@@ -81,7 +82,7 @@ module _ (n : Net) (sheet : List ℤ) (budget : ℕ) where
       → (length sheet ≡ length (n .periods) → (o : SearchOutcome) → searchOutcome (accepted n) (length sheet) budget ≡ o
       → P (marked (rating n sheet .least) (rating n sheet .sum) o))
       → P (markOutcome (accepted n) sheet budget)
-  unfolding markOutcome fits
+  unfolding markOutcome fits onSheet
   mark-cases P unfit fit = go (eqb (length sheet) (length (n .periods))) refl
     where
       go : (b : Bool) → eqb (length sheet) (length (n .periods)) ≡ b
@@ -183,7 +184,7 @@ module _ {file : List ℕ} {sheet : List ℤ} {budget : ℕ} {answer : MarkOutco
       → (least : ℕ) × (sum : ℕ) × (tries : ℕ) × (searchOutcome (readFile file) (length sheet) budget ≡ finished least sum tries)
       → (least : ℕ) × (sum : ℕ) × (bestLeast : ℕ) × (bestSum : ℕ) × (equal : Bool) × (tries : ℕ)
       × (answer ≡ decided least sum bestLeast bestSum equal tries)
-  unfolding markOutcome fits marked
+  unfolding markOutcome fits marked onSheet
   decided-of-finished fit (bestLeast, bestSum, tries, e) = (
     rating n sheet .least,
     rating n sheet .sum,

@@ -10,6 +10,7 @@ use Rattle.network.specs.declared.Rating.{Rating}
 use Rattle.network.specs.Lists.{pick}
 use Rattle.network.specs.Network.{Net}
 use Rattle.network.specs.Rating.{rating, isAbove}
+use Rattle.network.specs.Rate.{onSheet}
 use Rattle.network.specs.Reading.{Reading, accepted, refused}
 use Rattle.search.specs.Search.{SearchOutcome, searchOutcome}
 use Rattle.search.specs.Search as search
@@ -74,8 +75,10 @@ marked least sum (search.refusal number place) = refusal number place
 
 -- What the mark call has to answer: it refuses as rate; otherwise the sheet's rating beside the search with a start row of the sheet's length
 unfoldable pub markOutcome : Reading → List ℤ → ℕ → MarkOutcome
-markOutcome (refused number place) sheet budget = refusal number place
-markOutcome (accepted n) sheet budget =
-    pick (fits n sheet)
-    (marked (rating n sheet .least) (rating n sheet .sum) (searchOutcome (accepted n) (length sheet) budget))
-    (refusal 15 0)
+markOutcome read sheet budget =
+    onSheet
+    (λ (n : Net) (starts : List ℤ).
+    marked (rating n starts .least) (rating n starts .sum) (searchOutcome (accepted n) (length starts) budget))
+    refusal
+    read
+    sheet

@@ -13,7 +13,7 @@ use Rattle.network.specs.Lists.{pick}
 use Rattle.network.specs.Network.{Net, stopCount}
 use Rattle.network.specs.Reading.{Reading, accepted, refused, Outcome, values, refusal}
 use Rattle.network.specs.Rating.{ratingOver}
-use Rattle.network.specs.Rate.{onSheet}
+use Rattle.network.specs.Rate.{ratedOnSheet}
 use Rattle.network.specs.Classes.{classRow, weightRow, classCount, lowestStops}
 
 -- The class call's enum: the number of classes; or the refusal ("Classes of stops")
@@ -47,4 +47,4 @@ weightedRating n starts = ratingOver n starts (lowestStops (classRow n) (weightR
 
 -- What the weighted rating has to answer: it refuses as rate does ("Classes of stops")
 unfoldable pub weightedOutcome : Reading → List ℤ → Outcome
-weightedOutcome read sheet = onSheet weightedRating read sheet
+weightedOutcome read sheet = ratedOnSheet weightedRating read sheet

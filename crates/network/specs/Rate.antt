@@ -1,4 +1,5 @@
 -- Document 01, "Sheets" and "Grounds for refusing", the candidate: what rate answers on a file and a sheet.
+use Prim.Native.Nat.{ℕ}
 use mathlib.Core.List.{List, [], _∷_}
 use lib.Dec.{eqb}
 use lib.IntN.{ℤ}
@@ -20,12 +21,16 @@ rateAnswer (answer.Refused number place) = refusal number place
 unfoldable pub ratingValues : Rating → Outcome
 ratingValues r = values (r .least ∷ r .sum ∷ [])
 
--- What is answered on a sheet of starts, given how an accepted network rates it: the file's refusal, then ground 15, then the rating
-unfoldable pub onSheet : (Net → List ℤ → Rating) → Reading → List ℤ → Outcome
-onSheet rates (refused number place) sheet = refusal number place
-onSheet rates (accepted n) sheet =
-    pick (eqb (length sheet) (length (n .periods))) (ratingValues (rates n sheet)) (refusal 15 0)
+-- What a call on a file and a sheet of starts answers, given what it answers of a network and a sheet that fits, and how it refuses: the file's
+-- refusal, then ground 15, then the answer
+unfoldable pub onSheet : {A : Type 0} → (Net → List ℤ → A) → (ℕ → ℕ → A) → Reading → List ℤ → A
+onSheet answers refuses (refused number place) sheet = refuses number place
+onSheet answers refuses (accepted n) sheet = pick (eqb (length sheet) (length (n .periods))) (answers n sheet) (refuses 15 0)
+
+-- A call that answers a rating, given how a network rates a sheet
+abbrev pub ratedOnSheet : (Net → List ℤ → Rating) → Reading → List ℤ → Outcome
+ratedOnSheet rates read sheet = onSheet (λ (n : Net) (starts : List ℤ). ratingValues (rates n starts)) refusal read sheet
 
 -- What the rate call has to answer
 unfoldable pub rateOutcome : Reading → List ℤ → Outcome
-rateOutcome read sheet = onSheet rating read sheet
+rateOutcome read sheet = ratedOnSheet rating read sheet

@@ -13,13 +13,12 @@ use Rattle.network.specs.Lists.{pick}
 use Rattle.network.specs.Network.{Net, word}
 use Rattle.network.specs.Rating.{rating}
 use Rattle.network.specs.declared.Rating.{Rating}
-use Rattle.network.specs.Rate.{onSheet, ratingValues}
+use Rattle.network.specs.Rate.{onSheet, ratedOnSheet}
 use Rattle.network.specs.Reading.{Reading, accepted, refused, refusal, readFile}
 use Rattle.network.specs.Valid.{IsBytes}
 use Rattle.network.proofs.Laws.Valid.{accepted-valid}
-use Rattle.search.specs.Search.{searchOutcome}
 use Rattle.examination.specs.Bytes.{signed, starts, bytesFit, byBytes, betterBytes}
-use Rattle.examination.specs.Sheets.{fits, betterBy, betterOf, marked, markOutcome}
+use Rattle.examination.specs.Sheets.{fits, betterBy, betterOf, markOutcome}
 use Rattle.examination.specs.Sheets as sheets
 use Rattle.examination.specs.Taken.{startAt, isWhole, sheetOf}
 
@@ -117,25 +116,23 @@ module _ {A : Type 0} (call : Reading → List ℤ → A) (refuses : ℕ → ℕ
       go (refused number place) e = on-refused number place (sheetOf bytes)
       go (accepted n) e = on-accepted n (accepted-valid file n is-bytes e .lines) bytes
 
--- Rate, the weighted rating and mark are such calls
-pub onSheet-on-bytes : (rates : Net → List ℤ → Rating) (file : List ℕ) → IsBytes file → (bytes : List ℕ)
-    → onSheet rates (readFile file) (sheetOf bytes) ≡ byBytes (onSheet rates) refusal (readFile file) bytes
+-- Every call on a sheet is such a call, whatever it answers; rate, the weighted rating and mark are
+pub onSheet-on-bytes : {A : Type 0} (answers : Net → List ℤ → A) (refuses : ℕ → ℕ → A) (file : List ℕ) → IsBytes file → (bytes : List ℕ)
+    → onSheet answers refuses (readFile file) (sheetOf bytes) ≡ byBytes (onSheet answers refuses) refuses (readFile file) bytes
 unfolding onSheet fits
-onSheet-on-bytes rates =
-    call-on-bytes (onSheet rates) refusal (λ number place sheet. refl)
-    (λ n sheet e. ap (λ (b : Bool). pick b (ratingValues (rates n sheet)) (refusal 15 0)) e)
+onSheet-on-bytes answers refuses =
+    call-on-bytes (onSheet answers refuses) refuses (λ number place sheet. refl)
+    (λ n sheet e. ap (λ (b : Bool). pick b (answers n sheet) (refuses 15 0)) e)
+
+pub rated-on-bytes : (rates : Net → List ℤ → Rating) (file : List ℕ) → IsBytes file → (bytes : List ℕ)
+    → ratedOnSheet rates (readFile file) (sheetOf bytes) ≡ byBytes (ratedOnSheet rates) refusal (readFile file) bytes
+rated-on-bytes rates = onSheet-on-bytes _ refusal
 
 pub mark-on-bytes : (budget : ℕ) (file : List ℕ) → IsBytes file → (bytes : List ℕ)
     → markOutcome (readFile file) (sheetOf bytes) budget
     ≡ byBytes (λ (read : Reading) (sheet : List ℤ). markOutcome read sheet budget) sheets.refusal (readFile file) bytes
 unfolding markOutcome
-mark-on-bytes budget =
-    call-on-bytes (λ (read : Reading) (sheet : List ℤ). markOutcome read sheet budget) sheets.refusal (λ number place sheet. refl)
-    (λ n sheet e.
-    ap
-    (λ (b : Bool).
-    pick b (marked (rating n sheet .least) (rating n sheet .sum) (searchOutcome (accepted n) (length sheet) budget)) (sheets.refusal 15 0))
-    e)
+mark-on-bytes budget = onSheet-on-bytes _ sheets.refusal
 
 -- Better-of-two on the sheets that the bytes stand for is better-of-two on the bytes
 better-of-fit : (n : Net) (one other one′ other′ : List ℤ) (a b : Bool) → (a ≡ true → one ≡ one′) → (b ≡ true → other ≡ other′)

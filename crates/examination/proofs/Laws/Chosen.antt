@@ -100,5 +100,5 @@ mark-refused (accepted n) sheet budget {number} {place} e = go (eqb (length shee
 
 pub mark-rated : (read : Reading) (sheet : List ℤ) (budget : ℕ) {least sum : ℕ} → RatedOn read sheet least sum
     → marked least sum (searchOutcome read (length sheet) budget) ≡ markOutcome read sheet budget
-unfolding markOutcome fits
+unfolding markOutcome fits onSheet
 mark-rated read sheet budget r = rw (r .reads, r .its-least, r .its-sum, eq-eqb _ _ (r .fit)) refl

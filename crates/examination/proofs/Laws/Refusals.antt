@@ -3,25 +3,21 @@
 -- Assumes nothing.
 use Prim.Native.Nat.{ℕ, _≤_, _<_}
 use mathlib.Core.Path.{_≡_, refl, sym, ap, ap₂, _∙_}
-use mathlib.Core.Bool.{Bool, true, false}
 use mathlib.Core.List.{List}
 use native.Mathlib.Omega.{arith}
-use borrow.Author.Tests.{eqb-true, eqb-false, eq-eqb, ne-eqb}
-use lib.Dec.{eqb}
+use borrow.Author.Tests.{eqb-true, eq-eqb}
 use lib.IntN.{ℤ}
 use lib.ListN.{length}
 use Rattle.network.specs.declared.Rating.{Rating}
-use Rattle.network.specs.Lists.{pick}
 use Rattle.network.specs.ClassCall.{classOutcome}
 use Rattle.network.specs.Network.{Net}
-use Rattle.network.specs.Rate.{onSheet}
-use Rattle.network.specs.Rating.{rating}
-use Rattle.network.specs.Reading.{Reading, accepted, refused, refusal, readFile, readOutcome}
+use Rattle.network.specs.Rate.{ratedOnSheet}
+use Rattle.network.specs.Reading.{Reading, accepted, refusal, readFile, readOutcome}
 use Rattle.network.specs.Refusals.{Refuses, by-file, after-file, Unfit}
 use Rattle.network.specs.Valid.{IsBytes}
 use Rattle.network.proofs.Laws.Lists.{zero-ne-one}
 use Rattle.network.proofs.Laws.Reading.{refused-number, refused-place}
-use Rattle.network.proofs.Laws.Refusals.{read-refused-as, sheet-refuses, sheet-refuses-only, class-refuses-only}
+use Rattle.network.proofs.Laws.Refusals.{on-sheet-refuses, on-sheet-refuses-only, read-refused-as, sheet-refuses, sheet-refuses-only, class-refuses-only}
 use Rattle.network.proofs.Laws.Gaps.{accepted-valid}
 use Rattle.search.specs.Search.{SearchOutcome, finished, stopped, stoppedWithNone, searchOutcome, startRowAfter}
 use Rattle.search.specs.Search as search
@@ -31,7 +27,7 @@ use Rattle.examination.specs.Exports.{placeLimit}
 use Rattle.examination.specs.Sheets.{fits, marked, markOutcome}
 use Rattle.examination.specs.Sheets as sheets
 use Rattle.examination.specs.Taken.{sheetOf}
-use Rattle.examination.proofs.Laws.Bytes.{sheetOf-fits, onSheet-on-bytes, mark-on-bytes}
+use Rattle.examination.proofs.Laws.Bytes.{sheetOf-fits, rated-on-bytes, mark-on-bytes}
 
 -- ---- the numbers and places of refusals
 
@@ -43,9 +39,6 @@ refuses-range (after-file e unfit) l h = omega arith
 
 -- ---- mark
 
-same-refusal : {number place number′ place′ : ℕ} → sheets.refusal number place ≡ sheets.refusal number′ place′ → refused number place ≡ refused number′ place′
-same-refusal e = ap₂ refused (cc) (cc)
-
 marked-refuses : (least sum : ℕ) (o : SearchOutcome) {number place : ℕ} → marked least sum o ≡ sheets.refusal number place → o ≡ search.refusal number place
 unfolding marked
 marked-refuses least sum (finished l s t) e = absurd (zero-ne-one (cc))
@@ -55,14 +48,8 @@ marked-refuses least sum (search.refusal k p) e = ap₂ search.refusal (cc) (cc)
 
 module _ (file : List ℕ) (sheet : List ℤ) (budget : ℕ) where
   pub mark-refuses : {number place : ℕ} → Refuses file 15 (Unfit sheet) number place → markOutcome (readFile file) sheet budget ≡ sheets.refusal number place
-  unfolding markOutcome fits
-  mark-refuses (by-file e) = ap (λ (k : Reading). markOutcome k sheet budget) e
-  mark-refuses (after-file {n = n} e differ) =
-      ap (λ (k : Reading). markOutcome k sheet budget) e
-      ∙ ap
-      (λ (b : Bool).
-      pick b (marked (rating n sheet .least) (rating n sheet .sum) (searchOutcome (accepted n) (length sheet) budget)) (sheets.refusal 15 0))
-      (ne-eqb _ _ differ)
+  unfolding markOutcome
+  mark-refuses = on-sheet-refuses _ sheets.refusal file sheet
 
   module _ (bytes : IsBytes file) where
     -- With one place for each line the search doesn't refuse
@@ -80,23 +67,13 @@ module _ (file : List ℕ) (sheet : List ℤ) (budget : ℕ) where
 
     pub mark-refuses-only : {number place : ℕ} → markOutcome (readFile file) sheet budget ≡ sheets.refusal number place
         → Refuses file 15 (Unfit sheet) number place
-    unfolding markOutcome fits
-    mark-refuses-only {number} {place} = go (readFile file) refl
-      where
-        at : (n : Net) → readFile file ≡ accepted n → (b : Bool) → eqb (length sheet) (length (n .periods)) ≡ b
-            → pick b (marked (rating n sheet .least) (rating n sheet .sum) (searchOutcome (accepted n) (length sheet) budget)) (sheets.refusal 15 0)
-            ≡ sheets.refusal number place
-            → Refuses file 15 (Unfit sheet) number place
-        at n e true f h = absurd (search-answers e (eqb-true _ _ f) (marked-refuses _ _ _ h))
-        at n e false f h =
-            let number-is : 15 ≡ number = cc in
-            let place-is : 0 ≡ place = cc in
-            rw (← number-is, ← place-is) (after-file e (eqb-false _ _ f))
-
-        go : (read : Reading) → readFile file ≡ read → markOutcome read sheet budget ≡ sheets.refusal number place
-            → Refuses file 15 (Unfit sheet) number place
-        go (refused number′ place′) e h = by-file (e ∙ same-refusal h)
-        go (accepted n) e h = at n e (eqb (length sheet) (length (n .periods))) refl h
+    unfolding markOutcome
+    mark-refuses-only =
+        on-sheet-refuses-only _ sheets.refusal file sheet
+        (record {
+          no-refusal = λ n reads fit number place e. search-answers reads fit (marked-refuses _ _ _ e);
+          same-number = λ number place number′ place′ e. (cc, cc);
+        })
 
 -- ---- so an export's refusal has a place below 65,536
 
@@ -108,7 +85,7 @@ module _ (file : List ℕ) {number place : ℕ} where
   pub read-low : readOutcome (readFile file) ≡ refusal number place → place < placeLimit
   read-low e = omega (arith, refused-place file number place (read-refused-as file e))
 
-  pub sheet-low : (rates : Net → List ℤ → Rating) (sheet : List ℤ) → onSheet rates (readFile file) sheet ≡ refusal number place → place < placeLimit
+  pub sheet-low : (rates : Net → List ℤ → Rating) (sheet : List ℤ) → ratedOnSheet rates (readFile file) sheet ≡ refusal number place → place < placeLimit
   sheet-low rates sheet e = low (sheet-refuses-only rates file sheet e) (omega arith) (omega arith)
 
   pub class-low : (classes weights : List ℕ) → classOutcome (readFile file) (length classes) (length weights) ≡ refusal number place → place < placeLimit
@@ -146,12 +123,12 @@ module _ (file : List ℕ) (is-bytes : IsBytes file) (bytes : List ℕ) where
   of-bytes (after-file {n = n} e differ) = after-file e (bytes-unfit n e differ)
 
   module _ (rates : Net → List ℤ → Rating) {number place : ℕ} where
-    pub sheet-bytes-refuse : Refuses file 15 (BytesUnfit bytes) number place → byBytes (onSheet rates) refusal (readFile file) bytes ≡ refusal number place
-    sheet-bytes-refuse f = sym (onSheet-on-bytes rates file is-bytes bytes) ∙ sheet-refuses rates file (sheetOf bytes) (of-bytes f)
+    pub sheet-bytes-refuse : Refuses file 15 (BytesUnfit bytes) number place → byBytes (ratedOnSheet rates) refusal (readFile file) bytes ≡ refusal number place
+    sheet-bytes-refuse f = sym (rated-on-bytes rates file is-bytes bytes) ∙ sheet-refuses rates file (sheetOf bytes) (of-bytes f)
 
-    pub sheet-bytes-refuse-only : byBytes (onSheet rates) refusal (readFile file) bytes ≡ refusal number place
+    pub sheet-bytes-refuse-only : byBytes (ratedOnSheet rates) refusal (readFile file) bytes ≡ refusal number place
         → Refuses file 15 (BytesUnfit bytes) number place
-    sheet-bytes-refuse-only e = to-bytes (sheet-refuses-only rates file (sheetOf bytes) (onSheet-on-bytes rates file is-bytes bytes ∙ e))
+    sheet-bytes-refuse-only e = to-bytes (sheet-refuses-only rates file (sheetOf bytes) (rated-on-bytes rates file is-bytes bytes ∙ e))
 
   module _ (budget : ℕ) {number place : ℕ} where
     pub mark-bytes-refuse : Refuses file 15 (BytesUnfit bytes) number place

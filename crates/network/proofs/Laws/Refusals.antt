@@ -5,7 +5,7 @@ use mathlib.Core.Path.{_≡_, refl, ap, ap₂, _∙_}
 use mathlib.Core.Bool.{Bool, true, false, _&&_}
 use mathlib.Core.List.{List, [], _∷_}
 use mathlib.Core.Logic.{inl, inr}
-use borrow.Author.Tests.{eqb-false, eq-eqb, ne-eqb}
+use borrow.Author.Tests.{eqb-true, eqb-false, eq-eqb, ne-eqb}
 use lib.Dec.{eqb}
 use lib.IntN.{ℤ}
 use lib.ListN.{length}
@@ -15,7 +15,7 @@ use Rattle.network.specs.Network.{Net, stopCount}
 use Rattle.network.specs.Reading.{Reading, accepted, refused, values, refusal, readFile, readOutcome}
 use Rattle.network.specs.Gives.{Gives}
 use Rattle.network.specs.Refusals.{Refuses, by-file, after-file, Unfit, Not64}
-use Rattle.network.specs.Rate.{ratingValues, onSheet}
+use Rattle.network.specs.Rate.{ratingValues, onSheet, ratedOnSheet}
 use Rattle.network.specs.Classes.{classCount, classRow, weightRow}
 use Rattle.network.specs.ClassCall.{rowsFit, classOutcome, classRowAfter, weightRowAfter}
 use Rattle.network.proofs.Laws.Lists.{zero-ne-one, and-both, and-not-left, and-not-right}
@@ -51,37 +51,65 @@ module _ (file : List ℕ) {number place : ℕ} where
 
 -- ---- a call on a sheet
 
-module _ (rates : Net → List ℤ → Rating) (file : List ℕ) (sheet : List ℤ) where
-  pub sheet-refuses : {number place : ℕ} → Refuses file 15 (Unfit sheet) number place → onSheet rates (readFile file) sheet ≡ refusal number place
-  unfolding onSheet
-  sheet-refuses (by-file e) = ap (λ (k : Reading). onSheet rates k sheet) e
-  sheet-refuses (after-file {n = n} e differ) =
-      ap (λ (k : Reading). onSheet rates k sheet) e ∙ picked-unfit _ (ratingValues (rates n sheet)) (refusal 15 0) (ne-eqb _ _ differ)
+-- What it answers is no refusal, and two refusals are told apart by number and place
+pub record TellsApart {A : Type 0} (answers : Net → List ℤ → A) (refuses : ℕ → ℕ → A) (file : List ℕ) (sheet : List ℤ) : Type 0 where
+  pub no-refusal : (n : Net) → readFile file ≡ accepted n → length sheet ≡ length (n .periods) → (number place : ℕ) → answers n sheet ≡ refuses number place → ⊥
+  pub same-number : (number place number′ place′ : ℕ) → refuses number place ≡ refuses number′ place′ → (number ≡ number′) × (place ≡ place′)
 
-  pub sheet-refuses-only : {number place : ℕ} → onSheet rates (readFile file) sheet ≡ refusal number place → Refuses file 15 (Unfit sheet) number place
-  unfolding onSheet ratingValues
-  sheet-refuses-only {number} {place} = go (readFile file) refl
+module _ {A : Type 0} (answers : Net → List ℤ → A) (refuses : ℕ → ℕ → A) (file : List ℕ) (sheet : List ℤ) where
+  pub on-sheet-refuses : {number place : ℕ} → Refuses file 15 (Unfit sheet) number place → onSheet answers refuses (readFile file) sheet ≡ refuses number place
+  unfolding onSheet
+  on-sheet-refuses (by-file e) = ap (λ (k : Reading). onSheet answers refuses k sheet) e
+  on-sheet-refuses (after-file {n = n} e differ) =
+      ap (λ (k : Reading). onSheet answers refuses k sheet) e ∙ picked-unfit _ (answers n sheet) (refuses 15 0) (ne-eqb _ _ differ)
+
+  pub on-sheet-refuses-only : TellsApart answers refuses file sheet → {number place : ℕ} → onSheet answers refuses (readFile file) sheet ≡ refuses number place
+      → Refuses file 15 (Unfit sheet) number place
+  unfolding onSheet
+  on-sheet-refuses-only apart {number} {place} = go (readFile file) refl
     where
       at : (n : Net) → readFile file ≡ accepted n → (b : Bool) → eqb (length sheet) (length (n .periods)) ≡ b
-          → pick b (values (rates n sheet .least ∷ rates n sheet .sum ∷ [])) (refusal 15 0) ≡ refusal number place
+          → pick b (answers n sheet) (refuses 15 0) ≡ refuses number place
           → Refuses file 15 (Unfit sheet) number place
-      at n e true f h = absurd (zero-ne-one (cc))
+      at n e true f h = absurd (apart .no-refusal n e (eqb-true _ _ f) number place h)
       at n e false f h =
-          let number-is : 15 ≡ number = cc in
-          let place-is : 0 ≡ place = cc in
+          let (number-is, place-is) = apart .same-number 15 0 number place h in
           rw (← number-is, ← place-is) (after-file e (eqb-false _ _ f))
 
-      go : (read : Reading) → readFile file ≡ read → onSheet rates read sheet ≡ refusal number place → Refuses file 15 (Unfit sheet) number place
-      go (refused number′ place′) e h = by-file (e ∙ same-refusal h)
+      go : (read : Reading) → readFile file ≡ read → onSheet answers refuses read sheet ≡ refuses number place → Refuses file 15 (Unfit sheet) number place
+      go (refused number′ place′) e h =
+          let (number-is, place-is) = apart .same-number number′ place′ number place h in
+          by-file (e ∙ ap₂ refused number-is place-is)
       go (accepted n) e h = at n e (eqb (length sheet) (length (n .periods))) refl h
 
   -- .. and otherwise it answers
+  pub on-sheet-answers : {n : Net} → readFile file ≡ accepted n → length sheet ≡ length (n .periods)
+      → onSheet answers refuses (readFile file) sheet ≡ answers n sheet
+  unfolding onSheet
+  on-sheet-answers {n} e fits =
+      ap (λ (k : Reading). onSheet answers refuses k sheet) e ∙ ap (λ (b : Bool). pick b (answers n sheet) (refuses 15 0)) (eq-eqb _ _ fits)
+
+-- ---- a call that rates a sheet
+
+module _ (rates : Net → List ℤ → Rating) (file : List ℕ) (sheet : List ℤ) where
+  rated-apart : TellsApart (λ (n : Net) (starts : List ℤ). ratingValues (rates n starts)) refusal file sheet
+  unfolding ratingValues
+  rated-apart =
+      record {
+        no-refusal = λ n reads fit number place e. absurd (zero-ne-one (cc));
+        same-number = λ number place number′ place′ e. (cc, cc);
+      }
+
+  pub sheet-refuses : {number place : ℕ} → Refuses file 15 (Unfit sheet) number place → ratedOnSheet rates (readFile file) sheet ≡ refusal number place
+  sheet-refuses = on-sheet-refuses _ refusal file sheet
+
+  pub sheet-refuses-only : {number place : ℕ} → ratedOnSheet rates (readFile file) sheet ≡ refusal number place → Refuses file 15 (Unfit sheet) number place
+  sheet-refuses-only = on-sheet-refuses-only _ refusal file sheet rated-apart
+
   pub sheet-answers : {n : Net} → readFile file ≡ accepted n → length sheet ≡ length (n .periods)
-      → onSheet rates (readFile file) sheet ≡ values (rates n sheet .least ∷ rates n sheet .sum ∷ [])
-  unfolding onSheet ratingValues
-  sheet-answers {n} e fits =
-      ap (λ (k : Reading). onSheet rates k sheet) e
-      ∙ ap (λ (b : Bool). pick b (values (rates n sheet .least ∷ rates n sheet .sum ∷ [])) (refusal 15 0)) (eq-eqb _ _ fits)
+      → ratedOnSheet rates (readFile file) sheet ≡ values (rates n sheet .least ∷ rates n sheet .sum ∷ [])
+  unfolding ratingValues
+  sheet-answers = on-sheet-answers _ refusal file sheet
 
 -- ---- the class call
 

@@ -16,7 +16,7 @@ use Rattle.network.specs.Lists.{pick, countBelow, below}
 use Rattle.network.specs.Network.{Net, maxStop, callsAnywhere, isServed}
 use Rattle.network.specs.Reading.{Reading, accepted, refused, Outcome, values, refusal, readFile}
 use Rattle.network.specs.Valid.{IsBytes, Valid}
-use Rattle.network.specs.Rate.{ratingValues, onSheet, rateOutcome}
+use Rattle.network.specs.Rate.{ratingValues, onSheet, ratedOnSheet, rateOutcome}
 use Rattle.network.specs.Rating.{Counted, IsRatingOver, IsRating, rating}
 use Rattle.network.specs.Scan.{countedStops}
 use Rattle.network.specs.Classes.{lowestAlike, isLowest, classRow, weightRow, classCount, lowestStops}
@@ -112,7 +112,7 @@ pub weighted-is-rate : (file : List ℕ) → IsBytes file → (sheet : List ℤ)
 unfolding weightedOutcome weightedRating rateOutcome onSheet
 weighted-is-rate file bytes sheet = go (readFile file) refl
   where
-    go : (read : Reading) → readFile file ≡ read → onSheet weightedRating read sheet ≡ rateOutcome read sheet
+    go : (read : Reading) → readFile file ≡ read → ratedOnSheet weightedRating read sheet ≡ rateOutcome read sheet
     go (refused number place) e = refl
     go (accepted n) e =
         ap (λ (r : Rating). pick (eqb (length sheet) (length (n .periods))) (ratingValues r) (refusal 15 0))

@@ -5,12 +5,12 @@ use borrow.Author.Needs.{needs}
 use lib.IntN.{ℤ}
 use lib.Seq.{length-take-le}
 use Rattle.network.specs.Rating.{rating}
-use Rattle.network.specs.Rate.{rateAnswer, onSheet, rateOutcome}
+use Rattle.network.specs.Rate.{rateAnswer, ratedOnSheet, rateOutcome}
 use Rattle.network.specs.Reading.{Outcome, refusal, readFile}
 use Rattle.examination.specs.Bytes.{byBytes}
 use Rattle.examination.specs.Exports.{status, rowAfter}
 use Rattle.examination.specs.Taken.{held}
-use Rattle.examination.proofs.Laws.Bytes.{onSheet-on-bytes}
+use Rattle.examination.proofs.Laws.Bytes.{rated-on-bytes}
 use Rattle.examination.proofs.Laws.Refusals.{sheet-low}
 use Rattle.examination.proofs.exports.examination_rate.Statement.{statement}
 use Rattle.examination.proofs.exports.examination_rate.Tie as tie
@@ -21,8 +21,8 @@ unfolding held rateOutcome
 answered c =
     let s = c .before .before .before .before .before .before in
     c .rate .ensures .0
-    ∙ ap (λ (sheet : List ℤ). onSheet rating (readFile (s .args .file .now)) sheet) (c .before .before .before .sheet-of .ensures .1)
-    ∙ onSheet-on-bytes rating (s .args .file .now) (c .rate .ensures .1) (s .args .sheet .now)
+    ∙ ap (λ (sheet : List ℤ). ratedOnSheet rating (readFile (s .args .file .now)) sheet) (c .before .before .before .sheet-of .ensures .1)
+    ∙ rated-on-bytes rating (s .args .file .now) (c .rate .ensures .1) (s .args .sheet .now)
 
 sheet-of-requires : tie.Need-sheet-of-requires
 sheet-of-requires c κs = search needs

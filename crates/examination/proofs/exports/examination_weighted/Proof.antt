@@ -5,12 +5,12 @@ use borrow.Author.Needs.{needs}
 use lib.IntN.{ℤ}
 use lib.Seq.{length-take-le}
 use Rattle.network.specs.ClassCall.{weightedRating, weightedOutcome}
-use Rattle.network.specs.Rate.{rateAnswer, onSheet}
+use Rattle.network.specs.Rate.{rateAnswer, ratedOnSheet}
 use Rattle.network.specs.Reading.{Outcome, refusal, readFile}
 use Rattle.examination.specs.Bytes.{byBytes}
 use Rattle.examination.specs.Exports.{status, rowAfter}
 use Rattle.examination.specs.Taken.{held}
-use Rattle.examination.proofs.Laws.Bytes.{onSheet-on-bytes}
+use Rattle.examination.proofs.Laws.Bytes.{rated-on-bytes}
 use Rattle.examination.proofs.Laws.Refusals.{sheet-low}
 use Rattle.examination.proofs.exports.examination_weighted.Statement.{statement}
 use Rattle.examination.proofs.exports.examination_weighted.Tie as tie
@@ -21,8 +21,8 @@ unfolding held weightedOutcome
 answered c =
     let s = c .before .before .before .before .before .before in
     c .weighted .ensures .0
-    ∙ ap (λ (sheet : List ℤ). onSheet weightedRating (readFile (s .args .file .now)) sheet) (c .before .before .before .sheet-of .ensures .1)
-    ∙ onSheet-on-bytes weightedRating (s .args .file .now) (c .weighted .ensures .1) (s .args .sheet .now)
+    ∙ ap (λ (sheet : List ℤ). ratedOnSheet weightedRating (readFile (s .args .file .now)) sheet) (c .before .before .before .sheet-of .ensures .1)
+    ∙ rated-on-bytes weightedRating (s .args .file .now) (c .weighted .ensures .1) (s .args .sheet .now)
 
 sheet-of-requires : tie.Need-sheet-of-requires
 sheet-of-requires c κs = search needs

@@ -8,7 +8,7 @@ use lib.ListN.{length}
 use Rattle.network.specs.declared.Check.{Check}
 use Rattle.network.specs.Lists.{pick}
 use Rattle.network.specs.Reading.{Reading, accepted, refusal, readFile}
-use Rattle.network.specs.Rate.{rateAnswer, ratingValues, onSheet}
+use Rattle.network.specs.Rate.{rateAnswer, ratingValues, onSheet, ratedOnSheet}
 use Rattle.network.specs.ClassCall.{weightedRating, weightedOutcome}
 use Rattle.network.specs.Stored.{netOf, readingOf}
 use Rattle.network.specs.Valid.{Valid, IsBytes}
@@ -55,7 +55,7 @@ returns c =
     let sheet = c .before .before .before .before .before .before .before .before .args .sheet .now in
     let fits : eqb (length sheet) (length (n .periods)) ≡ true = eq-eqb _ _ (c .before .if1 .taken ∙ sym (held-lines (r .result .network) (r .ensures .0))) in (
       ap ratingValues (c .weighted-rating .ensures)
-          ∙ sym (ap (λ (k : Reading). onSheet weightedRating k sheet) (accepted-here t) ∙ ap (λ b. pick b (ratingValues (weightedRating n sheet)) (refusal 15 0)) fits),
+          ∙ sym (ap (λ (k : Reading). ratedOnSheet weightedRating k sheet) (accepted-here t) ∙ ap (λ b. pick b (ratingValues (weightedRating n sheet)) (refusal 15 0)) fits),
       bytes-here (t .before .before .before),
     )
 
@@ -64,7 +64,7 @@ unfolding rateAnswer weightedOutcome onSheet readingOf
 returns-2 c =
     let r = c .before .before .before .before .read-network in (
       sym
-          (ap (λ (k : Reading). onSheet weightedRating k (c .before .before .before .before .before .before .args .sheet .now))
+          (ap (λ (k : Reading). ratedOnSheet weightedRating k (c .before .before .before .before .before .before .args .sheet .now))
           (sym (r .ensures .1) ∙ ap (λ (k : Check). readingOf k (r .result .network)) (c .before .check .given .1))),
       bytes-here (c .before .before .before .before),
     )
@@ -78,7 +78,7 @@ returns-3 c =
     let sheet = c .before .before .before .before .before .before .before .args .sheet .now in
     let unfit : eqb (length sheet) (length (n .periods)) ≡ false =
     ne-eqb _ _ (λ e. c .if1 .left (e ∙ held-lines (r .result .network) (r .ensures .0))) in (
-      sym (ap (λ (k : Reading). onSheet weightedRating k sheet) (accepted-here t) ∙ ap (λ b. pick b (ratingValues (weightedRating n sheet)) (refusal 15 0)) unfit),
+      sym (ap (λ (k : Reading). ratedOnSheet weightedRating k sheet) (accepted-here t) ∙ ap (λ b. pick b (ratingValues (weightedRating n sheet)) (refusal 15 0)) unfit),
       bytes-here (t .before .before .before),
     )
 
