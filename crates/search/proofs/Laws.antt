@@ -5,6 +5,9 @@ pub mod CapScan
 pub mod Upper
 pub mod Reduced
 pub mod Walk
+pub mod Bounds
+pub mod Best
+pub mod Rules
 pub mod Tighter
 pub mod Layout
 pub mod Appended

@@ -17,7 +17,7 @@ use Rattle.search.specs.declared.Placed.{Placed}
 use Rattle.search.specs.declared.Walk as declared-walk
 use Rattle.search.specs.Caps.{cap, upperValue, upperRating}
 use Rattle.search.specs.Walk.{State, oneTry, walk}
-use Rattle.search.specs.Search.{startCounts, notAbove}
+use Rattle.search.specs.Search.{startCounts, aboveBest}
 use Rattle.search.specs.Layout.{byLine}
 
 -- More than any arrival of the walk: a start below 1,440 and an offset below 65,536
@@ -109,9 +109,9 @@ stateOf n w =
 
 -- The walk on a network from a partial timetable of the first `k` lines on
 unfoldable pub walkFrom : Net → ℕ → ℕ → List ℤ → State → State
-walkFrom n budget k placed s = walk (upperRating n (cap n)) notAbove budget (drop k (startCounts (n .periods))) placed s
+walkFrom n budget k placed s = walk (upperRating n (cap n)) aboveBest budget (drop k (startCounts (n .periods))) placed s
 
 -- One try of line `k` at start `x`
 unfoldable pub tryAt : Net → ℕ → ℕ → List ℤ → ℕ → State → State
 tryAt n budget k placed x s =
-    oneTry budget (notAbove (upperRating n (cap n) (placed ++ (pos x ∷ [])))) (walkFrom n budget (suc k) (placed ++ (pos x ∷ []))) s
+    oneTry aboveBest budget (upperRating n (cap n) (placed ++ (pos x ∷ []))) (walkFrom n budget (suc k) (placed ++ (pos x ∷ []))) s

@@ -28,7 +28,7 @@ use Rattle.search.proofs.Laws.Layout.{byLine-line-lt, length-byLine-all
 use Rattle.search.proofs.Laws.Linked.{byLine-all}
 use Rattle.search.proofs.Laws.Values.{value-hit, value-miss, value-falls, value-placed, value-local}
 use Rattle.search.proofs.Laws.Upper.{ratingBy-not-above}
-use Rattle.search.proofs.Laws.Walk.{not-above-transitive}
+use Rattle.search.proofs.Laws.Bounds.{not-above-transitive}
 use Rattle.search.proofs.Laws.Lowered.{value-le-sum, rating-lowered}
 
 -- The calls in the order of their lines

@@ -17,8 +17,8 @@ use Rattle.network.specs.Valid.{Valid}
 use Rattle.network.proofs.Laws.Lists.{zero-ne-one}
 use Rattle.search.specs.declared.Walk as code
 use Rattle.search.specs.Caps.{cap, upperRating}
-use Rattle.search.specs.Walk.{State, tryMade, stop, becomesBest, unless, stopIf, oneTry, eachStart, walk}
-use Rattle.search.specs.Search.{startCounts, notAbove}
+use Rattle.search.specs.Walk.{State, isOver, tryMade, stop, becomesBest, unless, stopIf, oneTry, eachStart, walk}
+use Rattle.search.specs.Search.{startCounts, notAbove, aboveBest}
 use Rattle.search.specs.Held.{startsOf, stateOf, walkFrom, tryAt, CanTry, CanPlace, PlacedMore, GivenUp}
 use Rattle.search.specs.declared.Placed.{Placed}
 use Rattle.search.proofs.Laws.Walk.{eachStart-split, eachStart-one}
@@ -58,14 +58,14 @@ module _ (n : Net) (budget : ℕ) where
       → walkFrom n budget k placed s ≡ eachStart (tryAt n budget k placed) 0 (getD (startCounts (n .periods)) k 0) s
   unfolding walkFrom tryAt walk
   walkFrom-next k placed s l =
-      ap (λ (cs : List ℕ). walk (upperRating n (cap n)) notAbove budget cs placed s)
+      ap (λ (cs : List ℕ). walk (upperRating n (cap n)) aboveBest budget cs placed s)
       (cons-drop (startCounts (n .periods)) k (rw length-startCounts l))
 
   pub walkFrom-last : (k : ℕ) (placed : List ℤ) (s : State) → length (n .periods) ≤ k
       → walkFrom n budget k placed s ≡ becomesBest (upperRating n (cap n) placed) placed s
   unfolding walkFrom walk
   walkFrom-last k placed s l =
-      ap (λ (cs : List ℕ). walk (upperRating n (cap n)) notAbove budget cs placed s)
+      ap (λ (cs : List ℕ). walk (upperRating n (cap n)) aboveBest budget cs placed s)
       (drop-all (startCounts (n .periods)) k (rw length-startCounts l))
 
   -- ---- one try
@@ -75,12 +75,12 @@ module _ (n : Net) (budget : ℕ) where
     upper = upperRating n (cap n) (placed ++ (pos x ∷ []))
 
     pub try-stopped : w .stopped ≡ true → stateOf n w ≡ tryAt n budget k placed x (stateOf n w)
-    unfolding tryAt oneTry stateOf unless
+    unfolding tryAt oneTry isOver stateOf unless
     try-stopped e = rw e refl
 
     pub try-at-budget : w .stopped ≡ false → w .tries ≡ budget
         → stateOf n (record { tries = w .tries; stopped = true; best = w .best; starts = w .starts }) ≡ tryAt n budget k placed x (stateOf n w)
-    unfolding tryAt oneTry stateOf unless stopIf stop
+    unfolding tryAt oneTry isOver aboveBest stateOf unless stopIf stop
     try-at-budget e b = rw (e, eq-eqb (w .tries) budget b) refl
 
     -- a try that is made
@@ -89,12 +89,12 @@ module _ (n : Net) (budget : ℕ) where
       more = record { tries = w .tries + 1; stopped = w .stopped; best = w .best; starts = w .starts }
 
       pub try-dropped : isAbove upper (w .best) ≡ false → stateOf n more ≡ tryAt n budget k placed x (stateOf n w)
-      unfolding tryAt oneTry stateOf unless stopIf tryMade notAbove
+      unfolding tryAt oneTry isOver aboveBest stateOf unless stopIf tryMade notAbove
       try-dropped f = rw (e, ne-eqb (w .tries) budget b, f) refl
 
       pub try-onward : isAbove upper (w .best) ≡ true
           → walkFrom n budget (suc k) (placed ++ (pos x ∷ [])) (stateOf n more) ≡ tryAt n budget k placed x (stateOf n w)
-      unfolding tryAt oneTry stateOf unless stopIf tryMade notAbove
+      unfolding tryAt oneTry isOver aboveBest stateOf unless stopIf tryMade notAbove
       try-onward f = rw (e, ne-eqb (w .tries) budget b, f) refl
 
       -- on the last line
