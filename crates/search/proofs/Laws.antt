@@ -8,6 +8,7 @@ pub mod Walk
 pub mod Bounds
 pub mod Best
 pub mod Rules
+pub mod Cuts
 pub mod Tighter
 pub mod Layout
 pub mod Appended
@@ -15,6 +16,7 @@ pub mod Rows
 pub mod Values
 pub mod Lowered
 pub mod Reciprocal
+pub mod Codes
 pub mod Linked
 pub mod Placing
 pub mod Tries
