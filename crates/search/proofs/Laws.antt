@@ -5,6 +5,10 @@ pub mod CapScan
 pub mod Upper
 pub mod Reduced
 pub mod Walk
+pub mod Bounds
+pub mod Best
+pub mod Rules
+pub mod Cuts
 pub mod Tighter
 pub mod Layout
 pub mod Appended
@@ -12,6 +16,7 @@ pub mod Rows
 pub mod Values
 pub mod Lowered
 pub mod Reciprocal
+pub mod Codes
 pub mod Linked
 pub mod Placing
 pub mod Tries

@@ -1,23 +1,32 @@
 -- How the search's code holds the network, a partial timetable and a walk: rows over the calls in line order, and what they stand for.
 use Prim.Native.Nat.{ℕ, zero, suc, _+_, _*_, _/_, _<_, _≤_}
 use mathlib.Core.Path.{_≡_}
-use mathlib.Core.Bool.{true, false}
+use mathlib.Core.Bool.{Bool, true, _&&_, _||_}
 use mathlib.Core.List.{List, [], _∷_, _++_, map}
+use mathlib.Core.Logic.{_⊎_}
+use lib.Dec.{ltb, leb}
 use lib.IntN.{ℤ, pos}
 use lib.ListN.{length, getD, take, drop}
 use Rattle.network.specs.declared.Call.{Call}
 use Rattle.network.specs.declared.Rating.{Rating}
 use Rattle.network.specs.Lists.{pick}
 use Rattle.network.specs.Divisor.{gcd}
-use Rattle.network.specs.Network.{Net, isServed, maxLines, maxPeriod, stopCount}
-use Rattle.network.specs.Rating.{isAbove}
-use Rattle.network.specs.Scan.{LeadsBack}
+use Rattle.network.specs.Network.{Net, isServed, maxLines, maxPeriod, maxStop, maxOffset, stopCount}
+use Rattle.network.specs.Rating.{gapOfCalls}
+use Rattle.network.specs.Scan.{LeadsBack, leastFrom, callsBefore}
+use Rattle.network.specs.Stored.{packed}
 use Rattle.network.specs.Valid.{Valid, noCall}
+use Rattle.search.specs.declared.Cut.{Cut}
 use Rattle.search.specs.declared.Placed.{Placed}
+use Rattle.search.specs.declared.Rule as declared-rule
+use Rattle.search.specs.declared.Rule.the-variants as rules
+use Rattle.search.specs.declared.Starts.{Starts}
+use Rattle.search.specs.declared.Task.{Task}
+use Rattle.search.specs.declared.Try.{Try}
 use Rattle.search.specs.declared.Walk as declared-walk
 use Rattle.search.specs.Caps.{cap, upperValue, upperRating}
-use Rattle.search.specs.Walk.{State, oneTry, walk}
-use Rattle.search.specs.Search.{startCounts, notAbove}
+use Rattle.search.specs.Walk.{State, Rule, oneTry, eachStart, walk}
+use Rattle.search.specs.Search.{startCounts, aboveBest, atLeast, bySum}
 use Rattle.search.specs.Layout.{byLine}
 
 -- More than any arrival of the walk: a start below 1,440 and an offset below 65,536
@@ -37,12 +46,11 @@ unfoldable pub withReciprocal : ℕ → ℕ
 withReciprocal zero = 0
 withReciprocal (suc g) = reciprocal (suc g) * 2048 + suc g
 
--- Rows that hold the lines, the offsets, the way back at a stop and the divisors of the calls of a valid network, in the order of their lines
-pub record Linked (lines offsets previous divisors : List ℕ) : Type 0 where
+-- Rows that hold the calls, each packed, the way back at a stop and the divisors of a valid network, in the order of their lines
+pub record Linked (codes previous divisors : List ℕ) : Type 0 where
   pub net : Net
   pub valid : Valid net
-  pub line-of : (i : ℕ) → i < length (net .calls) → getD lines i 0 ≡ getD (byLine (net .calls) (length (net .periods))) i noCall .line
-  pub offset-of : (i : ℕ) → i < length (net .calls) → getD offsets i 0 ≡ getD (byLine (net .calls) (length (net .periods))) i noCall .offset
+  pub code-of : (i : ℕ) → i < length (net .calls) → getD codes i 0 ≡ packed (getD (byLine (net .calls) (length (net .periods))) i noCall)
   pub leads : LeadsBack previous (byLine (net .calls) (length (net .periods))) (length (net .calls))
   pub divisor-of :
       (i j : ℕ)
@@ -51,13 +59,19 @@ pub record Linked (lines offsets previous divisors : List ℕ) : Type 0 where
       → getD divisors (i * maxLines + j) 0 ≡ withReciprocal (gcd (getD (net .periods) j 0) (getD (net .periods) i 0))
 
 -- The calls in the order of their lines
-abbrev pub callsIn : {lines offsets previous divisors : List ℕ} → Linked lines offsets previous divisors → List Call
+abbrev pub callsIn : {codes previous divisors : List ℕ} → Linked codes previous divisors → List Call
 callsIn l = byLine (l .net .calls) (length (l .net .periods))
 
--- Beside them the stops of the calls, and the first call of each line
-pub record Laid (stops lines offsets previous divisors first : List ℕ) : Type 0 where
-  pub linked : Linked lines offsets previous divisors
-  pub stop-of : (i : ℕ) → i < length (linked .net .calls) → getD stops i 0 ≡ getD (callsIn linked) i noCall .stop
+-- The least of a value and the gaps of the call at a place to those before it at its stop
+abbrev pub loweredAt : {codes previous divisors : List ℕ} → Linked codes previous divisors → List ℕ → ℕ → ℕ → ℕ
+loweredAt l starts at value =
+    leastFrom value
+    (map (λ d. gapOfCalls (l .net) (map pos starts) d (getD (callsIn l) at noCall))
+    (callsBefore (getD (callsIn l) at noCall .stop) (callsIn l) at))
+
+-- Beside them the first call of each line
+pub record Laid (codes previous divisors first : List ℕ) : Type 0 where
+  pub linked : Linked codes previous divisors
   pub first-of : (k : ℕ) → k ≤ length (linked .net .periods) → getD first k 0 ≡ length (byLine (linked .net .calls) k)
 
 -- The starts of the first `k` lines, as integers
@@ -74,6 +88,33 @@ pub record Represents (n : Net) (k : ℕ) (p : Placed) : Type 0 where
   pub sum-low : p .sum ≤ maxUpperSum
   pub rating-of : _≡_ {A = Rating} (record { some = true; least = p .least; sum = p .sum }) (upperRating n (cap n) (startsOf k (p .starts)))
 
+-- ---- a walk's rule
+
+-- The rule that a rule of the code stands for
+unfoldable pub ruleOf : declared-rule.Rule → Rule
+ruleOf rules.AboveBest = aboveBest
+ruleOf (rules.AtLeast wanted) = atLeast wanted
+ruleOf (rules.BySum floor) = bySum floor
+
+-- An upper rating by its numbers
+abbrev pub rated : ℕ → ℕ → Rating
+rated least sum = record { some = true; least = least; sum = sum }
+
+-- What falls short of a cut
+unfoldable pub isShort : Cut → ℕ → ℕ → Bool
+isShort cut least sum =
+    ltb least (cut .floor) || (cut .beside && ((cut .anywhere || leb least (cut .floor)) && leb sum (cut .sum)))
+
+-- The cut of a rule beside the best so far
+abbrev pub IsCut : declared-rule.Rule → Rating → Cut → Type 0
+IsCut rule best cut = (least sum : ℕ) → isShort cut least sum ≡ ruleOf rule .drops (rated least sum) best
+
+-- ---- placing a line
+
+-- The partial timetable with one line more, at a start
+abbrev pub withStart : ℕ → ℕ → Placed → List ℤ
+withStart line start p = startsOf line (p .starts) ++ (pos start ∷ [])
+
 -- A line can be placed at a start: the lines before it are placed
 pub record CanPlace (n : Net) (line start : ℕ) (p : Placed) : Type 0 where
   pub stated : line < length (n .periods)
@@ -83,19 +124,27 @@ pub record CanPlace (n : Net) (line start : ℕ) (p : Placed) : Type 0 where
 -- It is placed
 pub record PlacedMore (n : Net) (line start : ℕ) (p r : Placed) : Type 0 where
   pub one-more : Represents n (line + 1) r
-  pub appended : startsOf (line + 1) (r .starts) ≡ startsOf line (p .starts) ++ (pos start ∷ [])
+  pub appended : startsOf (line + 1) (r .starts) ≡ withStart line start p
 
--- Or it is given up: neither what it has come to nor its upper rating is above the best so far
-pub record GivenUp (n : Net) (line start : ℕ) (p : Placed) (best : Rating) (r : Placed) : Type 0 where
-  pub come-to : isAbove (record { some = true; least = r .least; sum = r .sum }) best ≡ false
-  pub upper : isAbove (upperRating n (cap n) (startsOf line (p .starts) ++ (pos start ∷ []))) best ≡ false
+-- Or it is given up: what it has come to falls short, and so does its upper rating
+pub record GivenUp (n : Net) (cut : Cut) (line start : ℕ) (p r : Placed) : Type 0 where
+  pub come-to : isShort cut (r .least) (r .sum) ≡ true
+  pub upper :
+      isShort cut (upperRating n (cap n) (withStart line start p) .least) (upperRating n (cap n) (withStart line start p) .sum) ≡ true
 
--- A line can be tried: the lines before it are placed, and beside the rows stand the numbers of starts and the last line
-pub record CanTry (n : Net) (counts : List ℕ) (last line : ℕ) (p : Placed) : Type 0 where
-  pub stated : line < length (n .periods)
-  pub last-of : last + 1 ≡ length (n .periods)
-  pub count-of : (i : ℕ) → i < length (n .periods) → getD counts i 0 ≡ getD (startCounts (n .periods)) i 0
-  pub before : Represents n line p
+-- A try's line can be placed on the network that the rows hold
+abbrev pub MayPlace : (codes previous divisors first : List ℕ) → Try → Placed → Type 0
+MayPlace codes previous divisors first due p =
+    (l : Laid codes previous divisors first) × CanPlace (l .linked .net) (due .line) (due .start) p
+
+-- On each such network it is placed or given up
+abbrev pub PlacedOr : (codes previous divisors first : List ℕ) → Cut → Try → (p r : Placed) → Type 0
+PlacedOr codes previous divisors first cut due p r =
+    (l : Laid codes previous divisors first)
+    → CanPlace (l .linked .net) (due .line) (due .start) p
+    → PlacedMore (l .linked .net) (due .line) (due .start) p r ⊎ GivenUp (l .linked .net) cut (due .line) (due .start) p r
+
+-- ---- the walk
 
 -- The walk that a walk of the code stands for; where it has no best, it has no starts
 unfoldable pub stateOf : Net → declared-walk.Walk → State
@@ -107,11 +156,43 @@ stateOf n w =
       starts = pick (w .best .some) (startsOf (length (n .periods)) (w .starts)) [];
     }
 
--- The walk on a network from a partial timetable of the first `k` lines on
-unfoldable pub walkFrom : Net → ℕ → ℕ → List ℤ → State → State
-walkFrom n budget k placed s = walk (upperRating n (cap n)) notAbove budget (drop k (startCounts (n .periods))) placed s
+-- A full timetable become the best
+abbrev pub withBest : declared-walk.Walk → Placed → declared-walk.Walk
+withBest w p = record { tries = w .tries; stopped = w .stopped; best = rated (p .least) (p .sum); starts = p .starts }
+
+-- The walk on a network by a rule, from a partial timetable of the first `k` lines on
+unfoldable pub walkFrom : Net → Rule → ℕ → ℕ → List ℤ → State → State
+walkFrom n rule budget k placed s = walk (upperRating n (cap n)) rule budget (drop k (startCounts (n .periods))) placed s
 
 -- One try of line `k` at start `x`
-unfoldable pub tryAt : Net → ℕ → ℕ → List ℤ → ℕ → State → State
-tryAt n budget k placed x s =
-    oneTry budget (notAbove (upperRating n (cap n) (placed ++ (pos x ∷ [])))) (walkFrom n budget (suc k) (placed ++ (pos x ∷ []))) s
+unfoldable pub tryAt : Net → Rule → ℕ → ℕ → List ℤ → ℕ → State → State
+tryAt n rule budget k placed x s =
+    oneTry rule budget (upperRating n (cap n) (placed ++ (pos x ∷ []))) (walkFrom n rule budget (suc k) (placed ++ (pos x ∷ []))) s
+
+-- One try, and each of a line's starts, by a task
+abbrev pub oneOf : Task → Try → Placed → Net → State → State
+oneOf task due p n = tryAt n (ruleOf (task .rule)) (task .budget) (due .line) (startsOf (due .line) (p .starts)) (due .start)
+
+abbrev pub eachOf : Task → Starts → Placed → Net → State → State
+eachOf task starts p n =
+    eachStart (tryAt n (ruleOf (task .rule)) (task .budget) (starts .line) (startsOf (starts .line) (p .starts))) (starts .from) (starts .count)
+
+-- A line can be tried: the lines before it are placed, and beside the rows stand the numbers of starts and the last line
+pub record CanTry (n : Net) (counts : List ℕ) (task : Task) (line : ℕ) (p : Placed) : Type 0 where
+  pub stated : line < length (n .periods)
+  pub last-of : task .last + 1 ≡ length (n .periods)
+  pub count-of : (i : ℕ) → i < length (n .periods) → getD counts i 0 ≡ getD (startCounts (n .periods)) i 0
+  pub before : Represents n line p
+
+-- It can be tried on the network that the rows hold
+abbrev pub MayTry : (codes previous divisors first counts : List ℕ) → Task → ℕ → Placed → Type 0
+MayTry codes previous divisors first counts task line p =
+    (l : Laid codes previous divisors first) × CanTry (l .linked .net) counts task line p
+
+-- On each such network a walk has become another by these steps
+abbrev pub Tried :
+    (codes previous divisors first counts : List ℕ) → Task → ℕ → Placed → (Net → State → State) → (w r : declared-walk.Walk) → Type 0
+Tried codes previous divisors first counts task line p steps w r =
+    (l : Laid codes previous divisors first)
+    → CanTry (l .linked .net) counts task line p
+    → stateOf (l .linked .net) r ≡ steps (l .linked .net) (stateOf (l .linked .net) w)

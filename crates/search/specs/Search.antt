@@ -1,8 +1,9 @@
--- Document 01, "The walk": the search of a network, and what the search call answers and leaves in the start row.
+-- Document 01, "The walk": the search of a network, and what the search call answers and leaves in the start row. Beside its rule stand
+-- those by which requests A.3 and A.11 of document 02 walk.
 use Prim.Native.Nat.{ℕ, _+_, _*_}
-use mathlib.Core.Bool.{Bool, true, false, not, _&&_}
+use mathlib.Core.Bool.{Bool, true, false, not, _&&_, _||_}
 use mathlib.Core.List.{List, [], _∷_}
-use lib.Dec.{eqb}
+use lib.Dec.{eqb, ltb}
 use lib.IntN.{ℤ}
 use lib.ListN.{length}
 use Rattle.network.specs.declared.Rating.{Rating}
@@ -13,7 +14,7 @@ use Rattle.network.specs.Reading.{Reading, accepted, refused}
 use Rattle.search.specs.declared.SearchAnswer.{SearchAnswer}
 use Rattle.search.specs.declared.SearchAnswer.the-variants as answer
 use Rattle.search.specs.Caps.{cap, upperRating}
-use Rattle.search.specs.Walk.{State, atFirst, walk, mostTries}
+use Rattle.search.specs.Walk.{State, Rule, atFirst, walk, mostTries}
 
 -- Line 0 is tried at 0 only, each other line at 0 up to its period less 1
 unfoldable pub startCounts : List ℕ → List ℕ
@@ -24,9 +25,26 @@ startCounts (first ∷ rest) = 1 ∷ rest
 unfoldable pub notAbove : Rating → Rating → Bool
 notAbove upper best = not (isAbove upper best)
 
+-- The rule of document 01, which goes on to the end
+unfoldable pub aboveBest : Rule
+aboveBest = record { drops = notAbove; endsAtFirst = false }
+
+-- The rule of request A.3: a try whose upper least gap is below the wanted one is dropped, and the first full timetable ends the walk
+unfoldable pub atLeast : ℕ → Rule
+atLeast wanted = record { drops = λ (upper best : Rating). ltb (upper .least) wanted; endsAtFirst = true }
+
+-- The rule of request A.11's second pass: a try whose upper least gap is below the floor is dropped and, once there is a best, one whose
+-- upper sum isn't above the best sum; it goes on to the end
+unfoldable pub bySum : ℕ → Rule
+bySum floor =
+    record {
+      drops = λ (upper best : Rating). ltb (upper .least) floor || (best .some && not (ltb (best .sum) (upper .sum)));
+      endsAtFirst = false;
+    }
+
 -- The walk on a network
 unfoldable pub searched : Net → ℕ → State
-searched n budget = walk (upperRating n (cap n)) notAbove budget (startCounts (n .periods)) [] atFirst
+searched n budget = walk (upperRating n (cap n)) aboveBest budget (startCounts (n .periods)) [] atFirst
 
 -- k×T1 + k×T1×T2 + ..
 abbrev pub productsFrom : ℕ → List ℕ → ℕ

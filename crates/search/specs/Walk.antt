@@ -1,7 +1,7 @@
 -- Document 01, "The walk": a depth-first branch and bound over its parts, which are how many starts each line is tried at, the upper rating
--- of a partial timetable, and the test by which a try is dropped.
+-- of a partial timetable, and the rule it goes by.
 use Prim.Native.Nat.{ℕ, zero, suc, _+_, _*_}
-use mathlib.Core.Bool.{Bool, true, false}
+use mathlib.Core.Bool.{Bool, true, false, _&&_, _||_}
 use mathlib.Core.List.{List, [], _∷_, _++_}
 use lib.Dec.{eqb}
 use lib.IntN.{ℤ, pos}
@@ -18,6 +18,15 @@ pub record State : Type 0 where
 -- Before the first try: no rating, which is below every rating
 abbrev pub atFirst : State
 atFirst = record { tries = 0; stopped = false; best = noRating; starts = [] }
+
+-- What a walk goes by: whether an upper rating is dropped beside the best so far, and whether the first full timetable ends the walk
+pub record Rule : Type 0 where
+  pub drops : Rating → Rating → Bool
+  pub endsAtFirst : Bool
+
+-- A walk is over where it has stopped or, by a rule that ends at the first full timetable, has one
+unfoldable pub isOver : Rule → State → Bool
+isOver rule s = s .stopped || (rule .endsAtFirst && s .best .some)
 
 -- One more try made; the walk stopped; a full timetable become the best
 unfoldable pub tryMade : State → State
@@ -39,11 +48,11 @@ unfoldable pub stopIf : Bool → (State → State) → State → State
 stopIf true step s = stop s
 stopIf false step s = step s
 
--- One try. If it is due and the tries made equal the budget, the walk stops. Otherwise it is made; it is dropped, by the best so far, or
--- stands and sends the walk onward
-unfoldable pub oneTry : ℕ → (Rating → Bool) → (State → State) → State → State
-oneTry budget dropped onward s =
-    unless (s .stopped) (λ t. stopIf (eqb (t .tries) budget) (λ u. unless (dropped (u .best)) onward (tryMade u)) t) s
+-- One try, due unless the walk is over. If the tries made equal the budget, the walk stops. Otherwise the try is made; its upper rating is
+-- dropped, beside the best so far, or stands and sends the walk onward
+unfoldable pub oneTry : Rule → ℕ → Rating → (State → State) → State → State
+oneTry rule budget upper onward s =
+    unless (isOver rule s) (λ t. stopIf (eqb (t .tries) budget) (λ u. unless (rule .drops upper (u .best)) onward (tryMade u)) t) s
 
 -- A step for each of `count` starts from `from` on, ascending
 unfoldable pub eachStart : (ℕ → State → State) → ℕ → ℕ → State → State
@@ -51,12 +60,12 @@ eachStart step from zero s = s
 eachStart step from (suc count) s = step (from + count) (eachStart step from count s)
 
 -- The walk from a partial timetable on: each line that is left is tried at its starts, and past the last line the timetable is the best
-unfoldable pub walk : (List ℤ → Rating) → (Rating → Rating → Bool) → ℕ → List ℕ → List ℤ → State → State
-walk upper drops budget [] placed s = becomesBest (upper placed) placed s
-walk upper drops budget (count ∷ rest) placed s =
+unfoldable pub walk : (List ℤ → Rating) → Rule → ℕ → List ℕ → List ℤ → State → State
+walk upper rule budget [] placed s = becomesBest (upper placed) placed s
+walk upper rule budget (count ∷ rest) placed s =
     eachStart
     (λ x t.
-    oneTry budget (drops (upper (placed ++ (pos x ∷ [])))) (walk upper drops budget rest (placed ++ (pos x ∷ []))) t)
+    oneTry rule budget (upper (placed ++ (pos x ∷ []))) (walk upper rule budget rest (placed ++ (pos x ∷ []))) t)
     0
     count
     s

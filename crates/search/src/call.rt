@@ -1,6 +1,9 @@
 // The search call.
 use crate::Placed;
+use crate::Rule;
 use crate::SearchAnswer;
+use crate::Starts;
+use crate::Task;
 use crate::Walk;
 use crate::caps::cap_row;
 use crate::layout::by_line;
@@ -14,9 +17,6 @@ use network::Rating;
 use network::ratings::rating_over;
 use network::ratings::served_row;
 use network::reader::read_network;
-use network::rows::line_row;
-use network::rows::offset_row;
-use network::rows::stop_row;
 ghost use mathlib.Core.Path.{_≡_};
 ghost use Prim.Native.Nat.{ℕ, _<_, _≤_};
 ghost use lib.ListN.{length, getD};
@@ -65,9 +65,7 @@ fn searched(network: Network, budget: u32) -> Walk
     let ordered = by_line(network);
     let by = ordered.network;
     let first = ordered.first;
-    let stops = stop_row(by);
-    let lines = line_row(by);
-    let offsets = offset_row(by);
+    let codes = by.list;
     let previous = previous_row(by);
     let divisors = divisor_row(network);
     let counts = start_count_row(network);
@@ -78,20 +76,24 @@ fn searched(network: Network, budget: u32) -> Walk
         best: Rating::NONE,
         starts: [0u16; Network::MAX_LINES],
     };
-    let last = network.lines - 1;
+    let task = Task {
+        rule: Rule::AboveBest,
+        budget,
+        last: network.lines - 1,
+    };
+    let starts = Starts {
+        line: 0,
+        from: 0,
+        count: 1,
+    };
     try_starts(
-        &stops,
-        &lines,
-        &offsets,
+        &codes,
         &previous,
         &divisors,
         &first,
         &counts,
-        last,
-        budget,
-        0,
-        0,
-        1,
+        task,
+        starts,
         placed,
         walk,
     )

@@ -16,6 +16,43 @@ pub enum SearchAnswer {
     Refused { number: u8, place: usize },
 }
 
+// What a walk goes by: document 01's rule drops what isn't above the best so far; request A.3's what doesn't reach a wanted gap, and its first
+// full timetable ends the walk; that of request A.11's second pass what doesn't reach a floor or, once there is a best, its sum.
+pub enum Rule {
+    AboveBest,
+    AtLeast { wanted: u32 },
+    BySum { floor: u32 },
+}
+
+// What is dropped beside the best so far, whatever the rule, so that it is one test: a least gap below the floor and, if there is something
+// beside it, a sum not above that, at the floor itself or anywhere.
+pub struct Cut {
+    pub floor: u32,
+    pub beside: bool,
+    pub anywhere: bool,
+    pub sum: u32,
+}
+
+// What a walk is given: its rule, how many tries it may make, and its last line.
+pub struct Task {
+    pub rule: Rule,
+    pub budget: u32,
+    pub last: usize,
+}
+
+// A try: a line at a start.
+pub struct Try {
+    pub line: usize,
+    pub start: u16,
+}
+
+// A line's starts from `from` on, `count` of them.
+pub struct Starts {
+    pub line: usize,
+    pub from: u16,
+    pub count: u16,
+}
+
 // A network with its calls in the order of their lines, and for each line the place of its first call.
 pub struct Ordered {
     pub network: Network,

@@ -1,22 +1,19 @@
 // Placing a line: the upper values of its stops fall to the gaps of its pairs with lines placed before.
+use crate::Cut;
 use crate::Ordered;
 use crate::Placed;
+use crate::Rule;
+use crate::Try;
+use network::Call;
 use network::Network;
 use network::Rating;
-ghost use mathlib.Core.Logic.{_⊎_};
 ghost use mathlib.Core.Path.{_≡_};
-ghost use mathlib.Core.Bool.{true};
-ghost use mathlib.Core.List.{map};
-ghost use Prim.Native.Nat.{ℕ, _+_, _<_, _≤_};
+ghost use Prim.Native.Nat.{ℕ, _<_, _≤_};
 ghost use lib.IntN.{pos, _-ℤ_};
 ghost use lib.ListN.{length, getD};
 ghost use Rattle.network.specs.Gap as gaps;
 ghost use Rattle.network.specs.Network as net;
-ghost use Rattle.network.specs.Rating.{gapOfCalls};
-ghost use Rattle.network.specs.Scan.{leastFrom, callsBefore};
-ghost use Rattle.network.specs.Valid.{noCall};
 ghost use Rattle.search.specs.Held as held;
-ghost use Rattle.search.specs.Search.{notAbove};
 
 // More than any arrival: an arrival is a start below 1,440 and an offset below 65,536.
 const ARRIVAL_LIMIT: u32 = 67000;
@@ -36,31 +33,32 @@ fn gap_by(divisor: u32, reciprocal: u64, earlier: u32, later: u32) -> u32
 
 // The least of an upper value and the gaps of a call to those before it at its stop.
 fn lowered(
-    lines: &[u8; Network::MAX_CALLS],
-    offsets: &[u16; Network::MAX_CALLS],
+    codes: &[u32; Network::MAX_CALLS],
     previous: &[u16; Network::MAX_CALLS],
     divisors: &[u64; Network::PAIRS],
     starts: &[u16; Network::MAX_LINES],
     at: usize,
     value: u16,
 ) -> u16
-    requires { ⌜ ((l : held.Linked (now lines) (now offsets) (now previous) (now divisors)) × (at < length (l .net .calls))) ⌝ }
+    requires { ⌜ ((l : held.Linked (now codes) (now previous) (now divisors)) × (at < length (l .net .calls))) ⌝ }
     requires { ⌜ ((i : ℕ) → getD (now starts) i 0 < net.maxPeriod) ⌝ }
-    ensures { λ r. ⌜ ((l : held.Linked (now (lines .entry)) (now (offsets .entry)) (now (previous .entry)) (now (divisors .entry))) → at < length (l .net .calls) → r ≡ leastFrom value (map (λ d. gapOfCalls (l .net) (map pos (now (starts .entry))) d (getD (held.callsIn l) at noCall)) (callsBefore (getD (held.callsIn l) at noCall .stop) (held.callsIn l) at))) ⌝ }
+    ensures { λ r. ⌜ ((l : held.Linked (now (codes .entry)) (now (previous .entry)) (now (divisors .entry))) → at < length (l .net .calls) → r ≡ held.loweredAt l (now (starts .entry)) at value) ⌝ }
 {
-    let line = lines[at] as usize;
+    let code = codes[at];
+    let line = (code / Call::LINE_UNIT) as usize;
     let row = line * Network::MAX_LINES;
-    let arrival = starts[line] as u32 + offsets[at] as u32;
+    let arrival = starts[line] as u32 + code % Call::STOP_UNIT;
     let mut least = value as u32;
     let mut from = previous[at] as usize;
     while 0 < from {
         let before = from - 1;
-        let other = lines[before] as usize;
-        let word = divisors[row + other];
+        let other = codes[before];
+        let other_line = (other / Call::LINE_UNIT) as usize;
+        let word = divisors[row + other_line];
         let between = gap_by(
             (word % Ordered::DIVISOR_LIMIT) as u32,
             word / Ordered::DIVISOR_LIMIT,
-            starts[other] as u32 + offsets[before] as u32,
+            starts[other_line] as u32 + other % Call::STOP_UNIT,
             arrival,
         );
         if between < least {
@@ -71,49 +69,86 @@ fn lowered(
     least as u16
 }
 
-// Whether an upper rating isn't above the best so far.
-pub fn falls_short(least: u32, sum: u32, best: Rating) -> bool
-    ensures { λ r. ⌜ r ≡ notAbove (record { some = true; least = least; sum = sum }) best ⌝ }
+// The cut of a rule beside the best so far.
+pub fn cut_of(rule: Rule, best: Rating) -> Cut
+    ensures { λ r. ⌜ held.IsCut rule best r ⌝ }
 {
-    let upper = Rating {
-        some: true,
-        least,
-        sum,
-    };
-    if upper.is_above(best) {
-        return false;
+    match rule {
+        Rule::AboveBest => {
+            if best.some {
+                return Cut {
+                    floor: best.least,
+                    beside: true,
+                    anywhere: false,
+                    sum: best.sum,
+                };
+            }
+            Cut {
+                floor: 0,
+                beside: false,
+                anywhere: false,
+                sum: 0,
+            }
+        }
+        Rule::AtLeast { wanted } => Cut {
+            floor: wanted,
+            beside: false,
+            anywhere: false,
+            sum: 0,
+        },
+        Rule::BySum { floor } => Cut {
+            floor,
+            beside: best.some,
+            anywhere: true,
+            sum: best.sum,
+        },
     }
-    true
 }
 
-// The partial timetable with one line more. Values only fall, so where the rating isn't above the best so far after some of the line's
-// calls, it isn't after all of them, and the rest isn't looked at.
+// Whether an upper rating falls short of a cut.
+pub fn falls_short(cut: Cut, least: u32, sum: u32) -> bool
+    ensures { λ r. ⌜ r ≡ held.isShort cut least sum ⌝ }
+{
+    if least < cut.floor {
+        return true;
+    }
+    if cut.beside {
+        if cut.anywhere {
+            return sum <= cut.sum;
+        }
+        if least <= cut.floor {
+            return sum <= cut.sum;
+        }
+    }
+    false
+}
+
+// The partial timetable with one line more. Values only fall, so where the rating falls short after some of the line's calls, it does after
+// all of them, and the rest isn't looked at.
 pub fn place(
-    stops: &[u8; Network::MAX_CALLS],
-    lines: &[u8; Network::MAX_CALLS],
-    offsets: &[u16; Network::MAX_CALLS],
+    codes: &[u32; Network::MAX_CALLS],
     previous: &[u16; Network::MAX_CALLS],
     divisors: &[u64; Network::PAIRS],
     first: &[u16; Ordered::FIRSTS],
-    line: usize,
-    start: u16,
+    cut: Cut,
+    due: Try,
     placed: Placed,
-    best: Rating,
 ) -> Placed
-    requires { ⌜ ((l : held.Laid (now stops) (now lines) (now offsets) (now previous) (now divisors) (now first)) × held.CanPlace (l .linked .net) line start placed) ⌝ }
-    ensures { λ r. ⌜ ((l : held.Laid (now (stops .entry)) (now (lines .entry)) (now (offsets .entry)) (now (previous .entry)) (now (divisors .entry)) (now (first .entry))) → held.CanPlace (l .linked .net) line start placed → held.PlacedMore (l .linked .net) line start placed r ⊎ held.GivenUp (l .linked .net) line start placed best r) ⌝ }
+    requires { ⌜ held.MayPlace (now codes) (now previous) (now divisors) (now first) due placed ⌝ }
+    ensures { λ r. ⌜ held.PlacedOr (now (codes .entry)) (now (previous .entry)) (now (divisors .entry)) (now (first .entry)) cut due placed r ⌝ }
 {
+    let line = due.line;
     let begin = first[line] as usize;
     let end = first[line + 1] as usize;
     let mut next = placed;
-    next.starts[line] = start;
+    next.starts[line] = due.start;
     for i in begin..end {
-        if falls_short(next.least, next.sum, best) {
+        if falls_short(cut, next.least, next.sum) {
             return next;
         }
-        let stop = stops[i] as usize;
+        let stop = (codes[i] / Call::STOP_UNIT % 64) as usize;
         let old = next.values[stop];
-        let value = lowered(lines, offsets, previous, divisors, &next.starts, i, old);
+        let value = lowered(codes, previous, divisors, &next.starts, i, old);
         next.values[stop] = value;
         next.sum = next.sum + value as u32 - old as u32;
         if (value as u32) < next.least {

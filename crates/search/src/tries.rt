@@ -1,169 +1,174 @@
 // The walk: trying a line's starts and judging one placement call each other; lines left, then starts left, fall.
 use crate::Ordered;
 use crate::Placed;
+use crate::Rule;
+use crate::Starts;
+use crate::Task;
+use crate::Try;
 use crate::Walk;
+use crate::place::cut_of;
+use crate::place::falls_short;
 use crate::place::place;
 use network::Network;
 use network::Rating;
 ghost use mathlib.Core.Path.{_≡_};
+ghost use mathlib.Core.Bool.{_&&_};
 ghost use Prim.Native.Nat.{_+_, _<_, _≤_};
 ghost use Rattle.network.specs.Network.{maxPeriod};
 ghost use Rattle.search.specs.Held as held;
-ghost use Rattle.search.specs.Walk.{eachStart};
 
-// One try: its start for a line is judged. It stops the walk where the budget is used up, and is dropped where its upper rating isn't
-// above the best so far; otherwise it sends the walk to the next line or, on the last line, becomes the best.
+// Whether the walk is over because it has its first full timetable.
+fn has_ended(rule: Rule, best: Rating) -> bool
+    ensures { λ r. ⌜ r ≡ (held.ruleOf rule .endsAtFirst && best .some) ⌝ }
+{
+    match rule {
+        Rule::AboveBest => false,
+        Rule::AtLeast { wanted } => best.some,
+        Rule::BySum { floor } => false,
+    }
+}
+
+// A full timetable become the best.
+fn with_best(walk: Walk, full: Placed) -> Walk
+    ensures { λ r. ⌜ r ≡ held.withBest walk full ⌝ }
+{
+    let best = Rating {
+        some: true,
+        least: full.least,
+        sum: full.sum,
+    };
+    let starts = full.starts;
+    Walk {
+        tries: walk.tries,
+        stopped: walk.stopped,
+        best,
+        starts,
+    }
+}
+
+// One try: its start for a line is judged, unless the walk is over. It stops the walk where the budget is used up, and is dropped by the
+// rule beside the best so far; otherwise it sends the walk to the next line or, on the last line, becomes the best.
 fn judge(
-    stops: &[u8; Network::MAX_CALLS],
-    lines: &[u8; Network::MAX_CALLS],
-    offsets: &[u16; Network::MAX_CALLS],
+    codes: &[u32; Network::MAX_CALLS],
     previous: &[u16; Network::MAX_CALLS],
     divisors: &[u64; Network::PAIRS],
     first: &[u16; Ordered::FIRSTS],
     counts: &[u16; Network::MAX_LINES],
-    last: usize,
-    budget: u32,
-    line: usize,
-    start: u16,
+    task: Task,
+    due: Try,
     placed: Placed,
     walk: Walk,
 ) -> Walk
-    requires { ⌜ ((l : held.Laid (now stops) (now lines) (now offsets) (now previous) (now divisors) (now first)) × held.CanTry (l .linked .net) (now counts) last line placed) ⌝ }
-    requires { ⌜ (start < maxPeriod) × (walk .tries ≤ budget) ⌝ }
-    ensures within { λ r. ⌜ r .tries ≤ budget ⌝ }
-    ensures tried { λ r. ⌜ ((l : held.Laid (now (stops .entry)) (now (lines .entry)) (now (offsets .entry)) (now (previous .entry)) (now (divisors .entry)) (now (first .entry))) → held.CanTry (l .linked .net) (now (counts .entry)) last line placed → held.stateOf (l .linked .net) r ≡ held.tryAt (l .linked .net) budget line (held.startsOf line (placed .starts)) start (held.stateOf (l .linked .net) walk)) ⌝ }
+    requires { ⌜ held.MayTry (now codes) (now previous) (now divisors) (now first) (now counts) task (due .line) placed ⌝ }
+    requires { ⌜ (due .start < maxPeriod) × (walk .tries ≤ task .budget) ⌝ }
+    ensures within { λ r. ⌜ r .tries ≤ task .budget ⌝ }
+    ensures tried { λ r. ⌜ held.Tried (now (codes .entry)) (now (previous .entry)) (now (divisors .entry)) (now (first .entry)) (now (counts .entry)) task (due .line) placed (held.oneOf task due placed) walk r ⌝ }
 {
+    let rule = task.rule;
+    let best = walk.best;
     if walk.stopped {
         return walk;
     }
+    if has_ended(rule, best) {
+        return walk;
+    }
     let mut next = walk;
-    if walk.tries == budget {
+    if walk.tries == task.budget {
         next.stopped = true;
         return next;
     }
     next.tries = walk.tries + 1;
-    let best = walk.best;
-    let tried = place(
-        stops,
-        lines,
-        offsets,
-        previous,
-        divisors,
-        first,
-        line,
-        start,
-        placed,
-        best,
-    );
-    let upper = Rating {
-        some: true,
-        least: tried.least,
-        sum: tried.sum,
-    };
-    if upper.is_above(best) {
-        if line < last {
-            return try_starts(
-                stops,
-                lines,
-                offsets,
-                previous,
-                divisors,
-                first,
-                counts,
-                last,
-                budget,
-                line + 1,
-                0,
-                counts[line + 1],
-                tried,
-                next,
-            );
-        }
-        let starts = tried.starts;
-        return Walk {
-            tries: next.tries,
-            stopped: false,
-            best: upper,
-            starts,
+    let cut = cut_of(rule, best);
+    let made = place(codes, previous, divisors, first, cut, due, placed);
+    if falls_short(cut, made.least, made.sum) {
+        return next;
+    }
+    if due.line < task.last {
+        let line = due.line + 1;
+        let starts = Starts {
+            line,
+            from: 0,
+            count: counts[line],
         };
-    }
-    next
-}
-
-// A line's starts from `from` on, `count` of them, ascending. They are split into halves, so that the calls nest only as deep as the
-// number of starts has digits in base two. Up to 16 are judged one after another: each call copies the partial timetable.
-pub fn try_starts(
-    stops: &[u8; Network::MAX_CALLS],
-    lines: &[u8; Network::MAX_CALLS],
-    offsets: &[u16; Network::MAX_CALLS],
-    previous: &[u16; Network::MAX_CALLS],
-    divisors: &[u64; Network::PAIRS],
-    first: &[u16; Ordered::FIRSTS],
-    counts: &[u16; Network::MAX_LINES],
-    last: usize,
-    budget: u32,
-    line: usize,
-    from: u16,
-    count: u16,
-    placed: Placed,
-    walk: Walk,
-) -> Walk
-    requires { ⌜ ((l : held.Laid (now stops) (now lines) (now offsets) (now previous) (now divisors) (now first)) × held.CanTry (l .linked .net) (now counts) last line placed) ⌝ }
-    requires { ⌜ (from + count ≤ maxPeriod) × (walk .tries ≤ budget) ⌝ }
-    ensures within { λ r. ⌜ r .tries ≤ budget ⌝ }
-    ensures tried { λ r. ⌜ ((l : held.Laid (now (stops .entry)) (now (lines .entry)) (now (offsets .entry)) (now (previous .entry)) (now (divisors .entry)) (now (first .entry))) → held.CanTry (l .linked .net) (now (counts .entry)) last line placed → held.stateOf (l .linked .net) r ≡ eachStart (held.tryAt (l .linked .net) budget line (held.startsOf line (placed .starts))) from count (held.stateOf (l .linked .net) walk)) ⌝ }
-{
-    if count == 0 {
-        return walk;
-    }
-    if count == 1 {
-        return judge(
-            stops,
-            lines,
-            offsets,
+        return try_starts(
+            codes,
             previous,
             divisors,
             first,
             counts,
-            last,
-            budget,
-            line,
-            from,
+            task,
+            starts,
+            made,
+            next,
+        );
+    }
+    with_best(next, made)
+}
+
+// A line's starts, ascending. They are split into halves, so that the calls nest only as deep as the number of starts has digits in base
+// two.
+pub fn try_starts(
+    codes: &[u32; Network::MAX_CALLS],
+    previous: &[u16; Network::MAX_CALLS],
+    divisors: &[u64; Network::PAIRS],
+    first: &[u16; Ordered::FIRSTS],
+    counts: &[u16; Network::MAX_LINES],
+    task: Task,
+    starts: Starts,
+    placed: Placed,
+    walk: Walk,
+) -> Walk
+    requires { ⌜ held.MayTry (now codes) (now previous) (now divisors) (now first) (now counts) task (starts .line) placed ⌝ }
+    requires { ⌜ (starts .from + starts .count ≤ maxPeriod) × (walk .tries ≤ task .budget) ⌝ }
+    ensures within { λ r. ⌜ r .tries ≤ task .budget ⌝ }
+    ensures tried { λ r. ⌜ held.Tried (now (codes .entry)) (now (previous .entry)) (now (divisors .entry)) (now (first .entry)) (now (counts .entry)) task (starts .line) placed (held.eachOf task starts placed) walk r ⌝ }
+{
+    if starts.count == 0 {
+        return walk;
+    }
+    if starts.count == 1 {
+        let due = Try {
+            line: starts.line,
+            start: starts.from,
+        };
+        return judge(
+            codes,
+            previous,
+            divisors,
+            first,
+            counts,
+            task,
+            due,
             placed,
             walk,
         );
     }
-    let half = count / 2;
-    let lower = try_starts(
-        stops,
-        lines,
-        offsets,
+    let half = starts.count / 2;
+    let mut lower = starts;
+    lower.count = half;
+    let between = try_starts(
+        codes,
         previous,
         divisors,
         first,
         counts,
-        last,
-        budget,
-        line,
-        from,
-        half,
+        task,
+        lower,
         placed,
         walk,
     );
+    let mut upper = starts;
+    upper.from = starts.from + half;
+    upper.count = starts.count - half;
     try_starts(
-        stops,
-        lines,
-        offsets,
+        codes,
         previous,
         divisors,
         first,
         counts,
-        last,
-        budget,
-        line,
-        from + half,
-        count - half,
+        task,
+        upper,
         placed,
-        lower,
+        between,
     )
 }

@@ -14,24 +14,25 @@ use Rattle.network.specs.declared.Network.{Network}
 use Rattle.network.specs.declared.Rating.{Rating}
 use Rattle.network.specs.Divisor.{gcd}
 use Rattle.network.specs.Lists.{pick, below, sumOf, leastOf, pairsOf}
-use Rattle.network.specs.Network.{Net, isServed, maxStop, maxPeriod}
+use Rattle.network.specs.Network.{Net, isServed, maxStop, maxOffset, maxPeriod}
 use Rattle.network.specs.Rating.{pairGaps, callsOfStop, servedList, counted, ratingBy, noRating}
 use Rattle.network.specs.Reading.{accepted}
 use Rattle.network.specs.Scan.{leastFrom, lastAt, LeadsBack, countedStops}
-use Rattle.network.specs.Stored.{netOf, callsIn, Sound}
+use Rattle.network.specs.Stored.{netOf, callsIn, Sound, packed}
 use Rattle.network.specs.Valid.{Valid, noCall}
 use Rattle.network.proofs.Laws.Gaps.{ratingBy-same, counted-of-member, counted-served, ratingBy-counted}
 use Rattle.network.proofs.Laws.Gaps.{getD-zeros}
+use Rattle.network.proofs.Laws.Packed.{call-in-row}
 use Rattle.network.proofs.Laws.Stored.{held-lines, held-calls, held-period, held-call}
 use Rattle.network.proofs.Laws.Tables.{sumOf-append}
 use Rattle.search.specs.declared.Walk as code
 use Rattle.search.specs.Caps.{cap, placedCalls, upperValue, upperRating}
 use Rattle.search.specs.Held.{Represents, Laid, startsOf, stateOf, walkFrom, tryAt, withReciprocal}
 use Rattle.search.specs.Layout.{byLine, inLineOrder}
-use Rattle.search.specs.Search.{startCounts, searched, refusal, outcomeOf, searchOutcome, startRowAfter}
+use Rattle.search.specs.Search.{startCounts, aboveBest, searched, refusal, outcomeOf, searchOutcome, startRowAfter}
 use Rattle.search.specs.Walk.{State, atFirst, eachStart}
 use Rattle.search.proofs.Laws.CapScan.{cap-le}
-use Rattle.search.proofs.Laws.Layout.{keep-none, length-byLine-all}
+use Rattle.search.proofs.Laws.Layout.{keep-none, length-byLine-all, byLine-line-lt}
 use Rattle.search.proofs.Laws.Linked.{byLine-all}
 use Rattle.search.proofs.Laws.Tries.{walkFrom-next}
 
@@ -147,11 +148,12 @@ module _
             (omega (arith, h, count-is, length-inOrder)),
       )
 
+  -- each number of its row is a call packed
+  pub codes-are : (i : ℕ) → i < by .calls → getD (by .list) i 0 ≡ packed (getD (callsIn (by .list)) i noCall)
+  codes-are i h = sym (by-sound .packs i h) ∙ ap packed (sym (call-in-row (by .list) i))
+
   module _
-      (stops lines offsets previous divisors first : List ℕ)
-      (stop-of : (i : ℕ) → i < by .calls → getD stops i 0 ≡ getD (callsIn (by .list)) i noCall .stop)
-      (line-of : (i : ℕ) → i < by .calls → getD lines i 0 ≡ getD (callsIn (by .list)) i noCall .line)
-      (offset-of : (i : ℕ) → i < by .calls → getD offsets i 0 ≡ getD (callsIn (by .list)) i noCall .offset)
+      (previous divisors first : List ℕ)
       (leads : LeadsBack previous (callsIn (by .list)) (by .calls))
       (divisor-of : (i j : ℕ) → i < 16 → j < 16 → getD divisors (i * 16 + j) 0 ≡ withReciprocal (gcd (getD (network .periods) j 0) (getD (network .periods) i 0)))
       (first-of : (k : ℕ) → k ≤ length (netOf network .periods) → getD first k 0 ≡ length (byLine (netOf network .calls) k)) where
@@ -170,19 +172,17 @@ module _
         (ap₂ (λ (a b : ℕ). withReciprocal (gcd a b)) (held-period network j (omega (arith, k, held-lines network sound))) (held-period network i (omega (arith, h, held-lines network sound))))
 
     -- they hold the network
-    abbrev pub laid : Laid stops lines offsets previous divisors first
+    abbrev pub laid : Laid (by .list) previous divisors first
     laid =
         record {
           linked =
               record {
                 net = netOf network;
                 valid = valid;
-                line-of = λ i h. line-of i (omega (arith, h, count-is)) ∙ ap (λ (c : Call). c .line) (call-at i h);
-                offset-of = λ i h. offset-of i (omega (arith, h, count-is)) ∙ ap (λ (c : Call). c .offset) (call-at i h);
+                code-of = λ i h. codes-are i (omega (arith, h, count-is)) ∙ ap packed (call-at i h);
                 leads = leads-in-order;
                 divisor-of = divisor-in-order;
               };
-          stop-of = λ i h. stop-of i (omega (arith, h, count-is)) ∙ ap (λ (c : Call). c .stop) (call-at i h);
           first-of = first-of;
         }
 
@@ -198,14 +198,14 @@ pub searched-by-tries :
     (n : Net)
     → Valid n
     → (budget : ℕ) (starts : List ℕ) (r : code.Walk)
-    → stateOf n r ≡ eachStart (tryAt n budget 0 []) 0 1 (stateOf n (record { tries = 0; stopped = false; best = noRating; starts = starts }))
+    → stateOf n r ≡ eachStart (tryAt n aboveBest budget 0 []) 0 1 (stateOf n (record { tries = 0; stopped = false; best = noRating; starts = starts }))
     → stateOf n r ≡ searched n budget
 unfolding searched walkFrom stateOf
 searched-by-tries n valid budget starts r e =
     e
     ∙ sym
-    (walkFrom-next n budget 0 [] atFirst (valid .some-line)
-    ∙ ap (λ (k : ℕ). eachStart (tryAt n budget 0 []) 0 k atFirst) (startCounts-first (n .periods) (valid .some-line)))
+    (walkFrom-next n aboveBest budget 0 [] atFirst (valid .some-line)
+    ∙ ap (λ (k : ℕ). eachStart (tryAt n aboveBest budget 0 []) 0 k atFirst) (startCounts-first (n .periods) (valid .some-line)))
 
 -- ---- what the call answers and leaves
 

@@ -18,8 +18,10 @@ use Rattle.network.proofs.Laws.Divisor.{gcd-pos-left, gcd-le-left}
 use Rattle.network.proofs.Laws.Gaps.{residue-eq-of-multiple}
 use Rattle.network.proofs.Laws.Integers.{difference-pos, difference-sub, difference-add-multiple, eq-of-difference}
 use Rattle.search.specs.Layout.{byLine}
+use Rattle.network.proofs.Laws.Packed.{InLimits}
 use Rattle.search.specs.Held.{Linked, callsIn, reciprocal, withReciprocal}
 use Rattle.search.proofs.Laws.Layout.{length-byLine-all, byLine-line-lt}
+use Rattle.search.proofs.Laws.Codes.{lineIn, stopIn, offsetIn, line-of-packed, stop-of-packed, offset-of-packed}
 use Rattle.search.proofs.Laws.Reciprocal.{divisor-part, reciprocal-part}
 
 -- What holds of every call holds of every call in line order
@@ -41,7 +43,7 @@ unfolding arrivalOf
 arrival-of starts line offset c e f =
     ap₂ (λ (a b : ℕ). pos (getD starts a 0 + b)) e f ∙ ap (λ (z : ℤ). z +ℤ pos (c .offset)) (sym (List·getD-map pos starts (c .line) 0))
 
-module _ {lines offsets previous divisors : List ℕ} (l : Linked lines offsets previous divisors) where
+module _ {codes previous divisors : List ℕ} (l : Linked codes previous divisors) where
   -- all calls are in line order
   pub length-callsIn : length (callsIn l) ≡ length (l .net .calls)
   length-callsIn = length-byLine-all (l .net .calls) (length (l .net .periods)) (l .valid .call-line)
@@ -58,29 +60,38 @@ module _ {lines offsets previous divisors : List ℕ} (l : Linked lines offsets 
         omega
         (arith, byLine-all (λ (c : Call). c .stop ≤ maxStop) (l .net .calls) (l .valid .call-stop) (length (l .net .periods)) i (omega (arith, length-callsIn)))
 
-    pub offset-row-low : getD offsets i 0 ≤ 65535
-    offset-row-low =
-        omega (
-          arith,
-          l .offset-of i h,
-          byLine-all (λ (c : Call). c .offset ≤ maxOffset) (l .net .calls) (l .valid .call-offset) (length (l .net .periods)) i (omega (arith, length-callsIn)),
-        )
+    in-limits : InLimits (getD (callsIn l) i noCall)
+    in-limits =
+        record {
+          line = omega (arith, line-low, l .valid .lines);
+          stop = omega (arith, stop-low);
+          offset = byLine-all (λ (c : Call). c .offset ≤ maxOffset) (l .net .calls) (l .valid .call-offset) (length (l .net .periods)) i (omega (arith, length-callsIn));
+        }
 
-    pub line-row-low : getD lines i 0 < length (l .net .periods)
-    line-row-low = rw (l .line-of i h) line-low
+    pub line-of : lineIn (getD codes i 0) ≡ getD (callsIn l) i noCall .line
+    line-of = ap lineIn (l .code-of i h) ∙ line-of-packed _ in-limits
 
-    pub line-row-lt-16 : getD lines i 0 < 16
+    pub stop-of : stopIn (getD codes i 0) ≡ getD (callsIn l) i noCall .stop
+    stop-of = ap stopIn (l .code-of i h) ∙ stop-of-packed _ in-limits
+
+    offset-of : offsetIn (getD codes i 0) ≡ getD (callsIn l) i noCall .offset
+    offset-of = ap offsetIn (l .code-of i h) ∙ offset-of-packed _ in-limits
+
+    line-row-low : lineIn (getD codes i 0) < length (l .net .periods)
+    line-row-low = rw line-of line-low
+
+    pub line-row-lt-16 : lineIn (getD codes i 0) < 16
     line-row-lt-16 = omega (arith, line-row-low, l .valid .lines)
 
   -- the divisor of two calls
   module _ (i j : ℕ) (hi : i < length (l .net .calls)) (hj : j < length (l .net .calls)) where
     word-is :
-        getD divisors (getD lines i 0 * 16 + getD lines j 0) 0
+        getD divisors (lineIn (getD codes i 0) * 16 + lineIn (getD codes j 0)) 0
         ≡ withReciprocal (gcd (periodOf (l .net) (getD (callsIn l) j noCall)) (periodOf (l .net) (getD (callsIn l) i noCall)))
     unfolding periodOf
     word-is =
-        l .divisor-of (getD lines i 0) (getD lines j 0) (line-row-low i hi) (line-row-low j hj)
-        ∙ ap₂ (λ (a b : ℕ). withReciprocal (gcd (getD (l .net .periods) a 0) (getD (l .net .periods) b 0))) (l .line-of j hj) (l .line-of i hi)
+        l .divisor-of (lineIn (getD codes i 0)) (lineIn (getD codes j 0)) (line-row-low i hi) (line-row-low j hj)
+        ∙ ap₂ (λ (a b : ℕ). withReciprocal (gcd (getD (l .net .periods) a 0) (getD (l .net .periods) b 0))) (line-of j hj) (line-of i hi)
 
     period-pos : 0 < periodOf (l .net) (getD (callsIn l) j noCall)
     unfolding periodOf
@@ -97,35 +108,35 @@ module _ {lines offsets previous divisors : List ℕ} (l : Linked lines offsets 
     gcd-low = le-trans (gcd-le-left _ _ period-pos) period-le
 
     divisor-is :
-        getD divisors (getD lines i 0 * 16 + getD lines j 0) 0 % 2048
+        getD divisors (lineIn (getD codes i 0) * 16 + lineIn (getD codes j 0)) 0 % 2048
         ≡ gcd (periodOf (l .net) (getD (callsIn l) j noCall)) (periodOf (l .net) (getD (callsIn l) i noCall))
     divisor-is = ap (λ (w : ℕ). w % 2048) word-is ∙ divisor-part _ gcd-pos (omega (arith, gcd-low))
 
-    pub divisor-pos : 0 < getD divisors (getD lines i 0 * 16 + getD lines j 0) 0 % 2048
+    pub divisor-pos : 0 < getD divisors (lineIn (getD codes i 0) * 16 + lineIn (getD codes j 0)) 0 % 2048
     divisor-pos = rw divisor-is gcd-pos
 
-    pub divisor-le : getD divisors (getD lines i 0 * 16 + getD lines j 0) 0 % 2048 ≤ 1440
+    pub divisor-le : getD divisors (lineIn (getD codes i 0) * 16 + lineIn (getD codes j 0)) 0 % 2048 ≤ 1440
     divisor-le = rw divisor-is gcd-low
 
     pub reciprocal-is :
-        getD divisors (getD lines i 0 * 16 + getD lines j 0) 0 / 2048 ≡ reciprocal (getD divisors (getD lines i 0 * 16 + getD lines j 0) 0 % 2048)
+        getD divisors (lineIn (getD codes i 0) * 16 + lineIn (getD codes j 0)) 0 / 2048 ≡ reciprocal (getD divisors (lineIn (getD codes i 0) * 16 + lineIn (getD codes j 0)) 0 % 2048)
     reciprocal-is = ap (λ (w : ℕ). w / 2048) word-is ∙ reciprocal-part _ gcd-pos (omega (arith, gcd-low)) ∙ ap reciprocal (sym divisor-is)
 
     -- the gap of two calls, by their arrivals and that divisor
     pub gap-of-rows :
         (starts : List ℕ)
-        → fold (getD divisors (getD lines i 0 * 16 + getD lines j 0) 0 % 2048)
-        (residue (pos (getD starts (getD lines j 0) 0 + getD offsets j 0) -ℤ pos (getD starts (getD lines i 0) 0 + getD offsets i 0))
-        (getD divisors (getD lines i 0 * 16 + getD lines j 0) 0 % 2048))
+        → fold (getD divisors (lineIn (getD codes i 0) * 16 + lineIn (getD codes j 0)) 0 % 2048)
+        (residue (pos (getD starts (lineIn (getD codes j 0)) 0 + offsetIn (getD codes j 0)) -ℤ pos (getD starts (lineIn (getD codes i 0)) 0 + offsetIn (getD codes i 0)))
+        (getD divisors (lineIn (getD codes i 0) * 16 + lineIn (getD codes j 0)) 0 % 2048))
         ≡ gapOfCalls (l .net) (map pos starts) (getD (callsIn l) j noCall) (getD (callsIn l) i noCall)
     unfolding gapOfCalls gapOf
     gap-of-rows starts =
-        ap (λ (g : ℕ). fold g (residue (pos (getD starts (getD lines j 0) 0 + getD offsets j 0) -ℤ pos (getD starts (getD lines i 0) 0 + getD offsets i 0)) g))
+        ap (λ (g : ℕ). fold g (residue (pos (getD starts (lineIn (getD codes j 0)) 0 + offsetIn (getD codes j 0)) -ℤ pos (getD starts (lineIn (getD codes i 0)) 0 + offsetIn (getD codes i 0))) g))
         divisor-is
         ∙ ap₂ (λ (a b : ℤ). fold (gcd (periodOf (l .net) (getD (callsIn l) j noCall)) (periodOf (l .net) (getD (callsIn l) i noCall)))
         (residue (a -ℤ b) (gcd (periodOf (l .net) (getD (callsIn l) j noCall)) (periodOf (l .net) (getD (callsIn l) i noCall)))))
         (arrives j hj)
         (arrives i hi)
       where
-        arrives : (k : ℕ) → k < length (l .net .calls) → pos (getD starts (getD lines k 0) 0 + getD offsets k 0) ≡ arrivalOf (map pos starts) (getD (callsIn l) k noCall)
-        arrives k h = arrival-of starts (getD lines k 0) (getD offsets k 0) (getD (callsIn l) k noCall) (l .line-of k h) (l .offset-of k h)
+        arrives : (k : ℕ) → k < length (l .net .calls) → pos (getD starts (lineIn (getD codes k 0)) 0 + offsetIn (getD codes k 0)) ≡ arrivalOf (map pos starts) (getD (callsIn l) k noCall)
+        arrives k h = arrival-of starts (lineIn (getD codes k 0)) (offsetIn (getD codes k 0)) (getD (callsIn l) k noCall) (line-of k h) (offset-of k h)

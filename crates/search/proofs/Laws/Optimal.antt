@@ -15,13 +15,14 @@ use Rattle.network.specs.Rating.{IsRating, ratingBy, ratingOver, rating, isAbov
 use Rattle.network.proofs.Laws.Gaps.{All, rating-is-rating, IsRating-unique, below-of-not-isAbove}
 use Rattle.search.specs.Caps.{cap, upperRating}
 use Rattle.search.specs.Walk.{atFirst, mostTries}
-use Rattle.search.specs.Search.{startCounts, notAbove, searched, triesBound}
+use Rattle.search.specs.Search.{startCounts, aboveBest, searched, triesBound}
 use Rattle.search.specs.Search.{stopped, productsFrom}
-use Rattle.search.proofs.Laws.Upper.{upper-sound, upper-full, upperRating-some}
+use Rattle.search.proofs.Laws.Upper.{upper-is-upper, upper-full, upperRating-some}
 use Rattle.search.proofs.Laws.Reduced.{reduced, reduced-length, reduced-chosen, reduced-rating}
 use Rattle.search.proofs.Laws.Tries.{length-startCounts}
-use Rattle.search.proofs.Laws.Walk.{Chosen-length, Chosen-exists, best-is-chosen}
-use Rattle.search.proofs.Laws.Walk.{walk-tries-le, walk-tries-le-budget, walk-stopped-at-budget, walk-finishes, none-above-best, finished-has-best}
+use Rattle.search.proofs.Laws.Walk.{Chosen-length, Chosen-exists, walk-tries-le, walk-tries-le-budget, walk-stopped-at-budget, walk-finishes}
+use Rattle.search.proofs.Laws.Best.{best-is-chosen}
+use Rattle.search.proofs.Laws.Rules.{none-above-best, aboveBest-has-best}
 
 -- ---- the choices of the walk
 
@@ -36,22 +37,22 @@ startCounts-pos (t ∷ periods) f (suc i) h = f (suc i) h
 pub searched-tries-le : (n : Net) (budget : ℕ) → searched n budget .tries ≤ triesBound n
 unfolding searched triesBound
 searched-tries-le n budget =
-    omega (arith, walk-tries-le (upperRating n (cap n)) notAbove budget (startCounts (n .periods)) [] atFirst)
+    omega (arith, walk-tries-le (upperRating n (cap n)) aboveBest budget (startCounts (n .periods)) [] atFirst)
 
 pub searched-finishes : (n : Net) (budget : ℕ) → triesBound n ≤ budget → searched n budget .stopped ≡ false
 unfolding searched triesBound
 searched-finishes n budget h =
-    walk-finishes (upperRating n (cap n)) notAbove budget (startCounts (n .periods)) [] atFirst refl (omega arith)
+    walk-finishes (upperRating n (cap n)) aboveBest budget (startCounts (n .periods)) [] atFirst refl (omega arith)
 
 pub searched-stopped : (n : Net) (budget : ℕ) → searched n budget .stopped ≡ true → searched n budget .tries ≡ budget
 unfolding searched
 searched-stopped n budget =
-    walk-stopped-at-budget (upperRating n (cap n)) notAbove budget (startCounts (n .periods)) [] atFirst refl
+    walk-stopped-at-budget (upperRating n (cap n)) aboveBest budget (startCounts (n .periods)) [] atFirst refl
 
 pub searched-tries-le-budget : (n : Net) (budget : ℕ) → searched n budget .tries ≤ budget
 unfolding searched
 searched-tries-le-budget n budget =
-    walk-tries-le-budget (upperRating n (cap n)) notAbove budget (startCounts (n .periods)) [] atFirst (omega arith)
+    walk-tries-le-budget (upperRating n (cap n)) aboveBest budget (startCounts (n .periods)) [] atFirst (omega arith)
 
 -- A best, whether the walk ended or stopped
 module _ {n : Net} (valid : Valid n) (budget : ℕ) (some : searched n budget .best .some ≡ true) where
@@ -59,13 +60,13 @@ module _ {n : Net} (valid : Valid n) (budget : ℕ) (some : searched n budget .b
   searched-rated : searched n budget .best ≡ rating n (searched n budget .starts)
   unfolding searched
   searched-rated =
-      let b = best-is-chosen (upperRating n (cap n)) budget (upperRating-some n (cap n)) (startCounts (n .periods)) notAbove in
+      let b = best-is-chosen (upperRating n (cap n)) aboveBest budget (upperRating-some n (cap n)) (startCounts (n .periods)) in
       b .rated some ∙ upper-full valid _ (Chosen-length (b .chosen some) ∙ length-startCounts (n .periods))
 
   pub searched-length : length (searched n budget .starts) ≡ length (n .periods)
   unfolding searched
   searched-length =
-      let b = best-is-chosen (upperRating n (cap n)) budget (upperRating-some n (cap n)) (startCounts (n .periods)) notAbove in
+      let b = best-is-chosen (upperRating n (cap n)) aboveBest budget (upperRating-some n (cap n)) (startCounts (n .periods)) in
       Chosen-length (b .chosen some) ∙ length-startCounts (n .periods)
 
   pub searched-rating : IsRating n (searched n budget .starts) (searched n budget .best .least) (searched n budget .best .sum)
@@ -76,8 +77,8 @@ module _ {n : Net} (valid : Valid n) (budget : ℕ) (ended : searched n budget .
   unfolding searched
   searched-some =
       let (starts, c) = Chosen-exists (startCounts (n .periods)) (startCounts-pos (n .periods) (valid .period-pos)) in
-      finished-has-best (upperRating n (cap n)) budget (upperRating-some n (cap n)) (startCounts (n .periods))
-      (λ placed tail c. upper-sound n (cap n) placed tail) ended starts c
+      aboveBest-has-best (upperRating n (cap n)) budget (startCounts (n .periods)) (upperRating-some n (cap n))
+      (upper-is-upper n (cap n) (startCounts (n .periods))) ended starts c
 
   -- No starts are rated above it
   searched-none-above : (starts : List ℤ) → length starts ≡ length (n .periods) → isAbove (rating n starts) (searched n budget .best) ≡ false
@@ -85,8 +86,8 @@ module _ {n : Net} (valid : Valid n) (budget : ℕ) (ended : searched n budget .
   searched-none-above starts e =
       ap (λ (r : Rating). isAbove r (searched n budget .best))
       (sym (upper-full valid (reduced (n .periods) starts) (reduced-length valid starts e) ∙ reduced-rating valid starts e))
-      ∙ none-above-best (upperRating n (cap n)) budget (upperRating-some n (cap n)) (startCounts (n .periods))
-      (λ placed tail c. upper-sound n (cap n) placed tail) ended (reduced (n .periods) starts)
+      ∙ none-above-best (upperRating n (cap n)) budget (startCounts (n .periods)) (upperRating-some n (cap n))
+      (upper-is-upper n (cap n) (startCounts (n .periods))) ended (reduced (n .periods) starts)
       (reduced-chosen valid starts e)
 
   pub searched-best : (starts : List ℤ) → length starts ≡ length (n .periods) → {least sum : ℕ} → IsRating n starts least sum

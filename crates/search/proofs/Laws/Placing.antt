@@ -1,8 +1,8 @@
 -- Placing a line call by call: after each of its calls the values are those of the calls up to it, and the rating is the values'; before the
 -- first call they are the partial timetable's, and after the last those of one line more. From call to call they only fall. Assumes nothing.
 use Prim.Native.Nat.{ℕ, _+_, _-_, _<_, _≤_, min}
-use mathlib.Core.Path.{_≡_, refl, sym, ap, ap₂, subst, fun-ext, _∙_}
-use mathlib.Core.Bool.{true, false}
+use mathlib.Core.Path.{_≡_, refl, sym, ap, subst, fun-ext, _∙_}
+use mathlib.Core.Bool.{true}
 use mathlib.Core.List.{List, [], _∷_, _++_, map, map-append}
 use borrow.Author.Tests.{eq-eqb}
 use native.Mathlib.Decide.{ℕ-discrete}
@@ -15,20 +15,21 @@ use lib.Seq.{getD-set-same, getD-set-other, getD-take, length-take-le, take-leng
 use Rattle.network.specs.declared.Call.{Call}
 use Rattle.network.specs.declared.Rating.{Rating}
 use Rattle.network.specs.Network.{Net, isServed, maxPeriod}
-use Rattle.network.specs.Rating.{gapOfCalls, counted, ratingBy, isAbove}
+use Rattle.network.specs.Rating.{gapOfCalls, counted, ratingBy}
 use Rattle.network.specs.Scan.{leastFrom, callsBefore}
 use Rattle.network.specs.Valid.{Valid, noCall}
 use Rattle.network.proofs.Laws.Lists.{take-set-next, any-take-found}
 use Rattle.network.proofs.Laws.Gaps.{leastFrom-le}
+use Rattle.search.specs.declared.Cut.{Cut}
 use Rattle.search.specs.declared.Placed.{Placed}
 use Rattle.search.specs.Caps.{cap, upperValue, upperRating}
 use Rattle.search.specs.Layout.{byLine, valueAfter}
-use Rattle.search.specs.Held.{startsOf, Represents}
+use Rattle.search.specs.Held.{isShort, startsOf, withStart, Represents}
 use Rattle.search.proofs.Laws.Layout.{byLine-line-lt, length-byLine-all, length-byLine-le}
 use Rattle.search.proofs.Laws.Linked.{byLine-all}
 use Rattle.search.proofs.Laws.Values.{value-hit, value-miss, value-falls, value-placed, value-local}
-use Rattle.search.proofs.Laws.Upper.{ratingBy-not-above}
-use Rattle.search.proofs.Laws.Walk.{not-above-transitive}
+use Rattle.search.proofs.Laws.Upper.{ratingBy-least-le, ratingBy-sum-le}
+use Rattle.search.proofs.Laws.Cuts.{short-below}
 use Rattle.search.proofs.Laws.Lowered.{value-le-sum, rating-lowered}
 
 -- The calls in the order of their lines
@@ -186,21 +187,21 @@ lowering-last n valid line starts values least sum h row low now =
         ≡ valueAfter n (cap n) (map pos starts) (inOrder n) (length (byLine (n .calls) (line + 1))) stop
     same = value-of-prefix n valid (line + 1) starts starts (omega arith) (omega (arith, row, valid .lines)) (λ j b. refl)
 
--- What is not above a rating after some of a line's calls is not above it after all of them
+-- What falls short after some of a line's calls does after all of them
 pub given-up :
-    (n : Net) → Valid n → (line start : ℕ) (p : Placed)
+    (cut : Cut) (n : Net) → Valid n → (line start : ℕ) (p : Placed)
     → line < length (n .periods)
     → Represents n line p
     → (values : List ℕ) (least sum i : ℕ)
     → Lowering n (map pos (set (p .starts) line start)) values least sum i
     → i ≤ length (byLine (n .calls) (line + 1))
-    → (best : Rating)
-    → isAbove (record { some = true; least = least; sum = sum }) best ≡ false
-    → isAbove (upperRating n (cap n) (startsOf line (p .starts) ++ (pos start ∷ []))) best ≡ false
+    → isShort cut least sum ≡ true
+    → isShort cut (upperRating n (cap n) (withStart line start p) .least) (upperRating n (cap n) (withStart line start p) .sum) ≡ true
 unfolding upperRating
-given-up n valid line start p h rep values least sum i now l best short =
-    not-above-transitive _ _ best
-    (ap₂ isAbove at-end (now .rating-of) ∙ ratingBy-not-above (after end) (after i) falls (counted n))
+given-up cut n valid line start p h rep values least sum i now l short =
+    short-below cut _ _ least sum
+    (omega (arith, ap (λ (r : Rating). r .least) at-end, ap (λ (r : Rating). r .least) (now .rating-of), ratingBy-least-le (after end) (after i) falls (counted n)))
+    (omega (arith, ap (λ (r : Rating). r .sum) at-end, ap (λ (r : Rating). r .sum) (now .rating-of), ratingBy-sum-le (after end) (after i) falls (counted n)))
     short
   where
     starts : List ℕ

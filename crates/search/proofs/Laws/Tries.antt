@@ -1,8 +1,9 @@
--- One try of the code is one try of the walk: where the walk has stopped, where the budget is used up, where the try is dropped and where it
--- stands; and the walk from a partial timetable on is the next line's tries, or past the last line the best. Assumes nothing.
+-- One try of the code is one try of the walk, whatever its rule: where the walk is over, where the budget is used up, where the try is
+-- dropped and where it stands; and the walk from a partial timetable on is the next line's tries, or past the last line the best. Assumes
+-- nothing.
 use Prim.Native.Nat.{ℕ, zero, suc, _+_, _-_, _<_, _≤_}
 use mathlib.Core.Path.{_≡_, refl, sym, ap, subst, _∙_}
-use mathlib.Core.Bool.{Bool, true, false}
+use mathlib.Core.Bool.{Bool, true, false, _&&_}
 use mathlib.Core.List.{List, [], _∷_, _++_}
 use mathlib.Core.Logic.{_⊎_, inl, inr}
 use borrow.Author.Tests.{eq-eqb, ne-eqb}
@@ -12,15 +13,17 @@ use lib.IntN.{ℤ, pos}
 use lib.ListN.{length, getD, drop}
 use Rattle.network.specs.declared.Rating.{Rating}
 use Rattle.network.specs.Network.{Net, maxPeriod}
-use Rattle.network.specs.Rating.{isAbove}
+use Rattle.network.specs.Rating.{ratingBy}
 use Rattle.network.specs.Valid.{Valid}
 use Rattle.network.proofs.Laws.Lists.{zero-ne-one}
 use Rattle.search.specs.declared.Walk as code
 use Rattle.search.specs.Caps.{cap, upperRating}
-use Rattle.search.specs.Walk.{State, tryMade, stop, becomesBest, unless, stopIf, oneTry, eachStart, walk}
-use Rattle.search.specs.Search.{startCounts, notAbove}
-use Rattle.search.specs.Held.{startsOf, stateOf, walkFrom, tryAt, CanTry, CanPlace, PlacedMore, GivenUp}
+use Rattle.search.specs.Walk.{State, Rule, isOver, tryMade, stop, becomesBest, unless, stopIf, oneTry, eachStart, walk}
+use Rattle.search.specs.Search.{startCounts}
+use Rattle.search.specs.Held.{ruleOf, rated, isShort, IsCut, startsOf, withStart, stateOf, withBest, walkFrom, tryAt, CanTry, CanPlace, PlacedMore, GivenUp}
+use Rattle.search.specs.declared.Cut.{Cut}
 use Rattle.search.specs.declared.Placed.{Placed}
+use Rattle.search.specs.declared.Task.{Task}
 use Rattle.search.proofs.Laws.Walk.{eachStart-split, eachStart-one}
 
 -- ---- the numbers of starts
@@ -53,19 +56,19 @@ drop-all [] (suc k) l = refl
 drop-all (x ∷ xs) zero l = absurd (omega (arith, l))
 drop-all (x ∷ xs) (suc k) l = drop-all xs k (omega (arith, l))
 
-module _ (n : Net) (budget : ℕ) where
+module _ (n : Net) (rule : Rule) (budget : ℕ) where
   pub walkFrom-next : (k : ℕ) (placed : List ℤ) (s : State) → k < length (n .periods)
-      → walkFrom n budget k placed s ≡ eachStart (tryAt n budget k placed) 0 (getD (startCounts (n .periods)) k 0) s
+      → walkFrom n rule budget k placed s ≡ eachStart (tryAt n rule budget k placed) 0 (getD (startCounts (n .periods)) k 0) s
   unfolding walkFrom tryAt walk
   walkFrom-next k placed s l =
-      ap (λ (cs : List ℕ). walk (upperRating n (cap n)) notAbove budget cs placed s)
+      ap (λ (cs : List ℕ). walk (upperRating n (cap n)) rule budget cs placed s)
       (cons-drop (startCounts (n .periods)) k (rw length-startCounts l))
 
   pub walkFrom-last : (k : ℕ) (placed : List ℤ) (s : State) → length (n .periods) ≤ k
-      → walkFrom n budget k placed s ≡ becomesBest (upperRating n (cap n) placed) placed s
+      → walkFrom n rule budget k placed s ≡ becomesBest (upperRating n (cap n) placed) placed s
   unfolding walkFrom walk
   walkFrom-last k placed s l =
-      ap (λ (cs : List ℕ). walk (upperRating n (cap n)) notAbove budget cs placed s)
+      ap (λ (cs : List ℕ). walk (upperRating n (cap n)) rule budget cs placed s)
       (drop-all (startCounts (n .periods)) k (rw length-startCounts l))
 
   -- ---- one try
@@ -74,62 +77,67 @@ module _ (n : Net) (budget : ℕ) where
     abbrev upper : Rating
     upper = upperRating n (cap n) (placed ++ (pos x ∷ []))
 
-    pub try-stopped : w .stopped ≡ true → stateOf n w ≡ tryAt n budget k placed x (stateOf n w)
-    unfolding tryAt oneTry stateOf unless
+    pub try-stopped : w .stopped ≡ true → stateOf n w ≡ tryAt n rule budget k placed x (stateOf n w)
+    unfolding tryAt oneTry isOver stateOf unless
     try-stopped e = rw e refl
 
-    pub try-at-budget : w .stopped ≡ false → w .tries ≡ budget
-        → stateOf n (record { tries = w .tries; stopped = true; best = w .best; starts = w .starts }) ≡ tryAt n budget k placed x (stateOf n w)
-    unfolding tryAt oneTry stateOf unless stopIf stop
-    try-at-budget e b = rw (e, eq-eqb (w .tries) budget b) refl
+    -- a walk that hasn't stopped
+    module _ (e : w .stopped ≡ false) where
+      pub try-ended : (rule .endsAtFirst && w .best .some) ≡ true → stateOf n w ≡ tryAt n rule budget k placed x (stateOf n w)
+      unfolding tryAt oneTry isOver stateOf unless
+      try-ended o = rw (e, o) refl
 
-    -- a try that is made
-    module _ (e : w .stopped ≡ false) (b : w .tries ≡ budget → ⊥) where
-      abbrev more : code.Walk
-      more = record { tries = w .tries + 1; stopped = w .stopped; best = w .best; starts = w .starts }
+      -- and hasn't ended
+      module _ (o : (rule .endsAtFirst && w .best .some) ≡ false) where
+        pub try-at-budget : w .tries ≡ budget
+            → stateOf n (record { tries = w .tries; stopped = true; best = w .best; starts = w .starts }) ≡ tryAt n rule budget k placed x (stateOf n w)
+        unfolding tryAt oneTry isOver stateOf unless stopIf stop
+        try-at-budget b = rw (e, o, eq-eqb (w .tries) budget b) refl
 
-      pub try-dropped : isAbove upper (w .best) ≡ false → stateOf n more ≡ tryAt n budget k placed x (stateOf n w)
-      unfolding tryAt oneTry stateOf unless stopIf tryMade notAbove
-      try-dropped f = rw (e, ne-eqb (w .tries) budget b, f) refl
+        -- a try that is made
+        module _ (b : w .tries ≡ budget → ⊥) where
+          abbrev more : code.Walk
+          more = record { tries = w .tries + 1; stopped = w .stopped; best = w .best; starts = w .starts }
 
-      pub try-onward : isAbove upper (w .best) ≡ true
-          → walkFrom n budget (suc k) (placed ++ (pos x ∷ [])) (stateOf n more) ≡ tryAt n budget k placed x (stateOf n w)
-      unfolding tryAt oneTry stateOf unless stopIf tryMade notAbove
-      try-onward f = rw (e, ne-eqb (w .tries) budget b, f) refl
+          pub try-dropped : rule .drops upper (w .best) ≡ true → stateOf n more ≡ tryAt n rule budget k placed x (stateOf n w)
+          unfolding tryAt oneTry isOver stateOf unless stopIf tryMade
+          try-dropped f = rw (e, o, ne-eqb (w .tries) budget b, f) refl
 
-      -- on the last line
-      best-state : suc k ≡ length (n .periods) → (starts : List ℕ) → startsOf (suc k) starts ≡ placed ++ (pos x ∷ []) → upper .some ≡ true
-          → stateOf n (record { tries = w .tries + 1; stopped = false; best = upper; starts = starts })
-          ≡ becomesBest upper (placed ++ (pos x ∷ [])) (stateOf n more)
-      unfolding stateOf becomesBest
-      best-state last starts given some = rw (← last, some, e, given) refl
+          pub try-onward : rule .drops upper (w .best) ≡ false
+              → walkFrom n rule budget (suc k) (placed ++ (pos x ∷ [])) (stateOf n more) ≡ tryAt n rule budget k placed x (stateOf n w)
+          unfolding tryAt oneTry isOver stateOf unless stopIf tryMade
+          try-onward f = rw (e, o, ne-eqb (w .tries) budget b, f) refl
 
-      pub try-best : isAbove upper (w .best) ≡ true → suc k ≡ length (n .periods)
-          → (starts : List ℕ) → startsOf (suc k) starts ≡ placed ++ (pos x ∷ []) → upper .some ≡ true
-          → stateOf n (record { tries = w .tries + 1; stopped = false; best = upper; starts = starts }) ≡ tryAt n budget k placed x (stateOf n w)
-      try-best f last starts given some =
-          best-state last starts given some
-          ∙ sym (walkFrom-last (suc k) (placed ++ (pos x ∷ [])) (stateOf n more) (omega (arith, last)))
-          ∙ try-onward f
+          -- on the last line
+          best-state : suc k ≡ length (n .periods) → (starts : List ℕ) → startsOf (suc k) starts ≡ placed ++ (pos x ∷ []) → upper .some ≡ true
+              → stateOf n (record { tries = w .tries + 1; stopped = w .stopped; best = upper; starts = starts })
+              ≡ becomesBest upper (placed ++ (pos x ∷ [])) (stateOf n more)
+          unfolding stateOf becomesBest
+          best-state last starts given some = rw (← last, some, given) refl
+
+          pub try-best : rule .drops upper (w .best) ≡ false → suc k ≡ length (n .periods)
+              → (starts : List ℕ) → startsOf (suc k) starts ≡ placed ++ (pos x ∷ []) → upper .some ≡ true
+              → stateOf n (record { tries = w .tries + 1; stopped = w .stopped; best = upper; starts = starts }) ≡ tryAt n rule budget k placed x (stateOf n w)
+          try-best f last starts given some =
+              best-state last starts given some
+              ∙ sym (walkFrom-last (suc k) (placed ++ (pos x ∷ [])) (stateOf n more) (omega (arith, last)))
+              ∙ try-onward f
 
 -- ---- the code's try, by the partial timetable that it makes
 
-pub can-place : {n : Net} {counts : List ℕ} {last line : ℕ} {p : Placed} → CanTry n counts last line p
+pub can-place : {n : Net} {counts : List ℕ} {task : Task} {line : ℕ} {p : Placed} → CanTry n counts task line p
     → (start : ℕ) → start < maxPeriod → CanPlace n line start p
 can-place can start low = record { stated = can .stated; start-low = low; before = can .before }
 
-module _ {n : Net} {counts : List ℕ} {last line : ℕ} {p : Placed} (can : CanTry n counts last line p)
+module _ {n : Net} {counts : List ℕ} {task : Task} {line : ℕ} {p : Placed} (can : CanTry n counts task line p)
     {start : ℕ} {r : Placed} (more-placed : PlacedMore n line start p r) where
-  abbrev made : Rating
-  made = record { some = true; least = r .least; sum = r .sum }
+  abbrev rule : Rule
+  rule = ruleOf (task .rule)
 
-  abbrev together : List ℤ
-  together = startsOf line (p .starts) ++ (pos start ∷ [])
-
-  made-is : made ≡ upperRating n (cap n) together
+  made-is : rated (r .least) (r .sum) ≡ upperRating n (cap n) (withStart line start p)
   made-is = more-placed .one-more .rating-of ∙ ap (upperRating n (cap n)) (more-placed .appended)
 
-  pub can-try-next : line < last → CanTry n counts last (line + 1) r
+  pub can-try-next : line < task .last → CanTry n counts task (line + 1) r
   can-try-next l =
       record {
         stated = omega (arith, l, can .last-of);
@@ -139,62 +147,64 @@ module _ {n : Net} {counts : List ℕ} {last line : ℕ} {p : Placed} (can : Can
       }
 
   -- the starts of the next line are few
-  pub next-few : Valid n → line < last → getD counts (line + 1) 0 ≤ maxPeriod
+  pub next-few : Valid n → line < task .last → getD counts (line + 1) 0 ≤ maxPeriod
   next-few v l = rw (can .count-of (line + 1) (omega (arith, l, can .last-of))) (startCounts-low n v (line + 1) (omega (arith, l, can .last-of)))
 
-  module _ (budget : ℕ) (w : code.Walk) (e : w .stopped ≡ false) (b : w .tries ≡ budget → ⊥) where
-    abbrev after : State
-    after = stateOf n (record { tries = w .tries + 1; stopped = w .stopped; best = w .best; starts = w .starts })
+  module _ (w : code.Walk) (e : w .stopped ≡ false) (o : (rule .endsAtFirst && w .best .some) ≡ false) (b : w .tries ≡ task .budget → ⊥) where
+    abbrev made : code.Walk
+    made = record { tries = w .tries + 1; stopped = w .stopped; best = w .best; starts = w .starts }
 
-    above : {q : Bool} → isAbove made (w .best) ≡ q → isAbove (upperRating n (cap n) together) (w .best) ≡ q
-    above f = ap (λ (u : Rating). isAbove u (w .best)) (sym made-is) ∙ f
+    test-is : {q : Bool} → rule .drops (rated (r .least) (r .sum)) (w .best) ≡ q → rule .drops (upperRating n (cap n) (withStart line start p)) (w .best) ≡ q
+    test-is f = ap (λ (u : Rating). rule .drops u (w .best)) (sym made-is) ∙ f
 
     -- dropped
-    pub judged-dropped : isAbove made (w .best) ≡ false
-        → stateOf n (record { tries = w .tries + 1; stopped = w .stopped; best = w .best; starts = w .starts })
-        ≡ tryAt n budget line (startsOf line (p .starts)) start (stateOf n w)
-    judged-dropped f = try-dropped n budget line (startsOf line (p .starts)) start w e b (above f)
+    pub judged-dropped : rule .drops (rated (r .least) (r .sum)) (w .best) ≡ true
+        → stateOf n made ≡ tryAt n rule (task .budget) line (startsOf line (p .starts)) start (stateOf n w)
+    judged-dropped f = try-dropped n rule (task .budget) line (startsOf line (p .starts)) start w e o b (test-is f)
 
     -- sent to the next line
-    pub judged-next : isAbove made (w .best) ≡ true → line < last → (res : code.Walk)
+    pub judged-next : rule .drops (rated (r .least) (r .sum)) (w .best) ≡ false → line < task .last → (res : code.Walk)
         → stateOf n res
-        ≡ eachStart (tryAt n budget (line + 1) (startsOf (line + 1) (r .starts))) 0 (getD counts (line + 1) 0)
-        (stateOf n (record { tries = w .tries + 1; stopped = w .stopped; best = w .best; starts = w .starts }))
-        → stateOf n res ≡ tryAt n budget line (startsOf line (p .starts)) start (stateOf n w)
+        ≡ eachStart (tryAt n rule (task .budget) (line + 1) (startsOf (line + 1) (r .starts))) 0 (getD counts (line + 1) 0) (stateOf n made)
+        → stateOf n res ≡ tryAt n rule (task .budget) line (startsOf line (p .starts)) start (stateOf n w)
     judged-next f l res h =
         h
-        ∙ ap (λ (count : ℕ). eachStart (tryAt n budget (line + 1) (startsOf (line + 1) (r .starts))) 0 count after) (can .count-of (line + 1) (omega (arith, l, can .last-of)))
-        ∙ sym (walkFrom-next n budget (line + 1) (startsOf (line + 1) (r .starts)) after (omega (arith, l, can .last-of)))
-        ∙ ap (λ (starts : List ℤ). walkFrom n budget (line + 1) starts after) (more-placed .appended)
-        ∙ ap (λ (k : ℕ). walkFrom n budget k together after) (add-one line)
-        ∙ try-onward n budget line (startsOf line (p .starts)) start w e b (above f)
+        ∙ ap (λ (count : ℕ). eachStart (tryAt n rule (task .budget) (line + 1) (startsOf (line + 1) (r .starts))) 0 count (stateOf n made)) (can .count-of (line + 1) (omega (arith, l, can .last-of)))
+        ∙ sym (walkFrom-next n rule (task .budget) (line + 1) (startsOf (line + 1) (r .starts)) (stateOf n made) (omega (arith, l, can .last-of)))
+        ∙ ap (λ (starts : List ℤ). walkFrom n rule (task .budget) (line + 1) starts (stateOf n made)) (more-placed .appended)
+        ∙ ap (λ (k : ℕ). walkFrom n rule (task .budget) k (withStart line start p) (stateOf n made)) (add-one line)
+        ∙ try-onward n rule (task .budget) line (startsOf line (p .starts)) start w e o b (test-is f)
 
     -- the best
-    pub judged-best : isAbove made (w .best) ≡ true → last ≤ line
-        → stateOf n (record { tries = w .tries + 1; stopped = false; best = made; starts = r .starts })
-        ≡ tryAt n budget line (startsOf line (p .starts)) start (stateOf n w)
+    pub judged-best : rule .drops (rated (r .least) (r .sum)) (w .best) ≡ false → task .last ≤ line
+        → stateOf n (withBest made r) ≡ tryAt n rule (task .budget) line (startsOf line (p .starts)) start (stateOf n w)
     judged-best f l =
-        ap (λ (u : Rating). stateOf n (record { tries = w .tries + 1; stopped = false; best = u; starts = r .starts })) made-is
-        ∙ try-best n budget line (startsOf line (p .starts)) start w e b (above f) (omega (arith, l, can .last-of, can .stated)) (r .starts)
-        (subst (λ (k : ℕ). startsOf k (r .starts) ≡ together) (add-one line) (more-placed .appended))
+        ap (λ (u : Rating). stateOf n (record { tries = w .tries + 1; stopped = w .stopped; best = u; starts = r .starts })) made-is
+        ∙ try-best n rule (task .budget) line (startsOf line (p .starts)) start w e o b (test-is f) (omega (arith, l, can .last-of, can .stated)) (r .starts)
+        (subst (λ (k : ℕ). startsOf k (r .starts) ≡ withStart line start p) (add-one line) (more-placed .appended))
         (ap (λ (u : Rating). u .some) (sym made-is))
 
 -- ---- the same where a placing may have been given up
 
-module _ {n : Net} {counts : List ℕ} {last line : ℕ} {p : Placed} (can : CanTry n counts last line p) {start : ℕ} {r : Placed} where
-  -- a placing above the best was not
-  pub placed-of-above : {best : Rating} → PlacedMore n line start p r ⊎ GivenUp n line start p best r
-      → isAbove (record { some = true; least = r .least; sum = r .sum }) best ≡ true → PlacedMore n line start p r
-  placed-of-above (inl more-placed) e = more-placed
-  placed-of-above (inr given-up) e = absurd (zero-ne-one (cc (given-up .come-to)))
+module _ {n : Net} {counts : List ℕ} {task : Task} {line : ℕ} {p : Placed} (can : CanTry n counts task line p)
+    {cut : Cut} {start : ℕ} {r : Placed} where
+  -- a placing that stands was not
+  pub placed-of-stands : PlacedMore n line start p r ⊎ GivenUp n cut line start p r → isShort cut (r .least) (r .sum) ≡ false → PlacedMore n line start p r
+  placed-of-stands (inl more-placed) e = more-placed
+  placed-of-stands (inr given-up) e = absurd (zero-ne-one (cc (given-up .come-to)))
 
-  pub dropped-or-given-up : (budget : ℕ) (w : code.Walk) → w .stopped ≡ false → (w .tries ≡ budget → ⊥)
-      → PlacedMore n line start p r ⊎ GivenUp n line start p (w .best) r
-      → isAbove (record { some = true; least = r .least; sum = r .sum }) (w .best) ≡ false
+  pub dropped-or-given-up : (w : code.Walk) → w .stopped ≡ false → (ruleOf (task .rule) .endsAtFirst && w .best .some) ≡ false
+      → (w .tries ≡ task .budget → ⊥)
+      → IsCut (task .rule) (w .best) cut
+      → PlacedMore n line start p r ⊎ GivenUp n cut line start p r
+      → isShort cut (r .least) (r .sum) ≡ true
       → stateOf n (record { tries = w .tries + 1; stopped = w .stopped; best = w .best; starts = w .starts })
-      ≡ tryAt n budget line (startsOf line (p .starts)) start (stateOf n w)
-  dropped-or-given-up budget w e b (inl more-placed) f = judged-dropped can more-placed budget w e b f
-  dropped-or-given-up budget w e b (inr given-up) f = try-dropped n budget line (startsOf line (p .starts)) start w e b (given-up .upper)
+      ≡ tryAt n (ruleOf (task .rule)) (task .budget) line (startsOf line (p .starts)) start (stateOf n w)
+  unfolding upperRating ratingBy
+  dropped-or-given-up w e o b is-cut (inl more-placed) f =
+      judged-dropped can more-placed w e o b (sym (is-cut (r .least) (r .sum)) ∙ f)
+  dropped-or-given-up w e o b is-cut (inr given-up) f =
+      try-dropped n (ruleOf (task .rule)) (task .budget) line (startsOf line (p .starts)) start w e o b (sym (is-cut _ _) ∙ given-up .upper)
 
 -- ---- a line's starts in two halves
 

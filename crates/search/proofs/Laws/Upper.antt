@@ -1,10 +1,9 @@
--- The upper rating of a partial timetable is not below that of any that goes on from it, since the gaps of placed pairs stay; and with all
--- lines placed it is the rating, since no gap is above its cap. Assumes nothing.
+-- The upper rating of a partial timetable is not below that of any that goes on from it, neither in its least gap nor in its sum, since the
+-- gaps of placed pairs stay; and with all lines placed it is the rating, since no gap is above its cap. Assumes nothing.
 use Prim.Native.Nat.{ℕ, _*_, _≤_, _<_, min}
 use mathlib.Core.Path.{_≡_, refl, sym, ap, ap₂, subst, fun-ext, _∙_}
 use mathlib.Core.Bool.{Bool, true, false}
 use mathlib.Core.List.{List, [], _∷_, _++_, map}
-use mathlib.Core.Logic.{inl, inr}
 use native.Mathlib.Nat.{zero-lt-suc, mul-le-mul-left}
 use native.Mathlib.Omega.{arith}
 use borrow.Author.Tests.{ltb-true, lt-ltb}
@@ -12,7 +11,6 @@ use lib.Dec.{ltb}
 use lib.IntN.{ℤ, pos, _+ℤ_}
 use lib.ListN.{length, length-append, List·getD-append}
 use Rattle.network.specs.declared.Call.{Call}
-use Rattle.network.specs.declared.Rating.{Rating}
 use Rattle.network.specs.Lists.{keep, sumOf, leastOf, pairsOf}
 use Rattle.network.specs.Network.{Net}
 use Rattle.network.specs.Valid.{noCall, Valid}
@@ -22,9 +20,9 @@ use Rattle.network.specs.Rating.{Counted, counted, ratingBy, ratingOver, rating
 use Rattle.network.specs.Scan.{leastFrom}
 use Rattle.network.proofs.Laws.Members.{All, AllPairs, all-tail, keep-pairs, keep-has-pair}
 use Rattle.network.proofs.Laws.Gaps.{gapOfStop-le-pair, gapOfStop-attained, leastOf-cons, leastOf-leastFrom, leastFrom-le}
-use Rattle.network.proofs.Laws.Gaps.{Above, above-of-isAbove}
 use Rattle.search.specs.Caps.{capOfCalls, cap, placedCalls, upperValue, upperRating}
 use Rattle.search.proofs.Laws.Caps.{callsOfStop-stated, cap-sound}
+use Rattle.search.proofs.Laws.Bounds.{not-above-of-le, IsUpper, BoundsEach, upper-of-bounds-each}
 
 -- ---- the least of a number and the gaps of all pairs
 
@@ -91,17 +89,6 @@ module _ (n : Net) (placed tail : List ℤ) where
 
 -- ---- the order of upper ratings
 
-not-above-of-le : (r q : Rating) → r .some ≡ true → q .some ≡ true → r .least ≤ q .least → r .sum ≤ q .sum → isAbove r q ≡ false
-not-above-of-le r q some-r some-q h k = go (isAbove r q) refl
-  where
-    never : Above r q → ⊥
-    never (inl l) = omega arith
-    never (inr l) = omega arith
-
-    go : (t : Bool) → isAbove r q ≡ t → t ≡ false
-    go true e = absurd (never (above-of-isAbove r q some-r some-q e))
-    go false e = refl
-
 module _ {A : Type 0} (f g : A → ℕ) (h : (x : A) → f x ≤ g x) where
   leastOf-map-le-map : (xs : List A) → leastOf (map f xs) ≤ leastOf (map g xs)
   unfolding leastOf
@@ -114,22 +101,36 @@ module _ {A : Type 0} (f g : A → ℕ) (h : (x : A) → f x ≤ g x) where
   sumOf-le [] = omega arith
   sumOf-le (x ∷ xs) = omega (arith, h x, sumOf-le xs)
 
--- Where no gap is larger, the rating is not above
-pub ratingBy-not-above : (f g : ℕ → ℕ) → ((stop : ℕ) → f stop ≤ g stop) → (stops : List Counted) → isAbove (ratingBy f stops) (ratingBy g stops) ≡ false
-unfolding ratingBy
-ratingBy-not-above f g h stops =
-    not-above-of-le _ _ refl refl (leastOf-map-le-map (λ t. f (t .stop)) (λ t. g (t .stop)) (λ t. h (t .stop)) stops)
-    (sumOf-le (λ t. t .weight * f (t .stop)) (λ t. t .weight * g (t .stop)) (λ t. mul-le-mul-left (t .weight) (h (t .stop))) stops)
+-- Where no gap is larger, neither the least gap nor the sum is, and the rating is not above
+module _ (f g : ℕ → ℕ) (h : (stop : ℕ) → f stop ≤ g stop) (stops : List Counted) where
+  pub ratingBy-least-le : ratingBy f stops .least ≤ ratingBy g stops .least
+  unfolding ratingBy
+  ratingBy-least-le = leastOf-map-le-map (λ t. f (t .stop)) (λ t. g (t .stop)) (λ t. h (t .stop)) stops
 
--- The upper rating of a partial timetable is an upper bound of those of all that go on from it
-pub upper-sound : (n : Net) (caps : ℕ → ℕ) (placed tail : List ℤ)
-    → isAbove (upperRating n caps (placed ++ tail)) (upperRating n caps placed) ≡ false
-unfolding upperRating
-upper-sound n caps placed tail = ratingBy-not-above _ _ (upperValue-append n placed tail caps) (counted n)
+  pub ratingBy-sum-le : ratingBy f stops .sum ≤ ratingBy g stops .sum
+  unfolding ratingBy
+  ratingBy-sum-le = sumOf-le (λ t. t .weight * f (t .stop)) (λ t. t .weight * g (t .stop)) (λ t. mul-le-mul-left (t .weight) (h (t .stop))) stops
+
+  pub ratingBy-not-above : isAbove (ratingBy f stops) (ratingBy g stops) ≡ false
+  unfolding ratingBy
+  ratingBy-not-above = not-above-of-le (ratingBy f stops) (ratingBy g stops) refl refl ratingBy-least-le ratingBy-sum-le
 
 pub upperRating-some : (n : Net) (caps : ℕ → ℕ) (starts : List ℤ) → upperRating n caps starts .some ≡ true
 unfolding upperRating ratingBy
 upperRating-some n caps starts = refl
+
+-- The upper rating of a partial timetable is an upper bound of those of all that go on from it
+pub upper-bounds-each : (n : Net) (caps : ℕ → ℕ) (counts : List ℕ) → BoundsEach (upperRating n caps) counts
+unfolding upperRating
+upper-bounds-each n caps counts =
+    record {
+      least-bounded = λ placed tail c. ratingBy-least-le _ _ (upperValue-append n placed tail caps) (counted n);
+      sum-bounded = λ placed tail c. ratingBy-sum-le _ _ (upperValue-append n placed tail caps) (counted n);
+    }
+
+pub upper-is-upper : (n : Net) (caps : ℕ → ℕ) (counts : List ℕ) → IsUpper (upperRating n caps) counts
+upper-is-upper n caps counts =
+    upper-of-bounds-each (upperRating n caps) counts (upperRating-some n caps) (upper-bounds-each n caps counts)
 
 -- ---- all lines placed
 

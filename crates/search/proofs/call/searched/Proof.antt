@@ -1,5 +1,5 @@
 -- `search::call::searched` meets its contract: the rows in line order hold the network, no line is placed, and the tries of the first line
--- are the walk. Assumes nothing.
+-- by document 01's rule are the walk. Assumes nothing.
 use Prim.Native.Nat.{_-_}
 use native.Mathlib.Omega.{arith}
 use borrow.Author.Needs.{needs}
@@ -8,7 +8,9 @@ use Rattle.network.specs.declared.Network.{Network}
 use Rattle.network.specs.Stored.{netOf, Sound}
 use Rattle.network.specs.Valid.{Valid}
 use Rattle.network.proofs.Laws.Stored.{held-lines}
-use Rattle.search.specs.Held.{Laid, CanTry}
+use Rattle.search.specs.declared.Rule.the-variants as rules
+use Rattle.search.specs.declared.Task.{Task}
+use Rattle.search.specs.Held.{Laid, CanTry, ruleOf}
 use Rattle.search.proofs.Laws.Called.{stops-low, laid, searched-by-tries}
 use Rattle.search.proofs.call.searched.Statement.{statement}
 use Rattle.search.proofs.call.searched.Tie as tie
@@ -16,28 +18,19 @@ use Rattle.search.proofs.call.searched.Tie as tie
 -- Before the tries: the network, the rows that hold it, and the first line that can be tried
 module _ (c : tie.After-counts) where
   abbrev with-by-line : tie.After-by-line
-  with-by-line = c .before .before .before .before .before .before .before .before .before .before .before .before .before .before .before .before .before
-
-  abbrev with-stops : tie.After-stop-row
-  with-stops = c .before .before .before .before .before .before .before .before .before .before .before .before .before .before
-
-  abbrev with-lines : tie.After-line-row
-  with-lines = c .before .before .before .before .before .before .before .before .before .before .before .before .before
-
-  abbrev with-offsets : tie.After-offset-row
-  with-offsets = c .before .before .before .before .before .before .before .before .before .before .before .before
+  with-by-line = c .before .before .before .before .before .before .before .before .before .before .before .before .before
 
   abbrev with-previous : tie.After-previous-row
-  with-previous = c .before .before .before .before .before .before .before .before .before .before .before
+  with-previous = c .before .before .before .before .before .before .before .before .before
 
   abbrev with-divisors : tie.After-divisor-row
-  with-divisors = c .before .before .before .before .before .before .before .before .before .before
+  with-divisors = c .before .before .before .before .before .before .before .before
 
   abbrev with-counts : tie.After-start-count-row
-  with-counts = c .before .before .before .before .before .before .before .before .before
+  with-counts = c .before .before .before .before .before .before .before
 
   abbrev with-placed : tie.After-unplaced
-  with-placed = c .before .before .before .before .before .before .before .before
+  with-placed = c .before .before .before .before .before .before
 
   abbrev start : tie.Start
   start = with-by-line .before
@@ -51,23 +44,20 @@ module _ (c : tie.After-counts) where
   abbrev valid : Valid (netOf network)
   valid = start .pre .1
 
-  abbrev rows : Laid (with-stops .stop-row .result) (with-lines .line-row .result) (with-offsets .offset-row .result) (with-previous .previous-row .result) (with-divisors .divisor-row .result) (with-by-line .by-line .result .first)
+  abbrev rows : Laid (with-by-line .by-line .result .network .list) (with-previous .previous-row .result) (with-divisors .divisor-row .result) (with-by-line .by-line .result .first)
   rows =
       laid network (with-by-line .by-line .result .network) sound valid (with-by-line .by-line .ensures .0 .0) (with-by-line .by-line .ensures .0 .1)
-      (with-stops .stop-row .result)
-      (with-lines .line-row .result)
-      (with-offsets .offset-row .result)
       (with-previous .previous-row .result)
       (with-divisors .divisor-row .result)
       (with-by-line .by-line .result .first)
-      (with-stops .stop-row .ensures)
-      (with-lines .line-row .ensures)
-      (with-offsets .offset-row .ensures)
       (with-previous .previous-row .ensures)
       (with-divisors .divisor-row .ensures)
       (with-by-line .by-line .ensures .1)
 
-  can : CanTry (netOf network) (with-counts .start-count-row .result) (network .lines - 1) 0 (with-placed .unplaced .result)
+  abbrev task : Task
+  task = record { rule = rules.AboveBest; budget = start .args .budget; last = network .lines - 1 }
+
+  can : CanTry (netOf network) (with-counts .start-count-row .result) task 0 (with-placed .unplaced .result)
   can =
       record {
         stated = valid .some-line;
@@ -79,18 +69,9 @@ module _ (c : tie.After-counts) where
 by-line-requires : tie.Need-by-line-requires
 by-line-requires c κs = search needs
 
-stop-row-requires : tie.Need-stop-row-requires
-stop-row-requires c κs = search needs
-
-line-row-requires : tie.Need-line-row-requires
-line-row-requires c κs = search needs
-
-offset-row-requires : tie.Need-offset-row-requires
-offset-row-requires c κs = search needs
-
 previous-row-requires : tie.Need-previous-row-requires
 previous-row-requires c κs =
-    let b = c .before .before .before .before .before in
+    let b = c .before .before .before in
     let r = b .by-line in
     (r .ensures .0 .0, stops-low (b .before .args .network) (r .result .network) (b .before .pre .0) (b .before .pre .1) (r .ensures .0 .0) (r .ensures .0 .1))
 
@@ -103,15 +84,16 @@ start-count-row-requires c κs = search needs
 unplaced-requires : tie.Need-unplaced-requires
 unplaced-requires c κs = search needs
 
-sub-last : tie.Need-sub-last
-sub-last c =
-    let s = c .before .before .before .before .before .before .before .before .before .before .before in
+sub-t19 : tie.Need-sub-t19
+sub-t19 c =
+    let s = c .before .before .before .before .before .before .before .before .before in
     omega (arith, s .pre .1 .some-line, held-lines (s .args .network) (s .pre .0))
 
 try-starts-requires : tie.Need-try-starts-requires
 try-starts-requires c κs = ((rows c, can c), (omega arith, omega arith))
 
 returns : tie.Need-returns
+unfolding ruleOf
 returns c =
     let k = c .before in
     searched-by-tries (netOf (network k)) (valid k) (start k .args .budget) (replicate 16 0) (c .try-starts .result) (c .try-starts .ensures .1 (rows k) (can k))
@@ -121,13 +103,10 @@ searched-spec =
     tie.close
     (tie.spec
     by-line-requires
-    stop-row-requires
-    line-row-requires
-    offset-row-requires
     previous-row-requires
     divisor-row-requires
     start-count-row-requires
     unplaced-requires
-    sub-last
+    sub-t19
     try-starts-requires
     returns)

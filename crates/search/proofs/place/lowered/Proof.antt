@@ -14,30 +14,31 @@ use Rattle.network.specs.Scan.{lastAt, callsBefore, leastFrom, LeadsBack}
 use Rattle.network.specs.Valid.{noCall}
 use Rattle.network.proofs.Laws.Gaps.{lastAt-le, lastAt-landed, callsBefore-lastAt, step-back}
 use Rattle.search.specs.Held.{Linked, callsIn}
-use Rattle.search.proofs.Laws.Linked.{length-callsIn, calls-few, line-row-lt-16, offset-row-low, divisor-pos, divisor-le, reciprocal-is, gap-of-rows}
+use Rattle.search.proofs.Laws.Codes.{lineIn}
+use Rattle.search.proofs.Laws.Linked.{length-callsIn, calls-few, line-row-lt-16, divisor-pos, divisor-le, reciprocal-is, gap-of-rows}
 use Rattle.search.proofs.place.lowered.Statement.{statement}
 use Rattle.search.proofs.place.lowered.Tie as tie
 
 -- the gap from an earlier call to the one at a place
-abbrev to : {lines offsets previous divisors : List ℕ} → Linked lines offsets previous divisors → List ℕ → ℕ → Call → ℕ
+abbrev to : {codes previous divisors : List ℕ} → Linked codes previous divisors → List ℕ → ℕ → Call → ℕ
 to l starts at d = gapOfCalls (l .net) (map pos starts) d (getD (callsIn l) at noCall)
 
 abbrev Inv-loop : tie.InvT-loop
-Inv-loop lines offsets previous divisors starts at value line row arrival least₀ from₀ least from =
+Inv-loop codes previous divisors starts at value code line row arrival least₀ from₀ least from =
     (from ≤ at)
     × (least ≤ value)
-    × ((l : Linked lines offsets previous divisors)
+    × ((l : Linked codes previous divisors)
     → at < length (l .net .calls)
     → (0 < from → getD (callsIn l) (from - 1) noCall .stop ≡ getD (callsIn l) at noCall .stop)
     × (leastFrom least (map (to l starts at) (callsBefore (getD (callsIn l) at noCall .stop) (callsIn l) from))
     ≡ leastFrom value (map (to l starts at) (callsBefore (getD (callsIn l) at noCall .stop) (callsIn l) at))))
 
 abbrev μ-loop : tie.MeasureT-loop
-μ-loop lines offsets previous divisors starts at value line row arrival least₀ from₀ least from = from
+μ-loop codes previous divisors starts at value code line row arrival least₀ from₀ least from = from
 
 -- The call that is placed
 module _ (s : tie.Start Inv-loop μ-loop) where
-  abbrev rows : Linked (s .args .lines .now) (s .args .offsets .now) (s .args .previous .now) (s .args .divisors .now)
+  abbrev rows : Linked (s .args .codes .now) (s .args .previous .now) (s .args .divisors .now)
   rows = s .pre .0 .0
 
   at-low : s .args .at < length (rows .net .calls)
@@ -46,14 +47,14 @@ module _ (s : tie.Start Inv-loop μ-loop) where
   at-small : s .args .at < 256
   at-small = omega (arith, at-low, calls-few rows)
 
-  line-small : getD (s .args .lines .now) (s .args .at) 0 < 16
+  line-small : lineIn (getD (s .args .codes .now) (s .args .at) 0) < 16
   line-small = line-row-lt-16 rows (s .args .at) at-low
 
   start-small : (i : ℕ) → getD (s .args .starts .now) i 0 < 1440
   start-small = s .pre .1
 
 -- For any network that the rows hold: where the row leads from a call, it leads to the one before at its stop
-module _ {lines offsets previous divisors : List ℕ} (l : Linked lines offsets previous divisors) where
+module _ {codes previous divisors : List ℕ} (l : Linked codes previous divisors) where
   led : (j : ℕ) → j < length (l .net .calls) → getD previous j 0 ≡ lastAt (getD (callsIn l) j noCall .stop) (callsIn l) j
   unfolding LeadsBack
   led j h = l .leads j h
@@ -100,7 +101,7 @@ module _ {lines offsets previous divisors : List ℕ} (l : Linked lines offsets 
 -- At a turn of the loop: the call that is looked at
 module _ (t : tie.In-loop Inv-loop μ-loop) where
   abbrev start : tie.Start Inv-loop μ-loop
-  start = t .before .before .before .before .before .before
+  start = t .before .before .before .before .before
 
   abbrev before : ℕ
   before = t .before .loop .from - 1
@@ -111,18 +112,21 @@ module _ (t : tie.In-loop Inv-loop μ-loop) where
   before-small : before < 256
   before-small = omega (arith, before-low, calls-few (rows start))
 
-  other-small : getD (start .args .lines .now) before 0 < 16
+  other-small : lineIn (getD (start .args .codes .now) before 0) < 16
   other-small = line-row-lt-16 (rows start) before before-low
 
 -- the call that is looked at is one of any network that the rows hold
 in-file :
-    {lines offsets previous divisors : List ℕ} (l : Linked lines offsets previous divisors) (t : tie.In-loop Inv-loop μ-loop)
+    {codes previous divisors : List ℕ} (l : Linked codes previous divisors) (t : tie.In-loop Inv-loop μ-loop)
     → start t .args .at < length (l .net .calls)
     → before t < length (l .net .calls)
 in-file l t h = omega (arith, t .before .loop .inv .0, t .loop-test .taken)
 
-element-copy-out-line : tie.Need-element-copy-out-line Inv-loop μ-loop
-element-copy-out-line c = at-small c
+mul-code : tie.Need-mul-code Inv-loop μ-loop
+mul-code c = omega (arith, at-small c)
+
+element-copy-out-code : tie.Need-element-copy-out-code Inv-loop μ-loop
+element-copy-out-code c = at-small c
 
 cast-line : tie.Need-cast-line Inv-loop μ-loop
 cast-line c = omega (arith, line-small (c .before))
@@ -137,42 +141,36 @@ element-copy-out-arrival : tie.Need-element-copy-out-arrival Inv-loop μ-loop
 element-copy-out-arrival c = line-small (c .before)
 
 cast-arrival : tie.Need-cast-arrival Inv-loop μ-loop
-cast-arrival c = omega (arith, start-small (c .before .before) (getD ((c .before .before) .args .lines .now) ((c .before .before) .args .at) 0))
-
-mul-arrival-2 : tie.Need-mul-arrival-2 Inv-loop μ-loop
-mul-arrival-2 c = omega (arith, at-small (c .before .before))
-
-element-copy-out-arrival-2 : tie.Need-element-copy-out-arrival-2 Inv-loop μ-loop
-element-copy-out-arrival-2 c = at-small (c .before .before)
-
-cast-arrival-2 : tie.Need-cast-arrival-2 Inv-loop μ-loop
-cast-arrival-2 c = let s = c .before .before .before in omega (arith, offset-row-low (rows s) (s .args .at) (at-low s))
+cast-arrival c = let s = c .before .before in omega (arith, start-small s (lineIn (getD (s .args .codes .now) (s .args .at) 0)))
 
 add-arrival : tie.Need-add-arrival Inv-loop μ-loop
-add-arrival c = let s = c .before .before .before in omega (arith, offset-row-low (rows s) (s .args .at) (at-low s), start-small s (getD (s .args .lines .now) (s .args .at) 0))
+add-arrival c = let s = c .before .before in omega (arith, start-small s (lineIn (getD (s .args .codes .now) (s .args .at) 0)))
 
 mul-from : tie.Need-mul-from Inv-loop μ-loop
-mul-from c = omega (arith, at-small (c .before .before .before))
+mul-from c = omega (arith, at-small (c .before .before))
 
 element-copy-out-from : tie.Need-element-copy-out-from Inv-loop μ-loop
-element-copy-out-from c = at-small (c .before .before .before)
+element-copy-out-from c = at-small (c .before .before)
 
 cast-from : tie.Need-cast-from Inv-loop μ-loop
-cast-from c = let s = c .before .before .before .before in omega (arith, led-le (rows s) (s .args .at) (at-low s), at-small s)
+cast-from c = let s = c .before .before .before in omega (arith, led-le (rows s) (s .args .at) (at-low s), at-small s)
 
 loop-holds : tie.Need-loop-holds Inv-loop μ-loop
 loop-holds c =
-    let s = c .before .before .before .before in
+    let s = c .before .before .before in
     (led-le (rows s) (s .args .at) (at-low s), omega arith, λ l h. first-turn l (s .args .starts .now) (s .args .at) (s .args .value) h)
 
 sub-before : tie.Need-sub-before Inv-loop μ-loop
 sub-before c = c .loop-test .taken
 
+mul-other : tie.Need-mul-other Inv-loop μ-loop
+mul-other c = omega (arith, before-small c)
+
 element-copy-out-other : tie.Need-element-copy-out-other Inv-loop μ-loop
 element-copy-out-other c = before-small c
 
-cast-other : tie.Need-cast-other Inv-loop μ-loop
-cast-other c = omega (arith, other-small (c .before))
+cast-other-line : tie.Need-cast-other-line Inv-loop μ-loop
+cast-other-line c = omega (arith, other-small (c .before))
 
 add-word : tie.Need-add-word Inv-loop μ-loop
 add-word c = omega (arith, other-small (c .before), line-small (start (c .before)))
@@ -193,25 +191,14 @@ element-copy-out-gap-by : tie.Need-element-copy-out-gap-by Inv-loop μ-loop
 element-copy-out-gap-by c = other-small (c .before .before)
 
 cast-gap-by-2 : tie.Need-cast-gap-by-2 Inv-loop μ-loop
-cast-gap-by-2 c = let t = c .before .before .before in omega (arith, start-small (start t) (getD (start t .args .lines .now) (before t) 0))
-
-mul-gap-by-2 : tie.Need-mul-gap-by-2 Inv-loop μ-loop
-mul-gap-by-2 c = omega (arith, before-small (c .before .before .before))
-
-element-copy-out-gap-by-2 : tie.Need-element-copy-out-gap-by-2 Inv-loop μ-loop
-element-copy-out-gap-by-2 c = before-small (c .before .before .before)
-
-cast-gap-by-3 : tie.Need-cast-gap-by-3 Inv-loop μ-loop
-cast-gap-by-3 c = let t = c .before .before .before .before in omega (arith, offset-row-low (rows (start t)) (before t) (before-low t))
+cast-gap-by-2 c = let t = c .before .before .before in omega (arith, start-small (start t) (lineIn (getD (start t .args .codes .now) (before t) 0)))
 
 add-gap-by : tie.Need-add-gap-by Inv-loop μ-loop
-add-gap-by c =
-    let t = c .before .before .before .before in
-    omega (arith, offset-row-low (rows (start t)) (before t) (before-low t), start-small (start t) (getD (start t .args .lines .now) (before t) 0))
+add-gap-by c = let t = c .before .before .before in omega (arith, start-small (start t) (lineIn (getD (start t .args .codes .now) (before t) 0)))
 
 gap-by-requires : tie.Need-gap-by-requires Inv-loop μ-loop
 gap-by-requires c κs =
-    let t = c .before .before .before .before in
+    let t = c .before .before .before in
     let s = start t in (
       (
         divisor-pos (rows s) (s .args .at) (before t) (at-low s) (before-low t),
@@ -219,26 +206,26 @@ gap-by-requires c κs =
         reciprocal-is (rows s) (s .args .at) (before t) (at-low s) (before-low t),
       ),
       (
-        omega (arith, offset-row-low (rows s) (before t) (before-low t), start-small s (getD (s .args .lines .now) (before t) 0)),
-        omega (arith, offset-row-low (rows s) (s .args .at) (at-low s), start-small s (getD (s .args .lines .now) (s .args .at) 0)),
+        omega (arith, start-small s (lineIn (getD (s .args .codes .now) (before t) 0))),
+        omega (arith, start-small s (lineIn (getD (s .args .codes .now) (s .args .at) 0))),
       ),
     )
 
 mul-from-2 : tie.Need-mul-from-2 Inv-loop μ-loop
-mul-from-2 c = omega (arith, before-small (c .before .before .before .before .before .before))
+mul-from-2 c = omega (arith, before-small (c .before .before .before .before .before))
 
 element-copy-out-from-2 : tie.Need-element-copy-out-from-2 Inv-loop μ-loop
-element-copy-out-from-2 c = before-small (c .before .before .before .before .before .before)
+element-copy-out-from-2 c = before-small (c .before .before .before .before .before)
 
 cast-from-2 : tie.Need-cast-from-2 Inv-loop μ-loop
-cast-from-2 c = let t = c .before .before .before .before .before .before .before in omega (arith, led-le (rows (start t)) (before t) (before-low t), before-small t)
+cast-from-2 c = let t = c .before .before .before .before .before .before in omega (arith, led-le (rows (start t)) (before t) (before-low t), before-small t)
 
 loop-less : tie.Need-loop-less Inv-loop μ-loop
-loop-less c = let t = c .before .before .before .before .before .before .before in omega (arith, led-le (rows (start t)) (before t) (before-low t), t .loop-test .taken)
+loop-less c = let t = c .before .before .before .before .before .before in omega (arith, led-le (rows (start t)) (before t) (before-low t), t .loop-test .taken)
 
 loop-again : tie.Need-loop-again Inv-loop μ-loop
 loop-again c =
-    let t = c .before .before .before .before .before .before .before in
+    let t = c .before .before .before .before .before .before in
     let s = start t in (
       omega (arith, led-le (rows s) (before t) (before-low t), t .before .loop .inv .0),
       ⊎-elim (λ w. omega (arith, w .1, w .0 .taken, t .before .loop .inv .1)) (λ w. omega (arith, w .1, t .before .loop .inv .1)) (c .before .if1 .came),
@@ -256,12 +243,12 @@ loop-again c =
     )
 
 cast-result : tie.Need-cast-result Inv-loop μ-loop
-cast-result c = let s = c .before .before .before .before .before .before in omega (arith, c .before .loop .inv .1, s .fits .value)
+cast-result c = let s = c .before .before .before .before .before in omega (arith, c .before .loop .inv .1, s .fits .value)
 
 returns : tie.Need-returns Inv-loop μ-loop
 unfolding leastFrom callsBefore keep
 returns c l h =
-    let s = c .before .before .before .before .before .before in
+    let s = c .before .before .before .before .before in
     let p = c .before .loop in
     let none : 0 ≡ p .from = omega (arith, c .loop-test .left) in
     ap (λ (k : ℕ). leastFrom (p .least) (map (to l (s .args .starts .now) (s .args .at)) (callsBefore (getD (callsIn l) (s .args .at) noCall .stop) (callsIn l) k))) none
@@ -273,23 +260,22 @@ lowered-spec =
     (tie.spec
     Inv-loop
     μ-loop
-    element-copy-out-line
+    mul-code
+    element-copy-out-code
     cast-line
     mul-row
     mul-arrival
     element-copy-out-arrival
     cast-arrival
-    mul-arrival-2
-    element-copy-out-arrival-2
-    cast-arrival-2
     add-arrival
     mul-from
     element-copy-out-from
     cast-from
     loop-holds
     sub-before
+    mul-other
     element-copy-out-other
-    cast-other
+    cast-other-line
     add-word
     mul-word
     element-copy-out-word
@@ -297,9 +283,6 @@ lowered-spec =
     mul-gap-by
     element-copy-out-gap-by
     cast-gap-by-2
-    mul-gap-by-2
-    element-copy-out-gap-by-2
-    cast-gap-by-3
     add-gap-by
     gap-by-requires
     mul-from-2

@@ -9,19 +9,18 @@ use native.Mathlib.Omega.{arith}
 use lib.IntN.{pos}
 use lib.ListN.{length, getD, set, length-set}
 use borrow.Author.Needs.{needs}
-use borrow.Author.Tests.{not-true}
-use mathlib.Core.Bool.{true, false}
+use mathlib.Core.Bool.{true}
 use Rattle.network.specs.Network.{isServed}
-use Rattle.network.specs.Rating.{gapOfCalls, isAbove}
+use Rattle.network.specs.Rating.{gapOfCalls}
 use Rattle.network.specs.Scan.{leastFrom, callsBefore}
 use Rattle.network.specs.Valid.{noCall}
 use Rattle.search.specs.declared.Placed.{Placed}
 use Rattle.search.specs.Layout.{byLine}
-use Rattle.search.specs.Search.{notAbove}
-use Rattle.search.specs.Held.{Laid, callsIn, CanPlace, startsOf, Represents}
+use Rattle.search.specs.Held.{Laid, callsIn, isShort, CanPlace, startsOf, Represents}
+use Rattle.search.proofs.Laws.Codes.{stopIn}
 use Rattle.search.proofs.Laws.Layout.{length-byLine-le}
 use Rattle.search.proofs.Laws.Placing.{length-byLine-grows}
-use Rattle.search.proofs.Laws.Linked.{length-callsIn, calls-few, stop-low}
+use Rattle.search.proofs.Laws.Linked.{length-callsIn, calls-few, stop-of, stop-low}
 use Rattle.search.proofs.Laws.Placing.{
   Lowering,
   lowering-first,
@@ -38,51 +37,51 @@ use Rattle.search.proofs.place.place.Statement.{statement}
 use Rattle.search.proofs.place.place.Tie as tie
 
 abbrev Inv-loop : tie.InvT-loop
-Inv-loop stops lines offsets previous divisors first line start best begin end next₀ i₀ next i =
+Inv-loop codes previous divisors first cut line begin end next₀ i₀ next i =
     (i ≤ end)
     × (next .starts ≡ next₀ .starts)
-    × ((l : Laid stops lines offsets previous divisors first)
+    × ((l : Laid codes previous divisors first)
     → Lowering (l .linked .net) (map pos (next₀ .starts)) (next₀ .values) (next₀ .least) (next₀ .sum) begin
     → line < length (l .linked .net .periods)
     → Lowering (l .linked .net) (map pos (next₀ .starts)) (next .values) (next .least) (next .sum) i)
 
 abbrev μ-loop : tie.MeasureT-loop
-μ-loop stops lines offsets previous divisors first line start best begin end next₀ i₀ next i = end - i
+μ-loop codes previous divisors first cut line begin end next₀ i₀ next i = end - i
 
 -- At the start: the network that is known to be held, and what begins the loop for any other
 module _ (s : tie.Start Inv-loop μ-loop) where
-  abbrev rows : Laid (s .args .stops .now) (s .args .lines .now) (s .args .offsets .now) (s .args .previous .now) (s .args .divisors .now) (s .args .first .now)
+  abbrev rows : Laid (s .args .codes .now) (s .args .previous .now) (s .args .divisors .now) (s .args .first .now)
   rows = s .pre .0
 
-  can : CanPlace (rows .linked .net) (s .args .line) (s .args .start) (s .args .placed)
+  can : CanPlace (rows .linked .net) (s .args .due .line) (s .args .due .start) (s .args .placed)
   can = s .pre .1
 
-  line-low : s .args .line < 16
+  line-low : s .args .due .line < 16
   line-low = omega (arith, can .stated, rows .linked .valid .lines)
 
   abbrev starts : List ℕ
-  starts = set (s .args .placed .starts) (s .args .line) (s .args .start)
+  starts = set (s .args .placed .starts) (s .args .due .line) (s .args .due .start)
 
-  begin-is : getD (s .args .first .now) (s .args .line) 0 ≡ length (byLine (rows .linked .net .calls) (s .args .line))
-  begin-is = rows .first-of (s .args .line) (omega (arith, can .stated))
+  begin-is : getD (s .args .first .now) (s .args .due .line) 0 ≡ length (byLine (rows .linked .net .calls) (s .args .due .line))
+  begin-is = rows .first-of (s .args .due .line) (omega (arith, can .stated))
 
-  end-is : getD (s .args .first .now) (s .args .line + 1) 0 ≡ length (byLine (rows .linked .net .calls) (s .args .line + 1))
-  end-is = rows .first-of (s .args .line + 1) (omega (arith, can .stated))
+  end-is : getD (s .args .first .now) (s .args .due .line + 1) 0 ≡ length (byLine (rows .linked .net .calls) (s .args .due .line + 1))
+  end-is = rows .first-of (s .args .due .line + 1) (omega (arith, can .stated))
 
-  end-low : getD (s .args .first .now) (s .args .line + 1) 0 ≤ length (rows .linked .net .calls)
-  end-low = rw end-is (length-byLine-le (rows .linked .net .calls) (s .args .line + 1))
+  end-low : getD (s .args .first .now) (s .args .due .line + 1) 0 ≤ length (rows .linked .net .calls)
+  end-low = rw end-is (length-byLine-le (rows .linked .net .calls) (s .args .due .line + 1))
 
-  begin-end : getD (s .args .first .now) (s .args .line) 0 ≤ getD (s .args .first .now) (s .args .line + 1) 0
-  begin-end = rw (begin-is, end-is) (length-byLine-grows (rows .linked .net .calls) (s .args .line))
+  begin-end : getD (s .args .first .now) (s .args .due .line) 0 ≤ getD (s .args .first .now) (s .args .due .line + 1) 0
+  begin-end = rw (begin-is, end-is) (length-byLine-grows (rows .linked .net .calls) (s .args .due .line))
 
   -- for any network that the rows hold and on which the line can be placed
   begins :
-      (l : Laid (s .args .stops .now) (s .args .lines .now) (s .args .offsets .now) (s .args .previous .now) (s .args .divisors .now) (s .args .first .now))
-      → CanPlace (l .linked .net) (s .args .line) (s .args .start) (s .args .placed)
-      → Lowering (l .linked .net) (map pos starts) (s .args .placed .values) (s .args .placed .least) (s .args .placed .sum) (getD (s .args .first .now) (s .args .line) 0)
+      (l : Laid (s .args .codes .now) (s .args .previous .now) (s .args .divisors .now) (s .args .first .now))
+      → CanPlace (l .linked .net) (s .args .due .line) (s .args .due .start) (s .args .placed)
+      → Lowering (l .linked .net) (map pos starts) (s .args .placed .values) (s .args .placed .least) (s .args .placed .sum) (getD (s .args .first .now) (s .args .due .line) 0)
   begins l c =
-      rw (l .first-of (s .args .line) (omega (arith, c .stated)))
-      (lowering-first (l .linked .net) (l .linked .valid) (s .args .line) (s .args .start) (s .args .placed) (c .stated) (c .before))
+      rw (l .first-of (s .args .due .line) (omega (arith, c .stated)))
+      (lowering-first (l .linked .net) (l .linked .valid) (s .args .due .line) (s .args .due .start) (s .args .placed) (c .stated) (c .before))
 
 -- At a turn of the loop: the call that is looked at
 module _ (t : tie.In-loop Inv-loop μ-loop) where
@@ -93,29 +92,29 @@ module _ (t : tie.In-loop Inv-loop μ-loop) where
   i = t .before .loop .i
 
   abbrev stop : ℕ
-  stop = getD (start .args .stops .now) i 0
+  stop = stopIn (getD (start .args .codes .now) i 0)
 
   abbrev next : Placed
   next = t .before .loop .next
 
   -- for any network that the rows hold
   module _
-      (l : Laid (start .args .stops .now) (start .args .lines .now) (start .args .offsets .now) (start .args .previous .now) (start .args .divisors .now) (start .args .first .now))
-      (begun : Lowering (l .linked .net) (map pos (starts start)) (start .args .placed .values) (start .args .placed .least) (start .args .placed .sum) (getD (start .args .first .now) (start .args .line) 0))
-      (stated : start .args .line < length (l .linked .net .periods)) where
+      (l : Laid (start .args .codes .now) (start .args .previous .now) (start .args .divisors .now) (start .args .first .now))
+      (begun : Lowering (l .linked .net) (map pos (starts start)) (start .args .placed .values) (start .args .placed .least) (start .args .placed .sum) (getD (start .args .first .now) (start .args .due .line) 0))
+      (stated : start .args .due .line < length (l .linked .net .periods)) where
     in-file : i < length (l .linked .net .calls)
     in-file =
         omega
-        (arith, t .loop-test .taken, l .first-of (start .args .line + 1) (omega (arith, stated)), length-byLine-le (l .linked .net .calls) (start .args .line + 1))
+        (arith, t .loop-test .taken, l .first-of (start .args .due .line + 1) (omega (arith, stated)), length-byLine-le (l .linked .net .calls) (start .args .due .line + 1))
 
     in-order : i < length (callsIn (l .linked))
     in-order = omega (arith, in-file, length-callsIn (l .linked))
 
     here : getD (callsIn (l .linked)) i noCall .stop ≡ stop
-    here = sym (l .stop-of i in-file)
+    here = sym (stop-of (l .linked) i in-file)
 
     low : stop < 64
-    low = rw (l .stop-of i in-file) (stop-low (l .linked) i in-file)
+    low = rw (stop-of (l .linked) i in-file) (stop-low (l .linked) i in-file)
 
     now : Lowering (l .linked .net) (map pos (starts start)) (next .values) (next .least) (next .sum) i
     now = t .before .loop .inv .2 l begun stated
@@ -150,9 +149,9 @@ module _ (c : tie.After-lowered Inv-loop μ-loop) where
       (known-now turn) (in-order turn (rows s) b h) (stop turn) (here turn (rows s) b h) (known-low turn) (served turn (rows s) b h)
 
   module _
-      (l : Laid (start turn .args .stops .now) (start turn .args .lines .now) (start turn .args .offsets .now) (start turn .args .previous .now) (start turn .args .divisors .now) (start turn .args .first .now))
-      (begun : Lowering (l .linked .net) (map pos (starts (start turn))) (start turn .args .placed .values) (start turn .args .placed .least) (start turn .args .placed .sum) (getD (start turn .args .first .now) (start turn .args .line) 0))
-      (stated : start turn .args .line < length (l .linked .net .periods)) where
+      (l : Laid (start turn .args .codes .now) (start turn .args .previous .now) (start turn .args .divisors .now) (start turn .args .first .now))
+      (begun : Lowering (l .linked .net) (map pos (starts (start turn))) (start turn .args .placed .values) (start turn .args .placed .least) (start turn .args .placed .sum) (getD (start turn .args .first .now) (start turn .args .due .line) 0))
+      (stated : start turn .args .due .line < length (l .linked .net .periods)) where
     value-is :
         c .lowered .result
         ≡ leastFrom (getD (next turn .values) (stop turn) 0)
@@ -211,21 +210,23 @@ falls-short-requires c κs = tt
 
 -- given up
 returns : tie.Need-returns Inv-loop μ-loop
-unfolding notAbove
 returns c l can' =
     let t = c .before .before in
     let s = start t in
-    let short : isAbove (record { some = true; least = next t .least; sum = next t .sum }) (s .args .best) ≡ false =
-    not-true _ (sym (c .before .falls-short .ensures) ∙ c .if1 .taken) in
+    let short : isShort (s .args .cut) (next t .least) (next t .sum) ≡ true =
+    sym (c .before .falls-short .ensures) ∙ c .if1 .taken in
     inr (record {
       come-to = short;
       upper =
-          given-up (l .linked .net) (l .linked .valid) (s .args .line) (s .args .start) (s .args .placed) (can' .stated) (can' .before) (next t .values)
-          (next t .least) (next t .sum) (i t)
+          given-up (s .args .cut) (l .linked .net) (l .linked .valid) (s .args .due .line) (s .args .due .start) (s .args .placed) (can' .stated) (can' .before)
+          (next t .values) (next t .least) (next t .sum) (i t)
           (now t l (begins s l can') (can' .stated))
-          (omega (arith, t .before .loop .inv .0, l .first-of (s .args .line + 1) (omega (arith, can' .stated))))
-          (s .args .best) short;
+          (omega (arith, t .before .loop .inv .0, l .first-of (s .args .due .line + 1) (omega (arith, can' .stated))))
+          short;
     })
+
+mul-stop : tie.Need-mul-stop Inv-loop μ-loop
+mul-stop c = omega (arith, small (c .before .before))
 
 element-copy-out-stop : tie.Need-element-copy-out-stop Inv-loop μ-loop
 element-copy-out-stop c = small (c .before .before)
@@ -245,7 +246,7 @@ lowered-requires c κs =
     let s = start t in (
       (rows s .linked, known-in-file t),
       λ k. rw (t .before .loop .inv .1)
-          (set-low (s .args .placed .starts) (s .args .line) (s .args .start) (can s .before .starts-row) (line-low s) (can s .start-low) (can s .before .starts-low) k),
+          (set-low (s .args .placed .starts) (s .args .due .line) (s .args .due .start) (can s .before .starts-row) (line-low s) (can s .start-low) (can s .before .starts-low) k),
     )
 
 mul-next-2 : tie.Need-mul-next-2 Inv-loop μ-loop
@@ -302,21 +303,21 @@ returns-2 : tie.Need-returns-2 Inv-loop μ-loop
 returns-2 c l can' =
     let s = c .before .before .before .before in
     let p = c .before .loop in
-    let last : p .i ≡ length (byLine (l .linked .net .calls) (s .args .line + 1)) =
-    le-antisymm (p .inv .0) (c .loop-test .left) ∙ l .first-of (s .args .line + 1) (omega (arith, can' .stated)) in
+    let last : p .i ≡ length (byLine (l .linked .net .calls) (s .args .due .line + 1)) =
+    le-antisymm (p .inv .0) (c .loop-test .left) ∙ l .first-of (s .args .due .line + 1) (omega (arith, can' .stated)) in
     let end = subst (Lowering (l .linked .net) (map pos (starts s)) (p .next .values) (p .next .least) (p .next .sum)) last
     (p .inv .2 l (begins s l can') (can' .stated)) in
     inl (record {
       one-more =
-          subst (λ (st : List ℕ). Represents (l .linked .net) (s .args .line + 1) (record { starts = st; values = p .next .values; least = p .next .least; sum = p .next .sum }))
+          subst (λ (st : List ℕ). Represents (l .linked .net) (s .args .due .line + 1) (record { starts = st; values = p .next .values; least = p .next .least; sum = p .next .sum }))
           (sym (p .inv .1))
-          (lowering-last (l .linked .net) (l .linked .valid) (s .args .line) (starts s) (p .next .values) (p .next .least) (p .next .sum) (can' .stated)
+          (lowering-last (l .linked .net) (l .linked .valid) (s .args .due .line) (starts s) (p .next .values) (p .next .least) (p .next .sum) (can' .stated)
           (length-set (s .args .placed .starts) _ _ ∙ can' .before .starts-row)
-          (set-low (s .args .placed .starts) (s .args .line) (s .args .start) (can' .before .starts-row) (line-low s) (can' .start-low) (can' .before .starts-low))
+          (set-low (s .args .placed .starts) (s .args .due .line) (s .args .due .start) (can' .before .starts-row) (line-low s) (can' .start-low) (can' .before .starts-low))
           end);
       appended =
-          ap (startsOf (s .args .line + 1)) (p .inv .1)
-          ∙ startsOf-next (s .args .placed .starts) (s .args .line) (s .args .start) (omega (arith, can' .before .starts-row, line-low s));
+          ap (startsOf (s .args .due .line + 1)) (p .inv .1)
+          ∙ startsOf-next (s .args .placed .starts) (s .args .due .line) (s .args .due .start) (omega (arith, can' .before .starts-row, line-low s));
     })
 
 pub place-spec : {M : Type 1} → statement M
@@ -337,6 +338,7 @@ place-spec =
     loop-holds
     falls-short-requires
     returns
+    mul-stop
     element-copy-out-stop
     cast-stop
     mul-old
