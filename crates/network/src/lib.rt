@@ -7,7 +7,6 @@ pub mod places;
 pub mod rate;
 pub mod ratings;
 pub mod reader;
-pub mod rows;
 
 ghost use mathlib.Core.Path.{_≡_};
 ghost use Prim.Native.Nat.{_+_, _*_, _^_, _<_, _≤_};
