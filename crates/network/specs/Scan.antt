@@ -52,6 +52,16 @@ unfoldable pub withStop : Rating → ℕ → ℕ → Rating
 withStop r gap weight =
     record { some = true; least = pick (r .some) (min (r .least) gap) gap; sum = r .sum + weight * gap }
 
+-- Rows that are lent in place of a network: its periods and its calls, with how many of each count
+pub record Lent (periods list : List ℕ) (lines calls : ℕ) : Type 0 where
+  pub network : Network
+  pub sound : Sound network
+  pub valid : Valid (netOf network)
+  pub periods-are : periods ≡ network .periods
+  pub list-is : list ≡ network .list
+  pub lines-are : lines ≡ length (netOf network .periods)
+  pub calls-are : calls ≡ network .calls
+
 -- Rows that are lent in place of a network: its periods, its calls, and the way back from each of the first `k` calls
 pub record Rows (periods list previous : List ℕ) (k : ℕ) : Type 0 where
   pub network : Network

@@ -94,7 +94,8 @@ fn weighted_rating(network: Network, sheet: &[i32]) -> Rating
     let mut weights = [0u16; Network::STOPS];
     fill_rows(network, &mut classes, &mut weights);
     let counts = lowest_row(&classes);
-    let gaps = stop_gaps(network, sheet, &counts);
+    let periods = network.periods;
+    let gaps = stop_gaps(&periods, &network.list, network.calls, sheet, &counts);
     rating_over(&gaps, &counts, &weights)
 }
 

@@ -4,7 +4,7 @@ use crate::Network;
 use crate::RateAnswer;
 use crate::Rating;
 use crate::ratings::rating_over;
-use crate::ratings::served_row;
+use crate::ratings::served_by;
 use crate::ratings::stop_gaps;
 use crate::reader::read_network;
 ghost use mathlib.Core.Path.{_≡_};
@@ -12,17 +12,23 @@ ghost use lib.ListN.{length};
 ghost use Rattle.network.specs.Rate.{rateAnswer, rateOutcome};
 ghost use Rattle.network.specs.Rating as rating;
 ghost use Rattle.network.specs.Reading.{readFile};
-ghost use Rattle.network.specs.Stored.{netOf, Sound};
-ghost use Rattle.network.specs.Valid.{Valid, IsBytes};
+ghost use Rattle.network.specs.Scan as scan;
+ghost use Rattle.network.specs.Stored.{netOf};
+ghost use Rattle.network.specs.Valid.{IsBytes};
 
 // The rating of a sheet with one start for each line: every served stop counts once.
-fn sheet_rating(network: Network, sheet: &[i32]) -> Rating
-    requires { ⌜ Sound network × Valid (netOf network) × (length (now sheet) ≡ length (netOf network .periods)) ⌝ }
-    ensures { λ r. ⌜ r ≡ rating.rating (netOf network) (now (sheet .entry)) ⌝ }
+fn sheet_rating(
+    periods: &[u16; Network::MAX_LINES],
+    list: &[u32; Network::MAX_CALLS],
+    calls: usize,
+    sheet: &[i32],
+) -> Rating
+    requires { ⌜ scan.Lent (now periods) (now list) (length (now sheet)) calls ⌝ }
+    ensures { λ r. ⌜ ((h : scan.Lent (now (periods .entry)) (now (list .entry)) (length (now (sheet .entry))) calls) → r ≡ rating.rating (netOf (h .network)) (now (sheet .entry))) ⌝ }
 {
-    let counts = served_row(network);
+    let counts = served_by(list, calls);
     let weights = [1u16; Network::STOPS];
-    let gaps = stop_gaps(network, sheet, &counts);
+    let gaps = stop_gaps(periods, list, calls, sheet, &counts);
     rating_over(&gaps, &counts, &weights)
 }
 
@@ -38,7 +44,8 @@ pub fn rate(file: &[u8], sheet: &[i32]) -> RateAnswer
         Check::Refused { number, place } => RateAnswer::Refused { number, place },
         Check::Passes => {
             if sheet.len() == network.lines {
-                let rating = sheet_rating(network, sheet);
+                let periods = network.periods;
+                let rating = sheet_rating(&periods, &network.list, network.calls, sheet);
                 return RateAnswer::Rated {
                     least: rating.least,
                     sum: rating.sum,

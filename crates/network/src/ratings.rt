@@ -7,7 +7,7 @@ use crate::gaps::gap;
 ghost use mathlib.Core.Path.{_≡_};
 ghost use mathlib.Core.List.{map, _++_, _∷_, []};
 ghost use Prim.Native.Nat.{ℕ, _+_, _-_, _<_, _≤_};
-ghost use lib.ListN.{length, getD};
+ghost use lib.ListN.{length, getD, take};
 ghost use lib.Dec.{ltb};
 ghost use Rattle.network.specs.Gap.{gapOf};
 ghost use Rattle.network.specs.Network as net;
@@ -81,25 +81,25 @@ fn gap_with(
 // The gaps of the stops that count, in one pass over the calls. `last` has for each stop one more than the latest call there, and
 // `previous` for each call one more than the call before it at its stop, 0 where there is none.
 pub fn stop_gaps(
-    network: Network,
+    periods: &[u16; Network::MAX_LINES],
+    list: &[u32; Network::MAX_CALLS],
+    calls: usize,
     sheet: &[i32],
     counts: &[u8; Network::STOPS],
 ) -> [u32; Network::STOPS]
-    requires { ⌜ Sound network × Valid (netOf network) × (length (now sheet) ≡ length (netOf network .periods)) ⌝ }
-    ensures { λ r. ⌜ ((stop : ℕ) → stop < net.stopCount → 0 < getD (now (counts .entry)) stop 0 → getD r stop 0 ≡ rating.stopGap (netOf network) (now (sheet .entry)) stop) ⌝ }
+    requires { ⌜ scan.Lent (now periods) (now list) (length (now sheet)) calls ⌝ }
+    ensures { λ r. ⌜ ((h : scan.Lent (now (periods .entry)) (now (list .entry)) (length (now (sheet .entry))) calls) → (stop : ℕ) → stop < net.stopCount → 0 < getD (now (counts .entry)) stop 0 → getD r stop 0 ≡ rating.stopGap (netOf (h .network)) (now (sheet .entry)) stop) ⌝ }
 {
-    let periods = network.periods;
     let mut gaps = [0u32; Network::STOPS];
     let mut last = [0u16; Network::STOPS];
     let mut previous = [0u16; Network::MAX_CALLS];
-    let count = network.calls;
-    for i in 0..count {
-        let call = Call::unpacked(network.list[i]);
+    for i in 0..calls {
+        let call = Call::unpacked(list[i]);
         let stop = call.stop as usize;
         let before = last[stop];
         if 0 < counts[stop] {
             let gap = gaps[stop];
-            gaps[stop] = gap_with(&periods, &network.list, &previous, sheet, call, before, gap);
+            gaps[stop] = gap_with(periods, list, &previous, sheet, call, before, gap);
         }
         previous[i] = before;
         last[stop] = i as u16 + 1;
@@ -130,17 +130,24 @@ pub fn rating_over(
     }
 }
 
-// The served stops: 1 for each stop with a call, 0 for the others.
-pub fn served_row(network: Network) -> [u8; Network::STOPS]
-    requires { ⌜ Sound network × Valid (netOf network) ⌝ }
-    ensures { λ r. ⌜ ((stop : ℕ) → stop < net.stopCount → ltb 0 (getD r stop 0) ≡ net.isServed stop (netOf network .calls)) ⌝ }
+// The stops of the first `calls` calls: 1 for each stop with a call, 0 for the others.
+pub fn served_by(list: &[u32; Network::MAX_CALLS], calls: usize) -> [u8; Network::STOPS]
+    requires { ⌜ (calls ≤ net.maxCalls) × (length (now list) ≡ net.maxCalls) ⌝ }
+    ensures { λ r. ⌜ ((stop : ℕ) → stop < net.stopCount → ltb 0 (getD r stop 0) ≡ net.isServed stop (take calls (callsIn (now (list .entry))))) ⌝ }
 {
     let mut row = [0u8; Network::STOPS];
-    let count = network.calls;
-    for i in 0..count {
-        let call = Call::unpacked(network.list[i]);
+    for i in 0..calls {
+        let call = Call::unpacked(list[i]);
         let stop = call.stop as usize;
         row[stop] = 1;
     }
     row
+}
+
+// The served stops of a network.
+pub fn served_row(network: Network) -> [u8; Network::STOPS]
+    requires { ⌜ Sound network × Valid (netOf network) ⌝ }
+    ensures { λ r. ⌜ ((stop : ℕ) → stop < net.stopCount → ltb 0 (getD r stop 0) ≡ net.isServed stop (netOf network .calls)) ⌝ }
+{
+    served_by(&network.list, network.calls)
 }

@@ -7,18 +7,18 @@ use crate::Size;
 use crate::Step;
 use crate::Told;
 use crate::divisor::lcm;
-use crate::ratings::served_row;
+use crate::ratings::served_by;
 ghost use mathlib.Core.Path.{_≡_};
 ghost use Prim.Native.Nat.{_+_, _*_, _^_, _<_, _≤_};
 ghost use lib.Dec.{ltb};
-ghost use lib.ListN.{length, getD, drop};
+ghost use lib.ListN.{length, getD, drop, take};
 ghost use Rattle.network.specs.Lists as lists;
 ghost use Rattle.network.specs.Network as net;
 ghost use Rattle.network.specs.Grounds as ground;
 ghost use Rattle.network.specs.Reading as reading;
 ghost use Rattle.network.specs.declared.Check.{Check};
-ghost use Rattle.network.specs.Stored.{netOf, Sound, HasSize, Latest, Often, Tells, readingOf};
-ghost use Rattle.network.specs.Valid.{Valid, IsBytes};
+ghost use Rattle.network.specs.Stored.{callsIn, Sound, HasSize, Latest, Often, Tells, readingOf};
+ghost use Rattle.network.specs.Valid.{IsBytes};
 
 // A number of two bytes from a place on, most significant byte first.
 pub fn word(bytes: &[u8], at: usize) -> u16
@@ -350,12 +350,12 @@ pub fn read_network(file: &[u8]) -> Step
     refused(network, 1, file.len())
 }
 
-// How many stops are served.
-fn served_stops(network: Network) -> u32
-    requires { ⌜ Sound network × Valid (netOf network) ⌝ }
-    ensures { λ r. ⌜ r ≡ net.servedStops (netOf network) ⌝ }
+// How many stops the first `calls` calls serve.
+fn served_stops(list: &[u32; Network::MAX_CALLS], calls: usize) -> u32
+    requires { ⌜ (calls ≤ net.maxCalls) × (length (now list) ≡ net.maxCalls) ⌝ }
+    ensures { λ r. ⌜ r ≡ lists.countBelow (λ stop. net.isServed stop (take calls (callsIn (now (list .entry))))) net.stopCount ⌝ }
 {
-    let served = served_row(network);
+    let served = served_by(list, calls);
     let mut count: u32 = 0;
     for stop in 0..Network::STOPS {
         if 0 < served[stop] {
@@ -377,7 +377,7 @@ pub fn read(file: &[u8]) -> ReadAnswer
         Check::Refused { number, place } => ReadAnswer::Refused { number, place },
         Check::Passes => ReadAnswer::Accepted {
             lines: network.lines as u32,
-            stops: served_stops(network),
+            stops: served_stops(&network.list, network.calls),
             calls: network.calls as u32,
             cycle: network.cycle,
         },

@@ -41,6 +41,15 @@ pub callIn-zero : callIn 0 ≡ noCall
 unfolding callIn
 callIn-zero = refl
 
+-- Whatever number it is, its call is of a line below 16 and at a stop below 64
+pub callIn-line : (code : ℕ) → callIn code .line < maxLines
+unfolding callIn
+callIn-line code = omega arith
+
+pub callIn-stop : (code : ℕ) → callIn code .stop ≤ maxStop
+unfolding callIn
+callIn-stop code = omega arith
+
 -- A place of a row, behind its end too
 pub call-in-row : (row : List ℕ) (i : ℕ) → getD (callsIn row) i noCall ≡ callIn (getD row i 0)
 call-in-row row i = ap (getD (callsIn row) i) (sym callIn-zero) ∙ List·getD-map callIn row i 0

@@ -1,14 +1,14 @@
 -- `network::classes::weighted_rating` meets its contract: the rows give the rating over the lowest stops with their weights. Assumes nothing.
 use Prim.Native.Nat.{ℕ}
-use mathlib.Core.Path.{_≡_, ap, _∙_}
+use mathlib.Core.Path.{_≡_, refl, ap, _∙_}
 use mathlib.Core.List.{List}
 use native.Mathlib.Omega.{arith}
 use borrow.Author.Needs.{needs}
 use lib.Dec.{eqb}
-use lib.ListN.{getD}
+use lib.ListN.{length, getD}
 use Rattle.network.specs.Network.{Net}
 use Rattle.network.specs.Rating.{ratingOver}
-use Rattle.network.specs.Scan.{countedStops}
+use Rattle.network.specs.Scan.{Lent, countedStops}
 use Rattle.network.specs.Stored.{netOf}
 use Rattle.network.specs.Classes.{classRow, weightRow, lowestStops}
 use Rattle.network.specs.ClassCall.{weightedRating}
@@ -26,7 +26,7 @@ module _ (c : tie.After-lowest-row) where
   start = filled .before .before .before
 
   abbrev net : Net
-  net = netOf (start .args .network)
+  net = netOf (start .args .t1)
 
   abbrev weights : List ℕ
   weights = filled .fill-rows .last .1 .1 .0
@@ -39,6 +39,19 @@ module _ (c : tie.After-lowest-row) where
       ap (countedStops (c .lowest-row .result)) weights-are
       ∙ counted-lowest net (c .lowest-row .result)
       (λ stop h. c .lowest-row .ensures stop h ∙ ap (λ (l : List ℕ). eqb (getD l stop 0) stop) (filled .fill-rows .ensures .1 .0))
+
+  -- what is lent in the network's place
+  lent : Lent (start .args .t1 .periods) (start .args .t1 .list) (length (start .args .sheet .now)) (start .args .t1 .calls)
+  lent =
+      record {
+        network = start .args .t1;
+        sound = start .pre .0;
+        valid = start .pre .1;
+        periods-are = refl;
+        list-is = refl;
+        lines-are = start .pre .2;
+        calls-are = refl;
+      }
 
 slice-aggregate-fill-rows : tie.Need-slice-aggregate-fill-rows
 slice-aggregate-fill-rows c = search needs
@@ -53,23 +66,25 @@ lowest-row-requires : tie.Need-lowest-row-requires
 lowest-row-requires c κs = search needs
 
 stop-gaps-requires : tie.Need-stop-gaps-requires
-stop-gaps-requires c κs = search needs
+stop-gaps-requires c κs = lent (c .before .before .before .before .before)
 
 rating-over-requires : tie.Need-rating-over-requires
+unfolding lent
 rating-over-requires c κs stop h k =
-    let r = c .before .before .before .before .before in
-    let e = c .before .before .before .stop-gaps .ensures stop h k in (
+    let g = c .before .before .before in
+    let r = g .before .before .before .before .before .before in
+    let e = g .stop-gaps .ensures (lent r) stop h k in (
       omega (arith, e, stopGap-le-maxPeriod (start r .pre .1) (start r .args .sheet .now) stop),
       omega (arith, ap (λ (l : List ℕ). getD l stop 0) (weights-are r), weight-small (net r) stop h),
     )
 
 returns : tie.Need-returns
-unfolding weightedRating
+unfolding weightedRating lent
 returns c =
     let g = c .before .before .before .before in
-    let r = g .before .before in
+    let r = g .before .before .before .before .before .before in
     c .rating-over .ensures
-    ∙ rating-of-rows (net r) (start r .args .sheet .now) (g .stop-gaps .result) (r .lowest-row .result) (weights r) (g .stop-gaps .ensures)
+    ∙ rating-of-rows (net r) (start r .args .sheet .now) (g .stop-gaps .result) (r .lowest-row .result) (weights r) (g .stop-gaps .ensures (lent r))
     ∙ ap (ratingOver (net r) (start r .args .sheet .now)) (counted r)
 
 pub weighted-rating-spec : {M : Type 1} → statement M

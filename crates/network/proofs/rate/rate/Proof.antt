@@ -1,5 +1,5 @@
 -- `network::rate::rate` meets its contract: it answers the file's refusal, then ground 15, then the rating. Assumes nothing.
-use mathlib.Core.Path.{_≡_, sym, ap, _∙_}
+use mathlib.Core.Path.{_≡_, refl, sym, ap, _∙_}
 use mathlib.Core.Bool.{true, false}
 use borrow.Author.Needs.{needs}
 use borrow.Author.Tests.{eq-eqb, ne-eqb}
@@ -10,6 +10,7 @@ use Rattle.network.specs.Lists.{pick}
 use Rattle.network.specs.Reading.{Reading, accepted, refusal, readFile}
 use Rattle.network.specs.Rate.{rateAnswer, ratingValues, onSheet, ratedOnSheet, rateOutcome}
 use Rattle.network.specs.Rating.{rating}
+use Rattle.network.specs.Scan.{Lent}
 use Rattle.network.specs.Stored.{netOf, readingOf}
 use Rattle.network.specs.Valid.{Valid, IsBytes}
 use Rattle.network.proofs.Laws.Valid.{accepted-valid}
@@ -40,21 +41,34 @@ enum-known-check c = search needs
 enum-told : tie.Need-enum-told
 enum-told c = search needs
 
+-- what is lent in the network's place
+lent : (c : tie.Then1)
+    → let n = c .before .before .before .before .read-network .result .network in
+    Lent (n .periods) (n .list) (length (c .before .before .before .before .before .before .args .sheet .now)) (n .calls)
+lent c =
+    let r = c .before .before .before .before .read-network in
+    record {
+      network = r .result .network;
+      sound = r .ensures .0;
+      valid = valid-here (c .before);
+      periods-are = refl;
+      list-is = refl;
+      lines-are = c .if1 .taken ∙ sym (held-lines (r .result .network) (r .ensures .0));
+      calls-are = refl;
+    }
+
 sheet-rating-requires : tie.Need-sheet-rating-requires
-sheet-rating-requires c κs =
-    let t = c .before .before in
-    let r = c .before .before .before .before .before .read-network in
-    (r .ensures .0, valid-here t, c .if1 .taken ∙ sym (held-lines (r .result .network) (r .ensures .0)))
+sheet-rating-requires c κs = lent (c .before .before .before .before)
 
 returns : tie.Need-returns
-unfolding rateAnswer ratingValues rateOutcome onSheet
+unfolding rateAnswer ratingValues rateOutcome onSheet lent
 returns c =
-    let t = c .before .before .before in
-    let r = c .before .before .before .before .before .before .read-network in
-    let n = netOf (r .result .network) in
-    let sheet = c .before .before .before .before .before .before .before .before .args .sheet .now in
-    let fits : eqb (length sheet) (length (n .periods)) ≡ true = eq-eqb _ _ (c .before .if1 .taken ∙ sym (held-lines (r .result .network) (r .ensures .0))) in (
-      ap ratingValues (c .sheet-rating .ensures)
+    let i = c .before .before .before .before .before in
+    let t = i .before in
+    let n = netOf (t .before .before .before .read-network .result .network) in
+    let sheet = t .before .before .before .before .before .args .sheet .now in
+    let fits : eqb (length sheet) (length (n .periods)) ≡ true = eq-eqb _ _ (lent i .lines-are) in (
+      ap ratingValues (c .sheet-rating .ensures (lent i))
           ∙ sym (ap (λ (k : Reading). ratedOnSheet rating k sheet) (accepted-here t) ∙ ap (λ b. pick b (ratingValues (rating n sheet)) (refusal 15 0)) fits),
       bytes-here (t .before .before .before),
     )
@@ -72,10 +86,10 @@ returns-2 c =
 returns-3 : tie.Need-returns-3
 unfolding rateAnswer rateOutcome onSheet
 returns-3 c =
-    let t = c .before .before in
-    let r = c .before .before .before .before .before .read-network in
+    let t = c .before in
+    let r = t .before .before .before .read-network in
     let n = netOf (r .result .network) in
-    let sheet = c .before .before .before .before .before .before .before .args .sheet .now in
+    let sheet = t .before .before .before .before .before .args .sheet .now in
     let unfit : eqb (length sheet) (length (n .periods)) ≡ false =
     ne-eqb _ _ (λ e. c .if1 .left (e ∙ held-lines (r .result .network) (r .ensures .0))) in (
       sym (ap (λ (k : Reading). ratedOnSheet rating k sheet) (accepted-here t) ∙ ap (λ b. pick b (ratingValues (rating n sheet)) (refusal 15 0)) unfit),

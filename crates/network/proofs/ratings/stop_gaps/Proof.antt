@@ -1,6 +1,6 @@
 -- `network::ratings::stop_gaps` meets its contract. The loop's invariant: the rows are those after the calls passed. Assumes nothing.
 use Prim.Native.Nat.{ℕ, _+_, _-_, _<_, _≤_}
-use mathlib.Core.Path.{_≡_, refl, sym, ap, subst, _∙_}
+use mathlib.Core.Path.{_≡_, sym, ap, subst, _∙_}
 use mathlib.Core.List.{List, [], _∷_, _++_}
 use mathlib.Core.Logic.{⊎-elim}
 use native.Mathlib.Nat.{le-antisymm}
@@ -10,35 +10,44 @@ use lib.ListN.{length, getD, set}
 use Rattle.network.specs.declared.Call.{Call}
 use Rattle.network.specs.declared.Network.{Network}
 use Rattle.network.specs.Rating.{gapOfStop, callsOfStop, stopGap}
-use Rattle.network.specs.Scan.{lastAt, callsBefore, LeadsBack, Rows, Beside}
-use Rattle.network.specs.Stored.{netOf, callsIn}
+use Rattle.network.specs.Scan.{lastAt, callsBefore, LeadsBack, Lent, Rows, Beside}
+use Rattle.network.specs.Stored.{netOf, callIn, callsIn}
 use Rattle.network.specs.Valid.{noCall}
-use Rattle.network.proofs.Laws.Packed.{call-in-row}
+use Rattle.network.proofs.Laws.Packed.{call-in-row, callIn-stop}
 use Rattle.network.proofs.Laws.Scan.{Scanned, scanned-none, scanned-counted, scanned-passed, lastAt-le, lastAt-landed, callsBefore-lastAt}
-use Rattle.network.proofs.Laws.Stored.{length-held, held-lines, held-call-line, held-call-stop}
+use Rattle.network.proofs.Laws.Stored.{length-held, held-lines, held-call-line}
 use Rattle.network.proofs.ratings.stop_gaps.Statement.{statement}
 use Rattle.network.proofs.ratings.stop_gaps.Tie as tie
 
 abbrev Inv-loop : tie.InvT-loop
-Inv-loop sheet counts network periods gaps₀ last₀ previous₀ count i₀ gaps last previous i =
-    (i ≤ count) × Scanned (netOf network) sheet (callsIn (network .list)) counts gaps last previous i
+Inv-loop periods list calls sheet counts gaps₀ last₀ previous₀ i₀ gaps last previous i =
+    (i ≤ calls)
+    × ((h : Lent periods list (length sheet) calls) → Scanned (netOf (h .network)) sheet (callsIn (h .network .list)) counts gaps last previous i)
 
 abbrev μ-loop : tie.MeasureT-loop
-μ-loop sheet counts network periods gaps₀ last₀ previous₀ count i₀ gaps last previous i = count - i
+μ-loop periods list calls sheet counts gaps₀ last₀ previous₀ i₀ gaps last previous i = calls - i
+
+abbrev Held : tie.Start Inv-loop μ-loop → Type 0
+Held s = Lent (s .args .periods .now) (s .args .list .now) (length (s .args .sheet .now)) (s .args .calls)
 
 small : (t : tie.In-loop Inv-loop μ-loop) → t .before .loop .i < 256
-small t = omega (arith, t .loop-test .taken, t .before .before .before .pre .0 .calls)
+small t = let h = t .before .before .pre in omega (arith, t .loop-test .taken, h .calls-are, h .sound .calls)
 
--- At a turn of the loop: the call that is looked at, and the latest before it at its stop
-module _ (u : tie.After-unpacked Inv-loop μ-loop) where
+stop-low : (u : tie.After-unpacked Inv-loop μ-loop) → u .unpacked .result .stop < 64
+stop-low u =
+    subst (λ (k : Call). k .stop < 64) (sym (u .unpacked .ensures))
+    (omega (arith, callIn-stop (getD (u .before .before .before .before .args .list .now) (u .before .before .before .loop .i) 0)))
+
+-- At a turn of the loop, in a network that the rows hold: the call that is looked at, and the latest before it at its stop
+module _ (u : tie.After-unpacked Inv-loop μ-loop) (h : Held (u .before .before .before .before)) where
   abbrev turn : tie.In-loop Inv-loop μ-loop
   turn = u .before .before
 
   abbrev start : tie.Start Inv-loop μ-loop
-  start = turn .before .before .before
+  start = turn .before .before
 
   abbrev network : Network
-  network = start .args .t1
+  network = h .network
 
   abbrev sheet : List ℤ
   sheet = start .args .sheet .now
@@ -59,24 +68,22 @@ module _ (u : tie.After-unpacked Inv-loop μ-loop) where
   before = getD (turn .before .loop .last) (call .stop) 0
 
   abbrev scanned : Scanned (netOf network) sheet held counts (turn .before .loop .gaps) (turn .before .loop .last) (turn .before .loop .previous) i
-  scanned = turn .before .loop .inv .1
+  scanned = turn .before .loop .inv .1 h
 
   call-is : call ≡ getD held i noCall
-  call-is = u .unpacked .ensures ∙ sym (call-in-row (network .list) i)
+  call-is = u .unpacked .ensures ∙ ap (λ (l : List ℕ). callIn (getD l i 0)) (h .list-is) ∙ sym (call-in-row (network .list) i)
+
+  in-file : i < network .calls
+  in-file = omega (arith, turn .loop-test .taken, h .calls-are)
 
   stated : i < length held
-  stated = omega (arith, small turn, length-held network (start .pre .0))
-
-  stop-low : call .stop < 64
-  stop-low =
-      subst (λ (k : Call). k .stop < 64) (sym call-is)
-      (omega (arith, held-call-stop network (start .pre .0) (start .pre .1) i (turn .loop-test .taken)))
+  stated = omega (arith, small turn, length-held network (h .sound))
 
   line-low : call .line < network .lines
-  line-low = subst (λ (k : Call). k .line < network .lines) (sym call-is) (held-call-line network (start .pre .0) (start .pre .1) i (turn .loop-test .taken))
+  line-low = subst (λ (k : Call). k .line < network .lines) (sym call-is) (held-call-line network (h .sound) (h .valid) i in-file)
 
   before-is : before ≡ lastAt (call .stop) held i
-  before-is = scanned .last-is (call .stop) stop-low
+  before-is = scanned .last-is (call .stop) (stop-low u)
 
   before-le : before ≤ i
   before-le = omega (arith, before-is, lastAt-le (call .stop) held i)
@@ -88,31 +95,31 @@ module _ (u : tie.After-unpacked Inv-loop μ-loop) where
 
   leads-before : LeadsBack (turn .before .loop .previous) held before
   unfolding LeadsBack
-  leads-before j h = scanned .leads j (omega (arith, before-le, h))
+  leads-before j k = scanned .leads j (omega (arith, before-le, k))
 
-  -- what is lent in the network's place
-  rows : Rows (network .periods) (network .list) (turn .before .loop .previous) before
+  -- what is lent on
+  rows : Rows (start .args .periods .now) (start .args .list .now) (turn .before .loop .previous) before
   rows =
       record {
         network = network;
-        sound = start .pre .0;
-        valid = start .pre .1;
-        periods-are = refl;
-        list-is = refl;
+        sound = h .sound;
+        valid = h .valid;
+        periods-are = h .periods-are;
+        list-is = h .list-is;
         leads = leads-before;
       }
 
   beside : Beside network sheet call before
   beside =
       record {
-        fits = start .pre .2;
-        own-line = omega (arith, line-low, held-lines network (start .pre .0));
-        within = omega (arith, before-le, turn .loop-test .taken);
+        fits = h .lines-are;
+        own-line = omega (arith, line-low, held-lines network (h .sound));
+        within = omega (arith, before-le, in-file);
         lands = lastAt-landed held (call .stop) i before before-is;
       }
 
   held-low : getD held i noCall .stop < 64
-  held-low = subst (λ (k : Call). k .stop < 64) call-is stop-low
+  held-low = subst (λ (k : Call). k .stop < 64) call-is (stop-low u)
 
   -- the rows after this turn, where the stop of the call counts and where it doesn't
   abbrev Next : Call → List ℕ → Type 0
@@ -142,8 +149,7 @@ module _ (u : tie.After-unpacked Inv-loop μ-loop) where
       (scanned .last-is _ held-low) z)
 
 loop-holds : tie.Need-loop-holds Inv-loop μ-loop
-loop-holds c =
-    let s = c .before in (omega arith, scanned-none (netOf (s .args .t1)) (s .args .sheet .now) (callsIn (s .args .t1 .list)) (s .args .counts .now))
+loop-holds c = (omega arith, λ h. scanned-none (netOf (h .network)) (c .args .sheet .now) (callsIn (h .network .list)) (c .args .counts .now))
 
 mul-unpacked : tie.Need-mul-unpacked Inv-loop μ-loop
 mul-unpacked c = omega (arith, small c)
@@ -174,13 +180,16 @@ array-read-gap c = omega (arith, stop-low (c .before .before .before))
 
 gap-with-requires : tie.Need-gap-with-requires Inv-loop μ-loop
 unfolding rows
-gap-with-requires c κs = let u = c .before .before .before .before .before .before .before in (rows u, beside u)
+gap-with-requires c κs =
+    let u = c .before .before .before .before in
+    let h = u .before .before .before .before .pre in
+    (rows u h, beside u h)
 
 mul-gaps : tie.Need-mul-gaps Inv-loop μ-loop
-mul-gaps c = omega (arith, stop-low (c .before .before .before .before .before .before .before .before))
+mul-gaps c = omega (arith, stop-low (c .before .before .before .before .before))
 
 array-write-gaps : tie.Need-array-write-gaps Inv-loop μ-loop
-array-write-gaps c = omega (arith, stop-low (c .before .before .before .before .before .before .before .before))
+array-write-gaps c = omega (arith, stop-low (c .before .before .before .before .before))
 
 mul-previous : tie.Need-mul-previous Inv-loop μ-loop
 mul-previous c = omega (arith, small (c .before .before .before .before .before))
@@ -210,25 +219,25 @@ loop-again : tie.Need-loop-again Inv-loop μ-loop
 unfolding rows
 loop-again c =
     let u = c .before .before .before in (
-      omega (arith, turn u .loop-test .taken),
-      ⊎-elim
+      omega (arith, c .before .before .before .before .before .loop-test .taken),
+      λ h.
+          ⊎-elim
           (λ w.
-          rw (w .6)
-          (next-counted u (w .5 .result)
-          (w .5 .ensures (rows u) (beside u)
-          (scanned u .gaps-are (call u .stop) (stop-low u) (w .0 .taken) ∙ ap (gapOfStop (netOf (network u)) (sheet u)) (before-same u))
-          ∙ ap (λ (cs : List Call). gapOfStop (netOf (network u)) (sheet u) (cs ++ (call u ∷ []))) (sym (before-same u)))))
-          (λ w. rw (w .1) (next-passed u (w .0 .left)))
+          rw (w .3)
+          (next-counted u h (w .2 .result)
+          (w .2 .ensures (rows u h) (beside u h)
+          (scanned u h .gaps-are (call u h .stop) (stop-low u) (w .0 .taken) ∙ ap (gapOfStop (netOf (h .network)) (sheet u h)) (before-same u h))
+          ∙ ap (λ (cs : List Call). gapOfStop (netOf (h .network)) (sheet u h) (cs ++ (call u h ∷ []))) (sym (before-same u h)))))
+          (λ w. rw (w .1) (next-passed u h (w .0 .left)))
           (c .if1 .came),
     )
 
 returns : tie.Need-returns Inv-loop μ-loop
 unfolding stopGap callsOfStop callsBefore netOf
-returns c stop h k =
-    let s = c .before .before .before in
-    c .before .loop .inv .1 .gaps-are stop h k
-    ∙ ap (λ (j : ℕ). gapOfStop (netOf (s .args .t1)) (s .args .sheet .now) (callsBefore stop (callsIn (s .args .t1 .list)) j))
-    (le-antisymm (c .before .loop .inv .0) (c .loop-test .left))
+returns c h stop low counts =
+    c .before .loop .inv .1 h .gaps-are stop low counts
+    ∙ ap (λ (j : ℕ). gapOfStop (netOf (h .network)) (c .before .before .args .sheet .now) (callsBefore stop (callsIn (h .network .list)) j))
+    (le-antisymm (c .before .loop .inv .0) (c .loop-test .left) ∙ h .calls-are)
 
 pub stop-gaps-spec : {M : Type 1} → statement M
 stop-gaps-spec =

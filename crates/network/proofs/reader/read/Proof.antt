@@ -9,9 +9,8 @@ use Rattle.network.specs.declared.Network.{Network}
 use Rattle.network.specs.Network.{servedStops, cycle}
 use Rattle.network.specs.Reading.{values, readAnswer, readOutcome}
 use Rattle.network.specs.Stored.{netOf, Sound, readingOf}
-use Rattle.network.specs.Valid.{Valid, IsBytes}
+use Rattle.network.specs.Valid.{IsBytes}
 use Rattle.network.proofs.Laws.Stored.{held-lines, held-calls}
-use Rattle.network.proofs.Laws.Valid.{accepted-valid}
 use Rattle.network.proofs.reader.read.Statement.{statement}
 use Rattle.network.proofs.reader.read.Tie as tie
 
@@ -28,14 +27,6 @@ bytes-here : (c : tie.After-read-network) → IsBytes (c .before .before .args .
 unfolding IsBytes
 bytes-here c i = c .before .shared-slice-known .given i .fits
 
--- In the arm of `Passes` the file is accepted, as a valid network
-valid-here : (c : tie.After-enum-told) → Valid (netOf (c .before .before .before .read-network .result .network))
-unfolding readingOf
-valid-here c =
-    let r = c .before .before .before .read-network in
-    accepted-valid (c .before .before .before .before .before .args .file .now) _ (bytes-here (c .before .before .before))
-    (sym (r .ensures .1) ∙ ap (λ (k : Check). readingOf k (r .result .network)) (c .enum-told .given .1))
-
 read-network-requires : tie.Need-read-network-requires
 read-network-requires c κs = search needs
 
@@ -45,14 +36,14 @@ enum-known-check c = search needs
 enum-told : tie.Need-enum-told
 enum-told c = search needs
 
-cast-t8 : tie.Need-cast-t8
-cast-t8 c = search needs
+cast-t9 : tie.Need-cast-t9
+cast-t9 c = search needs
 
 served-stops-requires : tie.Need-served-stops-requires
-served-stops-requires c κs = (c .before .before .before .before .read-network .ensures .0, valid-here (c .before))
+served-stops-requires c κs = let s = c .before .before .before .before .before .read-network .ensures .0 in (s .calls, s .list-row)
 
-cast-t10 : tie.Need-cast-t10
-cast-t10 c = search needs
+cast-t14 : tie.Need-cast-t14
+cast-t14 c = search needs
 
 returns : tie.Need-returns
 unfolding readAnswer readOutcome readingOf
@@ -63,13 +54,14 @@ returns c =
     )
 
 returns-2 : tie.Need-returns-2
-unfolding readAnswer readOutcome readingOf
+unfolding readAnswer readOutcome readingOf servedStops netOf
 returns-2 c =
-    let r = c .before .before .before .before .before .before .read-network in
+    let t = c .before .before .before in
+    let r = t .before .before .before .read-network in
     let n = r .result .network in (
-      values-are n (c .before .served-stops .result) (r .ensures .0) (c .before .served-stops .ensures)
-          ∙ sym (ap readOutcome (sym (r .ensures .1) ∙ ap (λ (k : Check). readingOf k n) (c .before .before .before .enum-told .given .1))),
-      bytes-here (c .before .before .before .before .before .before),
+      values-are n (c .served-stops .result) (r .ensures .0) (c .served-stops .ensures)
+          ∙ sym (ap readOutcome (sym (r .ensures .1) ∙ ap (λ (k : Check). readingOf k n) (t .enum-told .given .1))),
+      bytes-here (t .before .before .before),
     )
 
 pub read-spec : {M : Type 1} → statement M
@@ -79,8 +71,8 @@ read-spec =
     read-network-requires
     enum-known-check
     enum-told
-    cast-t8
+    cast-t9
     served-stops-requires
-    cast-t10
+    cast-t14
     returns
     returns-2)

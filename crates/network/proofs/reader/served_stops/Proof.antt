@@ -10,22 +10,21 @@ use borrow.Author.Tests.{lt-ltb, le-ltb}
 use lib.Dec.{ltb}
 use lib.ListN.{getD}
 use Rattle.network.specs.Lists.{pick, countBelow}
-use Rattle.network.specs.Network.{servedStops}
 use Rattle.network.proofs.Laws.Lists.{countBelow-next, countBelow-le, countBelow-same}
 use Rattle.network.proofs.reader.served_stops.Statement.{statement}
 use Rattle.network.proofs.reader.served_stops.Tie as tie
 
 abbrev Inv-loop : tie.InvT-loop
-Inv-loop served count₀ stop₀ count stop = (stop ≤ 64) × (count ≡ countBelow (λ s. ltb 0 (getD served s 0)) stop) × (count ≤ stop)
+Inv-loop list calls served count₀ stop₀ count stop = (stop ≤ 64) × (count ≡ countBelow (λ s. ltb 0 (getD served s 0)) stop) × (count ≤ stop)
 
 abbrev μ-loop : tie.MeasureT-loop
-μ-loop served count₀ stop₀ count stop = 64 - stop
+μ-loop list calls served count₀ stop₀ count stop = 64 - stop
 
 counted : (p : ℕ → Bool) (stop count more : ℕ) → count ≡ countBelow p stop → pick (p stop) 1 0 ≡ more → count + more ≡ countBelow p (stop + 1)
 counted p stop count more e f = cc (countBelow-next p stop)
 
-served-row-requires : tie.Need-served-row-requires Inv-loop μ-loop
-served-row-requires c κs = c .pre
+served-by-requires : tie.Need-served-by-requires Inv-loop μ-loop
+served-by-requires c κs = c .pre
 
 loop-holds : tie.Need-loop-holds Inv-loop μ-loop
 unfolding countBelow
@@ -46,7 +45,7 @@ loop-less c = omega arith
 loop-again : tie.Need-loop-again Inv-loop μ-loop
 loop-again c =
     let l = c .before .before .loop in
-    let row = c .before .before .before .served-row .result in
+    let row = c .before .before .before .served-by .result in
     let marked : ℕ → Bool = λ s. ltb 0 (getD row s 0) in
     let next : c .if1 .count ≡ countBelow marked (l .stop + 1) =
     ⊎-elim
@@ -56,14 +55,13 @@ loop-again c =
     (omega arith, next, omega (arith, next, countBelow-le marked (l .stop + 1)))
 
 returns : tie.Need-returns Inv-loop μ-loop
-unfolding servedStops
 returns c =
     let l = c .before .loop in
     let s = c .before .before in
     let all : l .stop ≡ 64 = omega arith in
     l .inv .1
-    ∙ ap (countBelow (λ t. ltb 0 (getD (s .served-row .result) t 0))) all
-    ∙ countBelow-same _ _ 64 (s .served-row .ensures)
+    ∙ ap (countBelow (λ t. ltb 0 (getD (s .served-by .result) t 0))) all
+    ∙ countBelow-same _ _ 64 (s .served-by .ensures)
 
 pub served-stops-spec : {M : Type 1} → statement M
 served-stops-spec =
@@ -71,7 +69,7 @@ served-stops-spec =
     (tie.spec
     Inv-loop
     μ-loop
-    served-row-requires
+    served-by-requires
     loop-holds
     array-read-if1
     add-count
