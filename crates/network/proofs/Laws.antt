@@ -16,6 +16,7 @@ pub mod Stored
 pub mod Latest
 pub mod Often
 pub mod Gap
+pub mod Paired
 pub mod Pairs
 pub mod StopGap
 pub mod ByLines

@@ -4,16 +4,18 @@ use mathlib.Core.Path.{_≡_}
 use mathlib.Core.Bool.{true}
 use mathlib.Core.List.{List, [], _∷_, map}
 use lib.Dec.{eqb, ltb}
-use lib.IntN.{ℤ}
+use lib.IntN.{ℤ, _-ℤ_}
 use lib.ListN.{length, getD, take}
 use Rattle.network.specs.declared.Call.{Call}
 use Rattle.network.specs.declared.Network.{Network}
 use Rattle.network.specs.declared.Rating.{Rating}
 use Rattle.network.specs.Lists.{pick, keep, below}
-use Rattle.network.specs.Network.{maxStop}
+use Rattle.network.specs.Network.{maxLines, maxStop}
 use Rattle.network.specs.Stored.{netOf, callsIn, Sound}
 use Rattle.network.specs.Valid.{Valid, noCall}
-use Rattle.network.specs.Rating.{Counted, noRating, ratingBy}
+use Rattle.network.specs.Divisor.{gcd}
+use Rattle.network.specs.Gap.{residue, fold}
+use Rattle.network.specs.Rating.{Counted, arrivalOf, noRating, ratingBy}
 
 -- One more than the latest of the first `k` calls that is at the stop, 0 where none is
 unfoldable pub lastAt : ℕ → List Call → ℕ → ℕ
@@ -62,13 +64,22 @@ pub record Lent (periods list : List ℕ) (lines calls : ℕ) : Type 0 where
   pub lines-are : lines ≡ length (netOf network .periods)
   pub calls-are : calls ≡ network .calls
 
--- Rows that are lent in place of a network: its periods, its calls, and the way back from each of the first `k` calls
-pub record Rows (periods list previous : List ℕ) (k : ℕ) : Type 0 where
+-- A row that has for each two lines the greatest common divisor of their periods, the pairs of a line side by side
+unfoldable pub DivisorsOf : List ℕ → List ℕ → Type 0
+DivisorsOf periods divisors =
+    (i j : ℕ) → i < length periods → j < length periods → getD divisors (i * maxLines + j) 0 ≡ gcd (getD periods i 0) (getD periods j 0)
+
+-- The gap of two calls by theorem 3.1.2, `g` being the greatest common divisor of their lines' periods
+unfoldable pub gapBy : ℕ → List ℤ → Call → Call → ℕ
+gapBy g starts c d = fold g (residue (arrivalOf starts c -ℤ arrivalOf starts d) g)
+
+-- Rows that are lent for one stop: the network's calls, the divisors of its periods, and the way back from each of the first `k` calls
+pub record Rows (list divisors previous : List ℕ) (k : ℕ) : Type 0 where
   pub network : Network
   pub sound : Sound network
   pub valid : Valid (netOf network)
-  pub periods-are : periods ≡ network .periods
   pub list-is : list ≡ network .list
+  pub divisors-are : DivisorsOf (netOf network .periods) divisors
   pub leads : LeadsBack previous (callsIn (network .list)) k
 
 -- A call of the network beside the first `k` calls, of which the latest is at its stop, and a sheet that fits

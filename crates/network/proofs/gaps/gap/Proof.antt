@@ -6,12 +6,9 @@ use lib.IntN.{ℤ, _-ℤ_}
 use mir.Syntax.{w64}
 use mir.Val.{SFits, toZ, ofZ}
 use mir.Facts.{toZ-ofZ}
-use Rattle.network.specs.Divisor as divisor
 use Rattle.network.specs.Gap as gaps
-use Rattle.network.proofs.Laws.Divisor.{gcd-pos-left}
 use Rattle.network.proofs.Laws.Gap.{residue-lt}
 use Rattle.network.proofs.Laws.Integers.{natAbs-sub-le, sfits-of-natAbs}
-use borrow.Author.Needs.{needs}
 use Rattle.network.proofs.gaps.gap.Statement.{statement}
 use Rattle.network.proofs.gaps.gap.Tie as tie
 
@@ -26,31 +23,19 @@ module _ (s : tie.Start) where
   subtracted : toZ w64 (ofZ w64 (s .args .a)) -ℤ toZ w64 (ofZ w64 (s .args .b)) ≡ difference
   subtracted = ap₂ _-ℤ_ (toZ-ofZ (s .fits .a)) (toZ-ofZ (s .fits .b))
 
-  divisor-pos : 0 < divisor.gcd (s .args .period) (s .args .other)
-  divisor-pos = gcd-pos-left (s .args .period) (s .args .other) (s .pre .2)
-
-reduced :
-    (c : tie.After-residue)
-    → c .residue .result
-    ≡ gaps.residue (difference (c .before .before)) (divisor.gcd (c .before .before .args .period) (c .before .before .args .other))
+reduced : (c : tie.After-residue) → c .residue .result ≡ gaps.residue (difference (c .before)) (c .before .args .g)
 reduced c =
-    let s = c .before .before in
-    c .residue .ensures
-    ∙ ap₂ gaps.residue (ap (λ (z : ℤ). toZ w64 (ofZ w64 z)) (subtracted s) ∙ toZ-ofZ (fits s)) (c .before .gcd .ensures)
+    let s = c .before in
+    c .residue .ensures ∙ ap (λ (z : ℤ). gaps.residue z (s .args .g)) (ap (λ (z : ℤ). toZ w64 (ofZ w64 z)) (subtracted s) ∙ toZ-ofZ (fits s))
 
-below : (c : tie.After-residue) → c .residue .result < c .before .gcd .result
-below c =
-    let s = c .before .before in
-    omega (arith, reduced c, c .before .gcd .ensures, residue-lt (difference s) _ (divisor-pos s))
-
-gcd-requires : tie.Need-gcd-requires
-gcd-requires c κs = search needs
+below : (c : tie.After-residue) → c .residue .result < c .before .args .g
+below c = let s = c .before in omega (arith, reduced c, residue-lt (difference s) (s .args .g) (s .pre .2))
 
 sub-residue : tie.Need-sub-residue
-sub-residue c = rw (subtracted (c .before)) (fits (c .before))
+sub-residue c = rw (subtracted c) (fits c)
 
 residue-requires : tie.Need-residue-requires
-residue-requires c κs = rw (c .gcd .ensures) (divisor-pos (c .before))
+residue-requires c κs = c .pre .2
 
 sub-if1 : tie.Need-sub-if1
 sub-if1 c = omega (arith, below c)
@@ -59,21 +44,20 @@ sub-result : tie.Need-sub-result
 sub-result c = omega (arith, below (c .before))
 
 returns : tie.Need-returns
-unfolding gaps.gapOf gaps.fold
+unfolding gaps.fold
 returns c =
     let r = c .before in
-    let lesser : r .residue .result ≡ min (r .residue .result) (r .before .gcd .result - r .residue .result) = omega arith in
-    lesser ∙ ap₂ (λ (g d : ℕ). min d (g - d)) (r .before .gcd .ensures) (reduced r)
+    let g = r .before .args .g in
+    let lesser : r .residue .result ≡ min (r .residue .result) (g - r .residue .result) = omega arith in
+    lesser ∙ ap (λ (d : ℕ). min d (g - d)) (reduced r)
 
 returns-2 : tie.Need-returns-2
-unfolding gaps.gapOf gaps.fold
+unfolding gaps.fold
 returns-2 c =
     let r = c .before in
-    let lesser : r .before .gcd .result - r .residue .result ≡ min (r .residue .result) (r .before .gcd .result - r .residue .result) =
-    omega arith in
-    lesser ∙ ap₂ (λ (g d : ℕ). min d (g - d)) (r .before .gcd .ensures) (reduced r)
+    let g = r .before .args .g in
+    let lesser : g - r .residue .result ≡ min (r .residue .result) (g - r .residue .result) = omega arith in
+    lesser ∙ ap (λ (d : ℕ). min d (g - d)) (reduced r)
 
 pub gap-spec : {M : Type 1} → statement M
-gap-spec =
-    tie.close
-    (tie.spec gcd-requires sub-residue residue-requires sub-if1 sub-result returns returns-2)
+gap-spec = tie.close (tie.spec sub-residue residue-requires sub-if1 sub-result returns returns-2)

@@ -1,13 +1,14 @@
 -- `network::ratings::call_gap` meets its contract: each call arrives at its line's start plus its offset. Assumes nothing.
-use Prim.Native.Nat.{ℕ}
+use Prim.Native.Nat.{ℕ, _+_, _*_}
 use mathlib.Core.Path.{_≡_, ap, ap₂, _∙_}
-use lib.IntN.{ℤ, pos, _+ℤ_}
+use lib.IntN.{ℤ, pos, _+ℤ_, _-ℤ_}
 use lib.ListN.{getD}
 use mir.Syntax.{w32, w64}
 use mir.Val.{SFits, toZ, ofZ}
 use mir.Facts.{toZ-ofZ}
-use Rattle.network.specs.Gap.{gapOf}
+use Rattle.network.specs.Gap.{residue, fold}
 use Rattle.network.specs.Rating.{arrivalOf}
+use Rattle.network.specs.Scan.{gapBy}
 use borrow.Author.Needs.{needs}
 use Rattle.network.proofs.ratings.call_gap.Statement.{statement}
 use Rattle.network.proofs.ratings.call_gap.Tie as tie
@@ -43,28 +44,29 @@ arrival-requires-2 c κs = search needs
 mul-gap : tie.Need-mul-gap
 mul-gap c = search needs
 
-element-copy-out-gap : tie.Need-element-copy-out-gap
-element-copy-out-gap c = search needs
+add-gap : tie.Need-add-gap
+add-gap c = search needs
 
 mul-gap-2 : tie.Need-mul-gap-2
 mul-gap-2 c = search needs
 
-element-copy-out-gap-2 : tie.Need-element-copy-out-gap-2
-element-copy-out-gap-2 c = search needs
+element-copy-out-gap : tie.Need-element-copy-out-gap
+element-copy-out-gap c = search needs
 
 gap-requires : tie.Need-gap-requires
 gap-requires c κs = search needs
 
 returns : tie.Need-returns
-unfolding arrivalOf
+unfolding arrivalOf gapBy
 returns c =
-    let s = c .before .before .before .before .before .before .before .before .before in
-    let a = c .before .before .before .before .before .arrival in
-    let b = c .before .before .before .arrival2 in
+    let s = c .before .before .before .before .before .before .before .before in
+    let a = c .before .before .before .before .arrival in
+    let b = c .before .before .arrival2 in
+    let g = getD (s .args .divisors .now) (s .args .first .line * 16 + s .args .second .line) 0 in
     c .gap .ensures
-    ∙ ap₂ (λ (x y : ℤ). gapOf x (getD (s .args .periods .now) (s .args .first .line) 0) y (getD (s .args .periods .now) (s .args .second .line) 0))
-    (arrives (getD (s .args .sheet .now) (s .args .first .line) (pos 0)) (s .args .first .offset) _ (record { sfits = c .before .before .before .before .before .before .arrival-arg .given }) (record { sfits = a .ok }) (a .ensures .0))
-    (arrives (getD (s .args .sheet .now) (s .args .second .line) (pos 0)) (s .args .second .offset) _ (record { sfits = c .before .before .before .before .arrival-arg2 .given }) (record { sfits = b .ok }) (b .ensures .0))
+    ∙ ap₂ (λ (x y : ℤ). fold g (residue (x -ℤ y) g))
+    (arrives (getD (s .args .sheet .now) (s .args .first .line) (pos 0)) (s .args .first .offset) _ (record { sfits = c .before .before .before .before .before .arrival-arg .given }) (record { sfits = a .ok }) (a .ensures .0))
+    (arrives (getD (s .args .sheet .now) (s .args .second .line) (pos 0)) (s .args .second .offset) _ (record { sfits = c .before .before .before .arrival-arg2 .given }) (record { sfits = b .ok }) (b .ensures .0))
 
 pub call-gap-spec : {M : Type 1} → statement M
 call-gap-spec =
@@ -79,8 +81,8 @@ call-gap-spec =
     shared-slice-copy-out-arrival-2
     arrival-requires-2
     mul-gap
-    element-copy-out-gap
+    add-gap
     mul-gap-2
-    element-copy-out-gap-2
+    element-copy-out-gap
     gap-requires
     returns)

@@ -50,29 +50,29 @@ element-copy-out-result c = search needs
 cast-result : tie.Need-cast-result
 cast-result c =
     let s = c .before .before .before in
-    let (h, b) = s .pre in
+    let (h, b, periods-are) = s .pre in
     omega (
       arith,
-      ap (λ (ps : List ℕ). getD ps (s .args .call .line) 0) (h .periods-are),
+      ap (λ (ps : List ℕ). getD ps (s .args .call .line) 0) periods-are,
       held-period (h .network) (s .args .call .line) (omega (arith, b .own-line, held-lines (h .network) (h .sound))),
       h .valid .period (s .args .call .line) (b .own-line),
     )
 
 returns : tie.Need-returns
 unfolding gapOfStop callsBefore keep periodOf
-returns c h b e =
+returns c h b periods-are e =
     let s = c .before .before .before in
-    ap (λ (ps : List ℕ). getD ps (s .args .call .line) 0) (h .periods-are)
+    ap (λ (ps : List ℕ). getD ps (s .args .call .line) 0) periods-are
     ∙ sym
     (ap (λ (k : ℕ). gapOfStop (netOf (h .network)) (s .args .sheet .now) (callsBefore (s .args .call .stop) (callsIn (h .network .list)) k ++ (s .args .call ∷ [])))
     (c .before .before .if1 .taken)
     ∙ held-period (h .network) (s .args .call .line) (omega (arith, b .own-line, held-lines (h .network) (h .sound))))
 
 least-gap-requires : tie.Need-least-gap-requires
-least-gap-requires c κs = c .before .pre
+least-gap-requires c κs = (c .before .pre .0, c .before .pre .1)
 
 returns-2 : tie.Need-returns-2
-returns-2 c h b e =
+returns-2 c h b periods-are e =
     let s = c .before .before in
     let cs = callsBefore (s .args .call .stop) (callsIn (h .network .list)) (s .args .before) in
     let p = pos-of-ne-zero (c .before .if1 .left) in

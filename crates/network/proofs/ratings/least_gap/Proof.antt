@@ -1,7 +1,7 @@
 -- `network::ratings::least_gap` meets its contract. The loop's invariant: the least of `lesser` and the gaps to the calls up to `from` is
 -- that of `least` and the gaps to all, in every network that the rows hold. Assumes nothing.
-use Prim.Native.Nat.{ℕ, _-_, _<_, _≤_, min}
-use mathlib.Core.Path.{_≡_, refl, sym, ap, ap₂, subst, _∙_}
+use Prim.Native.Nat.{ℕ, _+_, _*_, _-_, _<_, _≤_, min}
+use mathlib.Core.Path.{_≡_, refl, sym, ap, subst, _∙_}
 use mathlib.Core.List.{List, map}
 use mathlib.Core.Logic.{⊎-elim}
 use native.Mathlib.Omega.{arith}
@@ -10,14 +10,16 @@ use lib.ListN.{length, getD}
 use Rattle.network.specs.declared.Call.{Call}
 use Rattle.network.specs.declared.Network.{Network}
 use Rattle.network.specs.Lists.{keep}
+use Rattle.network.specs.Divisor.{gcd}
 use Rattle.network.specs.Gap.{gapOf}
-use Rattle.network.specs.Rating.{arrivalOf, periodOf, gapOfCalls}
-use Rattle.network.specs.Scan.{lastAt, callsBefore, leastFrom, LeadsBack, Rows, Beside}
+use Rattle.network.specs.Rating.{periodOf, gapOfCalls}
+use Rattle.network.specs.Scan.{lastAt, callsBefore, leastFrom, LeadsBack, DivisorsOf, gapBy, Rows, Beside}
 use Rattle.network.specs.Stored.{netOf, callIn, callsIn}
 use Rattle.network.specs.Valid.{noCall}
+use Rattle.network.proofs.Laws.Divisor.{gcd-pos-left}
 use Rattle.network.proofs.Laws.Packed.{call-in-row}
 use Rattle.network.proofs.Laws.Scan.{lastAt-le, lastAt-landed, step-back}
-use Rattle.network.proofs.Laws.Stored.{length-held, held-lines, held-period, held-call-line, held-period-pos}
+use Rattle.network.proofs.Laws.Stored.{length-held, held-lines, held-call-line}
 use Rattle.network.proofs.ratings.least_gap.Statement.{statement}
 use Rattle.network.proofs.ratings.least_gap.Tie as tie
 
@@ -33,12 +35,12 @@ OnTheWay network sheet call next least lesser from =
     ≡ leastFrom least (map (to network sheet call) (callsBefore (call .stop) (callsIn (network .list)) next)))
 
 abbrev Inv-loop : tie.InvT-loop
-Inv-loop periods list previous sheet call next least lesser₀ from₀ lesser from =
+Inv-loop list divisors previous sheet call next least lesser₀ from₀ lesser from =
     (from ≤ next)
-    × ((h : Rows periods list previous next) → Beside (h .network) sheet call next → OnTheWay (h .network) sheet call next least lesser from)
+    × ((h : Rows list divisors previous next) → Beside (h .network) sheet call next → OnTheWay (h .network) sheet call next least lesser from)
 
 abbrev μ-loop : tie.MeasureT-loop
-μ-loop periods list previous sheet call next least lesser₀ from₀ lesser from = from
+μ-loop list divisors previous sheet call next least lesser₀ from₀ lesser from = from
 
 -- At a turn of the loop
 module _ (c : tie.In-loop Inv-loop μ-loop) where
@@ -49,20 +51,21 @@ module _ (c : tie.In-loop Inv-loop μ-loop) where
   at = c .before .loop .from - 1
 
   abbrev Held : Type 0
-  Held = Rows (start .args .periods .now) (start .args .list .now) (start .args .previous .now) (start .args .next)
+  Held = Rows (start .args .list .now) (start .args .divisors .now) (start .args .previous .now) (start .args .next)
 
   -- the call that is looked at
   abbrev other : Call
   other = callIn (getD (start .args .list .now) at 0)
 
-  -- the gap from a call to this one, as the code computes it, and what it asks of that call
+  -- the divisor for a call and this one, the gap as the code computes it, and what that asks of the call
+  abbrev divisor : Call → ℕ
+  divisor k = getD (start .args .divisors .now) (k .line * 16 + start .args .call .line) 0
+
   abbrev between : Call → ℕ
-  between k =
-      gapOf (arrivalOf (start .args .sheet .now) k) (getD (start .args .periods .now) (k .line) 0)
-      (arrivalOf (start .args .sheet .now) (start .args .call)) (getD (start .args .periods .now) (start .args .call .line) 0)
+  between k = gapBy (divisor k) (start .args .sheet .now) k (start .args .call)
 
   abbrev Asked : Call → Type 0
-  Asked k = (k .line < 16) × (k .line < length (start .args .sheet .now)) × (0 < getD (start .args .periods .now) (k .line) 0)
+  Asked k = (k .line < 16) × (k .line < length (start .args .sheet .now)) × (0 < divisor k)
 
   -- in a network that the rows hold
   module _ (h : Held) (b : Beside (h .network) (start .args .sheet .now) (start .args .call) (start .args .next)) where
@@ -85,20 +88,24 @@ module _ (c : tie.In-loop Inv-loop μ-loop) where
     sheet-length : length (start .args .sheet .now) ≡ h .network .lines
     sheet-length = b .fits ∙ held-lines (h .network) (h .sound)
 
+    period-pos : 0 < getD (netOf (h .network) .periods) (other .line) 0
+    period-pos = h .valid .period-pos (other .line) (omega (arith, other-line, held-lines (h .network) (h .sound)))
+
+    divisor-is : divisor other ≡ gcd (getD (netOf (h .network) .periods) (other .line) 0) (getD (netOf (h .network) .periods) (start .args .call .line) 0)
+    unfolding DivisorsOf
+    divisor-is =
+        h .divisors-are (other .line) (start .args .call .line) (omega (arith, other-line, held-lines (h .network) (h .sound))) (b .own-line)
+
     asked : Asked other
     asked = (
       omega (arith, other-line, h .sound .lines),
       omega (arith, other-line, sheet-length),
-      subst (λ (ps : List ℕ). 0 < getD ps (other .line) 0) (sym (h .periods-are)) (held-period-pos (h .network) (h .sound) (h .valid) (other .line) other-line),
+      rw divisor-is (gcd-pos-left _ _ period-pos),
     )
 
     gap-is : between other ≡ to (h .network) (start .args .sheet .now) (start .args .call) other
-    unfolding gapOfCalls periodOf
-    gap-is =
-        sym
-        (ap₂ (λ (t u : ℕ). gapOf (arrivalOf (start .args .sheet .now) other) t (arrivalOf (start .args .sheet .now) (start .args .call)) u)
-        (held-period (h .network) (other .line) other-line ∙ ap (λ (ps : List ℕ). getD ps (other .line) 0) (sym (h .periods-are)))
-        (held-period (h .network) (start .args .call .line) own-line ∙ ap (λ (ps : List ℕ). getD ps (start .args .call .line) 0) (sym (h .periods-are))))
+    unfolding gapOfCalls gapOf gapBy periodOf
+    gap-is = ap (λ (g : ℕ). gapBy g (start .args .sheet .now) other (start .args .call)) divisor-is
 
     led-back : getD (start .args .previous .now) at 0 ≡ lastAt (start .args .call .stop) (callsIn (h .network .list)) at
     unfolding LeadsBack
