@@ -77,13 +77,17 @@ fn divisor_of(period: u16, other: u16) -> u32
     gcd(period as u32, other as u32)
 }
 
-// The greatest common divisors of the periods of each two lines, at 16 times the one line plus the other. Two lines may meet at many
-// stops, and the divisor takes longer than the rest of their gap. It is computed once for both orders of the two.
-pub fn divisor_row(periods: &[u16; Network::MAX_LINES], lines: usize) -> [u32; Network::PAIRS]
-    requires { ⌜ lines ≤ net.maxLines ⌝ }
-    ensures { λ r. ⌜ ((i j : ℕ) → i < lines → j < lines → getD r (i * net.maxLines + j) 0 ≡ divisor.gcd (getD (now (periods .entry)) i 0) (getD (now (periods .entry)) j 0)) ⌝ }
+// Writes the greatest common divisors of the periods of each two lines, at 16 times the one line plus the other. Two lines may meet at
+// many stops, and the divisor takes longer than the rest of their gap. It is computed once for both orders of the two. The row is lent,
+// since copying it back takes as long as reading a small file.
+pub fn write_divisors(
+    periods: &[u16; Network::MAX_LINES],
+    lines: usize,
+    row: &mut [u32; Network::PAIRS],
+)
+    requires { ⌜ (lines ≤ net.maxLines) × (length (now row) ≡ net.maxLines * net.maxLines) ⌝ }
+    ensures { λ _. ⌜ ((i j : ℕ) → i < lines → j < lines → getD (now (row .exit)) (i * net.maxLines + j) 0 ≡ divisor.gcd (getD (now (periods .entry)) i 0) (getD (now (periods .entry)) j 0)) ⌝ }
 {
-    let mut row = [0u32; Network::PAIRS];
     let places = lines * Network::MAX_LINES;
     for k in 0..places {
         let line = k / Network::MAX_LINES;
@@ -94,5 +98,4 @@ pub fn divisor_row(periods: &[u16; Network::MAX_LINES], lines: usize) -> [u32; N
             row[other * Network::MAX_LINES + line] = g;
         }
     }
-    row
 }

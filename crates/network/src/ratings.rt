@@ -3,9 +3,9 @@ use crate::Call;
 use crate::Network;
 use crate::Rating;
 use crate::gaps::arrival;
-use crate::gaps::divisor_row;
 use crate::gaps::gap;
 use crate::gaps::start_row;
+use crate::gaps::write_divisors;
 ghost use mathlib.Core.Path.{_≡_};
 ghost use mathlib.Core.List.{map, _++_, _∷_, []};
 ghost use Prim.Native.Nat.{ℕ, _+_, _*_, _<_, _≤_};
@@ -134,7 +134,8 @@ pub fn stop_gaps(
     requires { ⌜ scan.Lent (now periods) (now list) (length (now sheet)) calls ⌝ }
     ensures { λ r. ⌜ ((h : scan.Lent (now (periods .entry)) (now (list .entry)) (length (now (sheet .entry))) calls) → (stop : ℕ) → stop < net.stopCount → 0 < getD (now (counts .entry)) stop 0 → getD r stop 0 ≡ rating.stopGap (netOf (h .network)) (now (sheet .entry)) stop) ⌝ }
 {
-    let divisors = divisor_row(periods, sheet.len());
+    let mut divisors = [0u32; Network::PAIRS];
+    write_divisors(periods, sheet.len(), &mut divisors);
     let starts = start_row(periods, sheet);
     scanned_gaps(periods, list, calls, &divisors, &starts, counts)
 }

@@ -6,7 +6,7 @@ use mathlib.Core.List.{List}
 use native.Mathlib.Decide.{ℕ-discrete}
 use native.Mathlib.Nat.{le-antisymm}
 use native.Mathlib.Omega.{arith}
-use lib.ListN.{length, getD, set, length-set, replicate, length-replicate}
+use lib.ListN.{length, getD, set, length-set}
 use lib.Seq.{getD-set-same, getD-set-other}
 
 -- The pairs below place `k` of a row hold what `f` gives, at the places of both orders
@@ -33,8 +33,8 @@ kept row m v k h e = go (ℕ-discrete k m)
     go (no f) = getD-set-other row m k v 0 f ∙ e
 
 module _ (f : ℕ → ℕ → ℕ) where
-  pub paired-none : Paired f (replicate 256 0) 0
-  paired-none = record { row-length = length-replicate {A = ℕ} 256 0; both = λ i j h l k. absurd (omega arith) }
+  pub paired-none : (row : List ℕ) → length row ≡ 256 → Paired f row 0
+  paired-none row e = record { row-length = e; both = λ i j h l k. absurd (omega arith) }
 
   -- one pair more
   pub paired-next :
