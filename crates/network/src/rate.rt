@@ -38,14 +38,13 @@ pub fn rate(file: &[u8], sheet: &[i32]) -> RateAnswer
     ensures bytes { λ _. ⌜ IsBytes (now (file .entry)) ⌝ }
 {
     let step = read_network(file);
-    let network = step.network;
     let check = step.check;
     match check {
         Check::Refused { number, place } => RateAnswer::Refused { number, place },
         Check::Passes => {
-            if sheet.len() == network.lines {
-                let periods = network.periods;
-                let rating = sheet_rating(&periods, &network.list, network.calls, sheet);
+            if sheet.len() == step.network.lines {
+                let periods = step.network.periods;
+                let rating = sheet_rating(&periods, &step.network.list, step.network.calls, sheet);
                 return RateAnswer::Rated {
                     least: rating.least,
                     sum: rating.sum,

@@ -24,13 +24,13 @@ unfolding IsBytes
 bytes-here c i = c .before .shared-slice-known .given i .fits
 
 -- In the arm of `Passes` the file is accepted, as a valid network
-accepted-here : (c : tie.After-enum-told) → readFile (c .before .before .before .before .before .args .file .now) ≡ accepted (netOf (c .before .before .before .read-network .result .network))
+accepted-here : (c : tie.After-enum-told) → readFile (c .before .before .before .before .args .file .now) ≡ accepted (netOf (c .before .before .read-network .result .network))
 unfolding readingOf
 accepted-here c =
-    sym (c .before .before .before .read-network .ensures .1) ∙ ap (λ (k : Check). readingOf k (c .before .before .before .read-network .result .network)) (c .enum-told .given .1)
+    sym (c .before .before .read-network .ensures .1) ∙ ap (λ (k : Check). readingOf k (c .before .before .read-network .result .network)) (c .enum-told .given .1)
 
-valid-here : (c : tie.After-enum-told) → Valid (netOf (c .before .before .before .read-network .result .network))
-valid-here c = accepted-valid (c .before .before .before .before .before .args .file .now) _ (bytes-here (c .before .before .before)) (accepted-here c)
+valid-here : (c : tie.After-enum-told) → Valid (netOf (c .before .before .read-network .result .network))
+valid-here c = accepted-valid (c .before .before .before .before .args .file .now) _ (bytes-here (c .before .before)) (accepted-here c)
 
 read-network-requires : tie.Need-read-network-requires
 read-network-requires c κs = search needs
@@ -43,10 +43,10 @@ enum-told c = search needs
 
 -- what is lent in the network's place
 lent : (c : tie.Then1)
-    → let n = c .before .before .before .before .read-network .result .network in
-    Lent (n .periods) (n .list) (length (c .before .before .before .before .before .before .args .sheet .now)) (n .calls)
+    → let n = c .before .before .before .read-network .result .network in
+    Lent (n .periods) (n .list) (length (c .before .before .before .before .before .args .sheet .now)) (n .calls)
 lent c =
-    let r = c .before .before .before .before .read-network in
+    let r = c .before .before .before .read-network in
     record {
       network = r .result .network;
       sound = r .ensures .0;
@@ -65,35 +65,35 @@ unfolding rateAnswer ratingValues rateOutcome onSheet lent
 returns c =
     let i = c .before .before .before .before .before in
     let t = i .before in
-    let n = netOf (t .before .before .before .read-network .result .network) in
-    let sheet = t .before .before .before .before .before .args .sheet .now in
+    let n = netOf (t .before .before .read-network .result .network) in
+    let sheet = t .before .before .before .before .args .sheet .now in
     let fits : eqb (length sheet) (length (n .periods)) ≡ true = eq-eqb _ _ (lent i .lines-are) in (
       ap ratingValues (c .sheet-rating .ensures (lent i))
           ∙ sym (ap (λ (k : Reading). ratedOnSheet rating k sheet) (accepted-here t) ∙ ap (λ b. pick b (ratingValues (rating n sheet)) (refusal 15 0)) fits),
-      bytes-here (t .before .before .before),
+      bytes-here (t .before .before),
     )
 
 returns-2 : tie.Need-returns-2
 unfolding rateAnswer rateOutcome onSheet readingOf
 returns-2 c =
-    let r = c .before .before .before .before .read-network in (
+    let r = c .before .before .before .read-network in (
       sym
-          (ap (λ (k : Reading). ratedOnSheet rating k (c .before .before .before .before .before .before .args .sheet .now))
+          (ap (λ (k : Reading). ratedOnSheet rating k (c .before .before .before .before .before .args .sheet .now))
           (sym (r .ensures .1) ∙ ap (λ (k : Check). readingOf k (r .result .network)) (c .before .check .given .1))),
-      bytes-here (c .before .before .before .before),
+      bytes-here (c .before .before .before),
     )
 
 returns-3 : tie.Need-returns-3
 unfolding rateAnswer rateOutcome onSheet
 returns-3 c =
     let t = c .before in
-    let r = t .before .before .before .read-network in
+    let r = t .before .before .read-network in
     let n = netOf (r .result .network) in
-    let sheet = t .before .before .before .before .before .args .sheet .now in
+    let sheet = t .before .before .before .before .args .sheet .now in
     let unfit : eqb (length sheet) (length (n .periods)) ≡ false =
     ne-eqb _ _ (λ e. c .if1 .left (e ∙ held-lines (r .result .network) (r .ensures .0))) in (
       sym (ap (λ (k : Reading). ratedOnSheet rating k sheet) (accepted-here t) ∙ ap (λ b. pick b (ratingValues (rating n sheet)) (refusal 15 0)) unfit),
-      bytes-here (t .before .before .before),
+      bytes-here (t .before .before),
     )
 
 pub rate-spec : {M : Type 1} → statement M
