@@ -1,5 +1,5 @@
 -- How the search's code holds the network, a partial timetable and a walk: rows over the calls in line order, and what they stand for.
-use Prim.Native.Nat.{ℕ, zero, suc, _+_, _*_, _/_, _<_, _≤_}
+use Prim.Native.Nat.{ℕ, zero, suc, _+_, _*_, _/_, _%_, _<_, _≤_}
 use mathlib.Core.Path.{_≡_}
 use mathlib.Core.Bool.{Bool, true, _&&_, _||_}
 use mathlib.Core.List.{List, [], _∷_, _++_, map}
@@ -11,7 +11,7 @@ use Rattle.network.specs.declared.Call.{Call}
 use Rattle.network.specs.declared.Rating.{Rating}
 use Rattle.network.specs.Lists.{pick}
 use Rattle.network.specs.Divisor.{gcd}
-use Rattle.network.specs.Network.{Net, isServed, maxLines, maxPeriod, maxStop, maxOffset, stopCount}
+use Rattle.network.specs.Network.{Net, isServed, maxLines, maxPeriod, stopCount}
 use Rattle.network.specs.Rating.{gapOfCalls}
 use Rattle.network.specs.Scan.{LeadsBack, leastFrom, callsBefore}
 use Rattle.network.specs.Stored.{packed}
@@ -69,10 +69,18 @@ loweredAt l starts at value =
     (map (λ d. gapOfCalls (l .net) (map pos starts) d (getD (callsIn l) at noCall))
     (callsBefore (getD (callsIn l) at noCall .stop) (callsIn l) at))
 
--- Beside them the first call of each line
-pub record Laid (codes previous divisors first : List ℕ) : Type 0 where
+-- The place of a line's first call and the number of its starts, which stand in one number
+abbrev pub firstIn : ℕ → ℕ
+firstIn code = code % 512
+
+abbrev pub countIn : ℕ → ℕ
+countIn code = code / 512
+
+-- Beside them the first call of each line and the number of its starts
+pub record Laid (codes previous divisors lines : List ℕ) : Type 0 where
   pub linked : Linked codes previous divisors
-  pub first-of : (k : ℕ) → k ≤ length (linked .net .periods) → getD first k 0 ≡ length (byLine (linked .net .calls) k)
+  pub first-of : (k : ℕ) → k ≤ length (linked .net .periods) → firstIn (getD lines k 0) ≡ length (byLine (linked .net .calls) k)
+  pub count-of : (k : ℕ) → k < length (linked .net .periods) → countIn (getD lines k 0) ≡ getD (startCounts (linked .net .periods)) k 0
 
 -- The starts of the first `k` lines, as integers
 abbrev pub startsOf : ℕ → List ℕ → List ℤ
@@ -133,14 +141,14 @@ pub record GivenUp (n : Net) (cut : Cut) (line start : ℕ) (p r : Placed) : Typ
       isShort cut (upperRating n (cap n) (withStart line start p) .least) (upperRating n (cap n) (withStart line start p) .sum) ≡ true
 
 -- A try's line can be placed on the network that the rows hold
-abbrev pub MayPlace : (codes previous divisors first : List ℕ) → Try → Placed → Type 0
-MayPlace codes previous divisors first due p =
-    (l : Laid codes previous divisors first) × CanPlace (l .linked .net) (due .line) (due .start) p
+abbrev pub MayPlace : (codes previous divisors lines : List ℕ) → Try → Placed → Type 0
+MayPlace codes previous divisors lines due p =
+    (l : Laid codes previous divisors lines) × CanPlace (l .linked .net) (due .line) (due .start) p
 
 -- On each such network it is placed or given up
-abbrev pub PlacedOr : (codes previous divisors first : List ℕ) → Cut → Try → (p r : Placed) → Type 0
-PlacedOr codes previous divisors first cut due p r =
-    (l : Laid codes previous divisors first)
+abbrev pub PlacedOr : (codes previous divisors lines : List ℕ) → Cut → Try → (p r : Placed) → Type 0
+PlacedOr codes previous divisors lines cut due p r =
+    (l : Laid codes previous divisors lines)
     → CanPlace (l .linked .net) (due .line) (due .start) p
     → PlacedMore (l .linked .net) (due .line) (due .start) p r ⊎ GivenUp (l .linked .net) cut (due .line) (due .start) p r
 
@@ -177,22 +185,21 @@ abbrev pub eachOf : Task → Starts → Placed → Net → State → State
 eachOf task starts p n =
     eachStart (tryAt n (ruleOf (task .rule)) (task .budget) (starts .line) (startsOf (starts .line) (p .starts))) (starts .from) (starts .count)
 
--- A line can be tried: the lines before it are placed, and beside the rows stand the numbers of starts and the last line
-pub record CanTry (n : Net) (counts : List ℕ) (task : Task) (line : ℕ) (p : Placed) : Type 0 where
+-- A line can be tried: the lines before it are placed, and the task has the last line
+pub record CanTry (n : Net) (task : Task) (line : ℕ) (p : Placed) : Type 0 where
   pub stated : line < length (n .periods)
   pub last-of : task .last + 1 ≡ length (n .periods)
-  pub count-of : (i : ℕ) → i < length (n .periods) → getD counts i 0 ≡ getD (startCounts (n .periods)) i 0
   pub before : Represents n line p
 
 -- It can be tried on the network that the rows hold
-abbrev pub MayTry : (codes previous divisors first counts : List ℕ) → Task → ℕ → Placed → Type 0
-MayTry codes previous divisors first counts task line p =
-    (l : Laid codes previous divisors first) × CanTry (l .linked .net) counts task line p
+abbrev pub MayTry : (codes previous divisors lines : List ℕ) → Task → ℕ → Placed → Type 0
+MayTry codes previous divisors lines task line p =
+    (l : Laid codes previous divisors lines) × CanTry (l .linked .net) task line p
 
 -- On each such network a walk has become another by these steps
 abbrev pub Tried :
-    (codes previous divisors first counts : List ℕ) → Task → ℕ → Placed → (Net → State → State) → (w r : declared-walk.Walk) → Type 0
-Tried codes previous divisors first counts task line p steps w r =
-    (l : Laid codes previous divisors first)
-    → CanTry (l .linked .net) counts task line p
+    (codes previous divisors lines : List ℕ) → Task → ℕ → Placed → (Net → State → State) → (w r : declared-walk.Walk) → Type 0
+Tried codes previous divisors lines task line p steps w r =
+    (l : Laid codes previous divisors lines)
+    → CanTry (l .linked .net) task line p
     → stateOf (l .linked .net) r ≡ steps (l .linked .net) (stateOf (l .linked .net) w)

@@ -8,6 +8,7 @@ use crate::Walk;
 use crate::caps::cap_row;
 use crate::layout::by_line;
 use crate::layout::divisor_row;
+use crate::layout::line_row;
 use crate::layout::previous_row;
 use crate::layout::start_count_row;
 use crate::tries::try_starts;
@@ -69,6 +70,7 @@ fn searched(network: Network, budget: u32) -> Walk
     let previous = previous_row(by);
     let divisors = divisor_row(network);
     let counts = start_count_row(network);
+    let lines = line_row(&first, &counts, network.lines);
     let placed = unplaced(network);
     let walk = Walk {
         tries: 0,
@@ -90,8 +92,7 @@ fn searched(network: Network, budget: u32) -> Walk
         &codes,
         &previous,
         &divisors,
-        &first,
-        &counts,
+        &lines,
         task,
         starts,
         placed,

@@ -63,6 +63,9 @@ impl Ordered {
     // A place for each line, and one behind the last.
     pub const FIRSTS: usize = 17;
 
+    // More than any place of a call, so that the place of a line's first call and the number of its starts stand in one number.
+    pub const PLACES: u32 = 512;
+
     // More than any divisor, so that a divisor and its reciprocal stand in one number.
     pub const DIVISOR_LIMIT: u64 = 2048;
 

@@ -129,17 +129,17 @@ pub fn place(
     codes: &[u32; Network::MAX_CALLS],
     previous: &[u16; Network::MAX_CALLS],
     divisors: &[u64; Network::PAIRS],
-    first: &[u16; Ordered::FIRSTS],
+    lines: &[u32; Ordered::FIRSTS],
     cut: Cut,
     due: Try,
     placed: Placed,
 ) -> Placed
-    requires { ⌜ held.MayPlace (now codes) (now previous) (now divisors) (now first) due placed ⌝ }
-    ensures { λ r. ⌜ held.PlacedOr (now (codes .entry)) (now (previous .entry)) (now (divisors .entry)) (now (first .entry)) cut due placed r ⌝ }
+    requires { ⌜ held.MayPlace (now codes) (now previous) (now divisors) (now lines) due placed ⌝ }
+    ensures { λ r. ⌜ held.PlacedOr (now (codes .entry)) (now (previous .entry)) (now (divisors .entry)) (now (lines .entry)) cut due placed r ⌝ }
 {
     let line = due.line;
-    let begin = first[line] as usize;
-    let end = first[line + 1] as usize;
+    let begin = (lines[line] % Ordered::PLACES) as usize;
+    let end = (lines[line + 1] % Ordered::PLACES) as usize;
     let mut next = placed;
     next.starts[line] = due.start;
     for i in begin..end {

@@ -52,17 +52,16 @@ fn judge(
     codes: &[u32; Network::MAX_CALLS],
     previous: &[u16; Network::MAX_CALLS],
     divisors: &[u64; Network::PAIRS],
-    first: &[u16; Ordered::FIRSTS],
-    counts: &[u16; Network::MAX_LINES],
+    lines: &[u32; Ordered::FIRSTS],
     task: Task,
     due: Try,
     placed: Placed,
     walk: Walk,
 ) -> Walk
-    requires { ⌜ held.MayTry (now codes) (now previous) (now divisors) (now first) (now counts) task (due .line) placed ⌝ }
+    requires { ⌜ held.MayTry (now codes) (now previous) (now divisors) (now lines) task (due .line) placed ⌝ }
     requires { ⌜ (due .start < maxPeriod) × (walk .tries ≤ task .budget) ⌝ }
     ensures within { λ r. ⌜ r .tries ≤ task .budget ⌝ }
-    ensures tried { λ r. ⌜ held.Tried (now (codes .entry)) (now (previous .entry)) (now (divisors .entry)) (now (first .entry)) (now (counts .entry)) task (due .line) placed (held.oneOf task due placed) walk r ⌝ }
+    ensures tried { λ r. ⌜ held.Tried (now (codes .entry)) (now (previous .entry)) (now (divisors .entry)) (now (lines .entry)) task (due .line) placed (held.oneOf task due placed) walk r ⌝ }
 {
     let rule = task.rule;
     let best = walk.best;
@@ -79,7 +78,7 @@ fn judge(
     }
     next.tries = walk.tries + 1;
     let cut = cut_of(rule, best);
-    let made = place(codes, previous, divisors, first, cut, due, placed);
+    let made = place(codes, previous, divisors, lines, cut, due, placed);
     if falls_short(cut, made.least, made.sum) {
         return next;
     }
@@ -88,19 +87,9 @@ fn judge(
         let starts = Starts {
             line,
             from: 0,
-            count: counts[line],
+            count: (lines[line] / Ordered::PLACES) as u16,
         };
-        return try_starts(
-            codes,
-            previous,
-            divisors,
-            first,
-            counts,
-            task,
-            starts,
-            made,
-            next,
-        );
+        return try_starts(codes, previous, divisors, lines, task, starts, made, next);
     }
     with_best(next, made)
 }
@@ -111,17 +100,16 @@ pub fn try_starts(
     codes: &[u32; Network::MAX_CALLS],
     previous: &[u16; Network::MAX_CALLS],
     divisors: &[u64; Network::PAIRS],
-    first: &[u16; Ordered::FIRSTS],
-    counts: &[u16; Network::MAX_LINES],
+    lines: &[u32; Ordered::FIRSTS],
     task: Task,
     starts: Starts,
     placed: Placed,
     walk: Walk,
 ) -> Walk
-    requires { ⌜ held.MayTry (now codes) (now previous) (now divisors) (now first) (now counts) task (starts .line) placed ⌝ }
+    requires { ⌜ held.MayTry (now codes) (now previous) (now divisors) (now lines) task (starts .line) placed ⌝ }
     requires { ⌜ (starts .from + starts .count ≤ maxPeriod) × (walk .tries ≤ task .budget) ⌝ }
     ensures within { λ r. ⌜ r .tries ≤ task .budget ⌝ }
-    ensures tried { λ r. ⌜ held.Tried (now (codes .entry)) (now (previous .entry)) (now (divisors .entry)) (now (first .entry)) (now (counts .entry)) task (starts .line) placed (held.eachOf task starts placed) walk r ⌝ }
+    ensures tried { λ r. ⌜ held.Tried (now (codes .entry)) (now (previous .entry)) (now (divisors .entry)) (now (lines .entry)) task (starts .line) placed (held.eachOf task starts placed) walk r ⌝ }
 {
     if starts.count == 0 {
         return walk;
@@ -131,44 +119,14 @@ pub fn try_starts(
             line: starts.line,
             start: starts.from,
         };
-        return judge(
-            codes,
-            previous,
-            divisors,
-            first,
-            counts,
-            task,
-            due,
-            placed,
-            walk,
-        );
+        return judge(codes, previous, divisors, lines, task, due, placed, walk);
     }
     let half = starts.count / 2;
     let mut lower = starts;
     lower.count = half;
-    let between = try_starts(
-        codes,
-        previous,
-        divisors,
-        first,
-        counts,
-        task,
-        lower,
-        placed,
-        walk,
-    );
+    let next = try_starts(codes, previous, divisors, lines, task, lower, placed, walk);
     let mut upper = starts;
     upper.from = starts.from + half;
     upper.count = starts.count - half;
-    try_starts(
-        codes,
-        previous,
-        divisors,
-        first,
-        counts,
-        task,
-        upper,
-        placed,
-        between,
-    )
+    try_starts(codes, previous, divisors, lines, task, upper, placed, next)
 }

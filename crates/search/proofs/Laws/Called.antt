@@ -14,7 +14,7 @@ use Rattle.network.specs.declared.Network.{Network}
 use Rattle.network.specs.declared.Rating.{Rating}
 use Rattle.network.specs.Divisor.{gcd}
 use Rattle.network.specs.Lists.{pick, below, sumOf, leastOf, pairsOf}
-use Rattle.network.specs.Network.{Net, isServed, maxStop, maxOffset, maxPeriod}
+use Rattle.network.specs.Network.{Net, isServed, maxStop, maxPeriod}
 use Rattle.network.specs.Rating.{pairGaps, callsOfStop, servedList, counted, ratingBy, noRating}
 use Rattle.network.specs.Reading.{accepted}
 use Rattle.network.specs.Scan.{leastFrom, lastAt, LeadsBack, countedStops}
@@ -27,12 +27,12 @@ use Rattle.network.proofs.Laws.Stored.{held-lines, held-calls, held-period, hel
 use Rattle.network.proofs.Laws.Tables.{sumOf-append}
 use Rattle.search.specs.declared.Walk as code
 use Rattle.search.specs.Caps.{cap, placedCalls, upperValue, upperRating}
-use Rattle.search.specs.Held.{Represents, Laid, startsOf, stateOf, walkFrom, tryAt, withReciprocal}
+use Rattle.search.specs.Held.{Represents, Laid, firstIn, countIn, startsOf, stateOf, walkFrom, tryAt, withReciprocal}
 use Rattle.search.specs.Layout.{byLine, inLineOrder}
 use Rattle.search.specs.Search.{startCounts, aboveBest, searched, refusal, outcomeOf, searchOutcome, startRowAfter}
 use Rattle.search.specs.Walk.{State, atFirst, eachStart}
 use Rattle.search.proofs.Laws.CapScan.{cap-le}
-use Rattle.search.proofs.Laws.Layout.{keep-none, length-byLine-all, byLine-line-lt}
+use Rattle.search.proofs.Laws.Layout.{keep-none, length-byLine-all}
 use Rattle.search.proofs.Laws.Linked.{byLine-all}
 use Rattle.search.proofs.Laws.Tries.{walkFrom-next}
 
@@ -153,10 +153,11 @@ module _
   codes-are i h = sym (by-sound .packs i h) ∙ ap packed (sym (call-in-row (by .list) i))
 
   module _
-      (previous divisors first : List ℕ)
+      (previous divisors lines : List ℕ)
       (leads : LeadsBack previous (callsIn (by .list)) (by .calls))
       (divisor-of : (i j : ℕ) → i < 16 → j < 16 → getD divisors (i * 16 + j) 0 ≡ withReciprocal (gcd (getD (network .periods) j 0) (getD (network .periods) i 0)))
-      (first-of : (k : ℕ) → k ≤ length (netOf network .periods) → getD first k 0 ≡ length (byLine (netOf network .calls) k)) where
+      (first-of : (k : ℕ) → k ≤ length (netOf network .periods) → firstIn (getD lines k 0) ≡ length (byLine (netOf network .calls) k))
+      (count-of : (k : ℕ) → k < length (netOf network .periods) → countIn (getD lines k 0) ≡ getD (startCounts (netOf network .periods)) k 0) where
     pub leads-in-order : LeadsBack previous inOrder (length (netOf network .calls))
     unfolding LeadsBack
     leads-in-order = leads-same previous (callsIn (by .list)) inOrder (length (netOf network .calls)) call-at (λ j b. leads j (omega (arith, b, count-is)))
@@ -172,7 +173,7 @@ module _
         (ap₂ (λ (a b : ℕ). withReciprocal (gcd a b)) (held-period network j (omega (arith, k, held-lines network sound))) (held-period network i (omega (arith, h, held-lines network sound))))
 
     -- they hold the network
-    abbrev pub laid : Laid (by .list) previous divisors first
+    abbrev pub laid : Laid (by .list) previous divisors lines
     laid =
         record {
           linked =
@@ -184,6 +185,7 @@ module _
                 divisor-of = divisor-in-order;
               };
           first-of = first-of;
+          count-of = count-of;
         }
 
 -- ---- the walk

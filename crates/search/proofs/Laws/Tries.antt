@@ -125,11 +125,11 @@ module _ (n : Net) (rule : Rule) (budget : ℕ) where
 
 -- ---- the code's try, by the partial timetable that it makes
 
-pub can-place : {n : Net} {counts : List ℕ} {task : Task} {line : ℕ} {p : Placed} → CanTry n counts task line p
+pub can-place : {n : Net} {task : Task} {line : ℕ} {p : Placed} → CanTry n task line p
     → (start : ℕ) → start < maxPeriod → CanPlace n line start p
 can-place can start low = record { stated = can .stated; start-low = low; before = can .before }
 
-module _ {n : Net} {counts : List ℕ} {task : Task} {line : ℕ} {p : Placed} (can : CanTry n counts task line p)
+module _ {n : Net} {task : Task} {line : ℕ} {p : Placed} (can : CanTry n task line p)
     {start : ℕ} {r : Placed} (more-placed : PlacedMore n line start p r) where
   abbrev rule : Rule
   rule = ruleOf (task .rule)
@@ -137,18 +137,17 @@ module _ {n : Net} {counts : List ℕ} {task : Task} {line : ℕ} {p : Placed} (
   made-is : rated (r .least) (r .sum) ≡ upperRating n (cap n) (withStart line start p)
   made-is = more-placed .one-more .rating-of ∙ ap (upperRating n (cap n)) (more-placed .appended)
 
-  pub can-try-next : line < task .last → CanTry n counts task (line + 1) r
+  pub can-try-next : line < task .last → CanTry n task (line + 1) r
   can-try-next l =
       record {
         stated = omega (arith, l, can .last-of);
         last-of = can .last-of;
-        count-of = can .count-of;
         before = more-placed .one-more;
       }
 
   -- the starts of the next line are few
-  pub next-few : Valid n → line < task .last → getD counts (line + 1) 0 ≤ maxPeriod
-  next-few v l = rw (can .count-of (line + 1) (omega (arith, l, can .last-of))) (startCounts-low n v (line + 1) (omega (arith, l, can .last-of)))
+  pub next-few : Valid n → line < task .last → getD (startCounts (n .periods)) (line + 1) 0 ≤ maxPeriod
+  next-few v l = startCounts-low n v (line + 1) (omega (arith, l, can .last-of))
 
   module _ (w : code.Walk) (e : w .stopped ≡ false) (o : (rule .endsAtFirst && w .best .some) ≡ false) (b : w .tries ≡ task .budget → ⊥) where
     abbrev made : code.Walk
@@ -163,13 +162,14 @@ module _ {n : Net} {counts : List ℕ} {task : Task} {line : ℕ} {p : Placed} (
     judged-dropped f = try-dropped n rule (task .budget) line (startsOf line (p .starts)) start w e o b (test-is f)
 
     -- sent to the next line
-    pub judged-next : rule .drops (rated (r .least) (r .sum)) (w .best) ≡ false → line < task .last → (res : code.Walk)
-        → stateOf n res
-        ≡ eachStart (tryAt n rule (task .budget) (line + 1) (startsOf (line + 1) (r .starts))) 0 (getD counts (line + 1) 0) (stateOf n made)
+    pub judged-next : rule .drops (rated (r .least) (r .sum)) (w .best) ≡ false → line < task .last
+        → (count : ℕ) → count ≡ getD (startCounts (n .periods)) (line + 1) 0
+        → (res : code.Walk)
+        → stateOf n res ≡ eachStart (tryAt n rule (task .budget) (line + 1) (startsOf (line + 1) (r .starts))) 0 count (stateOf n made)
         → stateOf n res ≡ tryAt n rule (task .budget) line (startsOf line (p .starts)) start (stateOf n w)
-    judged-next f l res h =
+    judged-next f l count count-is res h =
         h
-        ∙ ap (λ (count : ℕ). eachStart (tryAt n rule (task .budget) (line + 1) (startsOf (line + 1) (r .starts))) 0 count (stateOf n made)) (can .count-of (line + 1) (omega (arith, l, can .last-of)))
+        ∙ ap (λ (count : ℕ). eachStart (tryAt n rule (task .budget) (line + 1) (startsOf (line + 1) (r .starts))) 0 count (stateOf n made)) count-is
         ∙ sym (walkFrom-next n rule (task .budget) (line + 1) (startsOf (line + 1) (r .starts)) (stateOf n made) (omega (arith, l, can .last-of)))
         ∙ ap (λ (starts : List ℤ). walkFrom n rule (task .budget) (line + 1) starts (stateOf n made)) (more-placed .appended)
         ∙ ap (λ (k : ℕ). walkFrom n rule (task .budget) k (withStart line start p) (stateOf n made)) (add-one line)
@@ -186,7 +186,7 @@ module _ {n : Net} {counts : List ℕ} {task : Task} {line : ℕ} {p : Placed} (
 
 -- ---- the same where a placing may have been given up
 
-module _ {n : Net} {counts : List ℕ} {task : Task} {line : ℕ} {p : Placed} (can : CanTry n counts task line p)
+module _ {n : Net} {task : Task} {line : ℕ} {p : Placed} (can : CanTry n task line p)
     {cut : Cut} {start : ℕ} {r : Placed} where
   -- a placing that stands was not
   pub placed-of-stands : PlacedMore n line start p r ⊎ GivenUp n cut line start p r → isShort cut (r .least) (r .sum) ≡ false → PlacedMore n line start p r

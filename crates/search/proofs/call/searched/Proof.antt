@@ -1,6 +1,7 @@
 -- `search::call::searched` meets its contract: the rows in line order hold the network, no line is placed, and the tries of the first line
 -- by document 01's rule are the walk. Assumes nothing.
 use Prim.Native.Nat.{_-_}
+use mathlib.Core.Path.{_∙_}
 use native.Mathlib.Omega.{arith}
 use borrow.Author.Needs.{needs}
 use lib.ListN.{replicate}
@@ -11,26 +12,31 @@ use Rattle.network.proofs.Laws.Stored.{held-lines}
 use Rattle.search.specs.declared.Rule.the-variants as rules
 use Rattle.search.specs.declared.Task.{Task}
 use Rattle.search.specs.Held.{Laid, CanTry, ruleOf}
+use Rattle.search.proofs.Laws.Layout.{length-byLine-le}
+use Rattle.search.proofs.Laws.Tries.{startCounts-low}
 use Rattle.search.proofs.Laws.Called.{stops-low, laid, searched-by-tries}
 use Rattle.search.proofs.call.searched.Statement.{statement}
 use Rattle.search.proofs.call.searched.Tie as tie
 
 -- Before the tries: the network, the rows that hold it, and the first line that can be tried
-module _ (c : tie.After-counts) where
+module _ (c : tie.After-lines) where
   abbrev with-by-line : tie.After-by-line
-  with-by-line = c .before .before .before .before .before .before .before .before .before .before .before .before .before
+  with-by-line = c .before .before .before .before .before .before .before .before .before .before .before .before .before .before .before
 
   abbrev with-previous : tie.After-previous-row
-  with-previous = c .before .before .before .before .before .before .before .before .before
+  with-previous = c .before .before .before .before .before .before .before .before .before .before .before
 
   abbrev with-divisors : tie.After-divisor-row
-  with-divisors = c .before .before .before .before .before .before .before .before
+  with-divisors = c .before .before .before .before .before .before .before .before .before .before
 
   abbrev with-counts : tie.After-start-count-row
-  with-counts = c .before .before .before .before .before .before .before
+  with-counts = c .before .before .before .before .before .before .before .before .before
+
+  abbrev with-lines : tie.After-line-row
+  with-lines = c .before .before .before .before .before .before
 
   abbrev with-placed : tie.After-unplaced
-  with-placed = c .before .before .before .before .before .before
+  with-placed = c .before .before .before .before .before
 
   abbrev start : tie.Start
   start = with-by-line .before
@@ -44,25 +50,25 @@ module _ (c : tie.After-counts) where
   abbrev valid : Valid (netOf network)
   valid = start .pre .1
 
-  abbrev rows : Laid (with-by-line .by-line .result .network .list) (with-previous .previous-row .result) (with-divisors .divisor-row .result) (with-by-line .by-line .result .first)
+  abbrev rows : Laid (with-by-line .by-line .result .network .list) (with-previous .previous-row .result) (with-divisors .divisor-row .result) (with-lines .line-row .result)
   rows =
       laid network (with-by-line .by-line .result .network) sound valid (with-by-line .by-line .ensures .0 .0) (with-by-line .by-line .ensures .0 .1)
       (with-previous .previous-row .result)
       (with-divisors .divisor-row .result)
-      (with-by-line .by-line .result .first)
+      (with-lines .line-row .result)
       (with-previous .previous-row .ensures)
       (with-divisors .divisor-row .ensures)
-      (with-by-line .by-line .ensures .1)
+      (λ k h. with-lines .line-row .ensures .0 k (omega (arith, h, held-lines network sound)) ∙ with-by-line .by-line .ensures .1 k h)
+      (λ k h. with-lines .line-row .ensures .1 k (omega (arith, h, held-lines network sound)) ∙ with-counts .start-count-row .ensures k h)
 
   abbrev task : Task
   task = record { rule = rules.AboveBest; budget = start .args .budget; last = network .lines - 1 }
 
-  can : CanTry (netOf network) (with-counts .start-count-row .result) task 0 (with-placed .unplaced .result)
+  can : CanTry (netOf network) task 0 (with-placed .unplaced .result)
   can =
       record {
         stated = valid .some-line;
         last-of = omega (arith, valid .some-line, held-lines network sound);
-        count-of = with-counts .start-count-row .ensures;
         before = with-placed .unplaced .ensures;
       }
 
@@ -81,12 +87,34 @@ divisor-row-requires c κs = search needs
 start-count-row-requires : tie.Need-start-count-row-requires
 start-count-row-requires c κs = search needs
 
+line-row-requires : tie.Need-line-row-requires
+line-row-requires c κs =
+    let b = c .before .before .before .before .before .before .before .before in
+    let n = b .before .args .network in
+    let sound = b .before .pre .0 in
+    let valid = b .before .pre .1 in (
+      sound .lines,
+      λ k h.
+          omega (
+            arith,
+            b .by-line .ensures .1 k (omega (arith, h, held-lines n sound)),
+            length-byLine-le (netOf n .calls) k,
+            valid .calls,
+          ),
+      λ k h.
+          omega (
+            arith,
+            c .before .before .start-count-row .ensures k (omega (arith, h, held-lines n sound)),
+            startCounts-low (netOf n) valid k (omega (arith, h, held-lines n sound)),
+          ),
+    )
+
 unplaced-requires : tie.Need-unplaced-requires
 unplaced-requires c κs = search needs
 
-sub-t19 : tie.Need-sub-t19
-sub-t19 c =
-    let s = c .before .before .before .before .before .before .before .before .before in
+sub-t23 : tie.Need-sub-t23
+sub-t23 c =
+    let s = c .before .before .before .before .before .before .before .before .before .before .before .before in
     omega (arith, s .pre .1 .some-line, held-lines (s .args .network) (s .pre .0))
 
 try-starts-requires : tie.Need-try-starts-requires
@@ -106,7 +134,8 @@ searched-spec =
     previous-row-requires
     divisor-row-requires
     start-count-row-requires
+    line-row-requires
     unplaced-requires
-    sub-t19
+    sub-t23
     try-starts-requires
     returns)

@@ -16,7 +16,7 @@ use Rattle.network.specs.Scan.{leastFrom, callsBefore}
 use Rattle.network.specs.Valid.{noCall}
 use Rattle.search.specs.declared.Placed.{Placed}
 use Rattle.search.specs.Layout.{byLine}
-use Rattle.search.specs.Held.{Laid, callsIn, isShort, CanPlace, startsOf, Represents}
+use Rattle.search.specs.Held.{Laid, firstIn, callsIn, isShort, CanPlace, startsOf, Represents}
 use Rattle.search.proofs.Laws.Codes.{stopIn}
 use Rattle.search.proofs.Laws.Layout.{length-byLine-le}
 use Rattle.search.proofs.Laws.Placing.{length-byLine-grows}
@@ -37,20 +37,20 @@ use Rattle.search.proofs.place.place.Statement.{statement}
 use Rattle.search.proofs.place.place.Tie as tie
 
 abbrev Inv-loop : tie.InvT-loop
-Inv-loop codes previous divisors first cut line begin end next₀ i₀ next i =
+Inv-loop codes previous divisors lines cut line begin end next₀ i₀ next i =
     (i ≤ end)
     × (next .starts ≡ next₀ .starts)
-    × ((l : Laid codes previous divisors first)
+    × ((l : Laid codes previous divisors lines)
     → Lowering (l .linked .net) (map pos (next₀ .starts)) (next₀ .values) (next₀ .least) (next₀ .sum) begin
     → line < length (l .linked .net .periods)
     → Lowering (l .linked .net) (map pos (next₀ .starts)) (next .values) (next .least) (next .sum) i)
 
 abbrev μ-loop : tie.MeasureT-loop
-μ-loop codes previous divisors first cut line begin end next₀ i₀ next i = end - i
+μ-loop codes previous divisors lines cut line begin end next₀ i₀ next i = end - i
 
 -- At the start: the network that is known to be held, and what begins the loop for any other
 module _ (s : tie.Start Inv-loop μ-loop) where
-  abbrev rows : Laid (s .args .codes .now) (s .args .previous .now) (s .args .divisors .now) (s .args .first .now)
+  abbrev rows : Laid (s .args .codes .now) (s .args .previous .now) (s .args .divisors .now) (s .args .lines .now)
   rows = s .pre .0
 
   can : CanPlace (rows .linked .net) (s .args .due .line) (s .args .due .start) (s .args .placed)
@@ -62,23 +62,23 @@ module _ (s : tie.Start Inv-loop μ-loop) where
   abbrev starts : List ℕ
   starts = set (s .args .placed .starts) (s .args .due .line) (s .args .due .start)
 
-  begin-is : getD (s .args .first .now) (s .args .due .line) 0 ≡ length (byLine (rows .linked .net .calls) (s .args .due .line))
+  begin-is : firstIn (getD (s .args .lines .now) (s .args .due .line) 0) ≡ length (byLine (rows .linked .net .calls) (s .args .due .line))
   begin-is = rows .first-of (s .args .due .line) (omega (arith, can .stated))
 
-  end-is : getD (s .args .first .now) (s .args .due .line + 1) 0 ≡ length (byLine (rows .linked .net .calls) (s .args .due .line + 1))
+  end-is : firstIn (getD (s .args .lines .now) (s .args .due .line + 1) 0) ≡ length (byLine (rows .linked .net .calls) (s .args .due .line + 1))
   end-is = rows .first-of (s .args .due .line + 1) (omega (arith, can .stated))
 
-  end-low : getD (s .args .first .now) (s .args .due .line + 1) 0 ≤ length (rows .linked .net .calls)
+  end-low : firstIn (getD (s .args .lines .now) (s .args .due .line + 1) 0) ≤ length (rows .linked .net .calls)
   end-low = rw end-is (length-byLine-le (rows .linked .net .calls) (s .args .due .line + 1))
 
-  begin-end : getD (s .args .first .now) (s .args .due .line) 0 ≤ getD (s .args .first .now) (s .args .due .line + 1) 0
+  begin-end : firstIn (getD (s .args .lines .now) (s .args .due .line) 0) ≤ firstIn (getD (s .args .lines .now) (s .args .due .line + 1) 0)
   begin-end = rw (begin-is, end-is) (length-byLine-grows (rows .linked .net .calls) (s .args .due .line))
 
   -- for any network that the rows hold and on which the line can be placed
   begins :
-      (l : Laid (s .args .codes .now) (s .args .previous .now) (s .args .divisors .now) (s .args .first .now))
+      (l : Laid (s .args .codes .now) (s .args .previous .now) (s .args .divisors .now) (s .args .lines .now))
       → CanPlace (l .linked .net) (s .args .due .line) (s .args .due .start) (s .args .placed)
-      → Lowering (l .linked .net) (map pos starts) (s .args .placed .values) (s .args .placed .least) (s .args .placed .sum) (getD (s .args .first .now) (s .args .due .line) 0)
+      → Lowering (l .linked .net) (map pos starts) (s .args .placed .values) (s .args .placed .least) (s .args .placed .sum) (firstIn (getD (s .args .lines .now) (s .args .due .line) 0))
   begins l c =
       rw (l .first-of (s .args .due .line) (omega (arith, c .stated)))
       (lowering-first (l .linked .net) (l .linked .valid) (s .args .due .line) (s .args .due .start) (s .args .placed) (c .stated) (c .before))
@@ -99,8 +99,8 @@ module _ (t : tie.In-loop Inv-loop μ-loop) where
 
   -- for any network that the rows hold
   module _
-      (l : Laid (start .args .codes .now) (start .args .previous .now) (start .args .divisors .now) (start .args .first .now))
-      (begun : Lowering (l .linked .net) (map pos (starts start)) (start .args .placed .values) (start .args .placed .least) (start .args .placed .sum) (getD (start .args .first .now) (start .args .due .line) 0))
+      (l : Laid (start .args .codes .now) (start .args .previous .now) (start .args .divisors .now) (start .args .lines .now))
+      (begun : Lowering (l .linked .net) (map pos (starts start)) (start .args .placed .values) (start .args .placed .least) (start .args .placed .sum) (firstIn (getD (start .args .lines .now) (start .args .due .line) 0)))
       (stated : start .args .due .line < length (l .linked .net .periods)) where
     in-file : i < length (l .linked .net .calls)
     in-file =
@@ -149,8 +149,8 @@ module _ (c : tie.After-lowered Inv-loop μ-loop) where
       (known-now turn) (in-order turn (rows s) b h) (stop turn) (here turn (rows s) b h) (known-low turn) (served turn (rows s) b h)
 
   module _
-      (l : Laid (start turn .args .codes .now) (start turn .args .previous .now) (start turn .args .divisors .now) (start turn .args .first .now))
-      (begun : Lowering (l .linked .net) (map pos (starts (start turn))) (start turn .args .placed .values) (start turn .args .placed .least) (start turn .args .placed .sum) (getD (start turn .args .first .now) (start turn .args .due .line) 0))
+      (l : Laid (start turn .args .codes .now) (start turn .args .previous .now) (start turn .args .divisors .now) (start turn .args .lines .now))
+      (begun : Lowering (l .linked .net) (map pos (starts (start turn))) (start turn .args .placed .values) (start turn .args .placed .least) (start turn .args .placed .sum) (firstIn (getD (start turn .args .lines .now) (start turn .args .due .line) 0)))
       (stated : start turn .args .due .line < length (l .linked .net .periods)) where
     value-is :
         c .lowered .result

@@ -5,9 +5,10 @@ use mathlib.Core.Path.{sym, ap, _∙_}
 use native.Mathlib.Omega.{arith}
 use borrow.Fn.Kinds.{In}
 use borrow.Fn.PlainCycle.{Measures, is, falls, and}
+use lib.ListN.{length, getD}
 use Rattle.search.specs.declared.Walk as code
-use Rattle.search.specs.Held.{stateOf}
-use Rattle.search.proofs.Laws.Tries.{try-stopped, try-ended, try-at-budget, can-place, can-try-next, placed-of-stands, dropped-or-given-up}
+use Rattle.search.specs.Held.{stateOf, countIn}
+use Rattle.search.proofs.Laws.Tries.{startCounts-low, try-stopped, try-ended, try-at-budget, can-place, can-try-next, placed-of-stands, dropped-or-given-up}
 use Rattle.search.proofs.Laws.Tries.{judged-next, judged-best, next-few, halves, none-left, one-left}
 use Rattle.search.proofs.tries.judge.Reads as judge
 use Rattle.search.proofs.tries.judge.Kinds as judge-kinds
@@ -23,25 +24,25 @@ use Rattle.search.proofs.tries.with_best.Reads as with-best-reads
 use Rattle.search.proofs.tries.+judge+try_starts.{statement}
 use Rattle.search.proofs.tries.+judge+try_starts.Tie.{close}
 
-abbrev μ-judge : Measures 5 judge-kinds.ps ℕ
-μ-judge κs a = (a .1 .1 .1 .1 .1 .0 .last - a .1 .1 .1 .1 .1 .1 .0 .line) * 2000
+abbrev μ-judge : Measures 4 judge-kinds.ps ℕ
+μ-judge κs a = (a .1 .1 .1 .1 .0 .last - a .1 .1 .1 .1 .1 .0 .line) * 2000
 
-abbrev μ-try-starts : Measures 5 try-starts-kinds.ps ℕ
-μ-try-starts κs a = (a .1 .1 .1 .1 .1 .0 .last - a .1 .1 .1 .1 .1 .1 .0 .line) * 2000 + a .1 .1 .1 .1 .1 .1 .0 .count + 1
+abbrev μ-try-starts : Measures 4 try-starts-kinds.ps ℕ
+μ-try-starts κs a = (a .1 .1 .1 .1 .0 .last - a .1 .1 .1 .1 .1 .0 .line) * 2000 + a .1 .1 .1 .1 .1 .0 .count + 1
 
-abbrev judge-at : ℕ → In 5 judge-kinds.ps
-judge-at t = and 5 judge-kinds.ps (is 5 judge-kinds.ps μ-judge t) judge.Pre
+abbrev judge-at : ℕ → In 4 judge-kinds.ps
+judge-at t = and 4 judge-kinds.ps (is 4 judge-kinds.ps μ-judge t) judge.Pre
 
-abbrev judge-below : ℕ → In 5 judge-kinds.ps
-judge-below t = and 5 judge-kinds.ps (falls 5 judge-kinds.ps _<_ μ-judge t) judge.Pre
+abbrev judge-below : ℕ → In 4 judge-kinds.ps
+judge-below t = and 4 judge-kinds.ps (falls 4 judge-kinds.ps _<_ μ-judge t) judge.Pre
 
-abbrev try-starts-at : ℕ → In 5 try-starts-kinds.ps
+abbrev try-starts-at : ℕ → In 4 try-starts-kinds.ps
 try-starts-at t =
-    and 5 try-starts-kinds.ps (is 5 try-starts-kinds.ps μ-try-starts t) try-starts.Pre
+    and 4 try-starts-kinds.ps (is 4 try-starts-kinds.ps μ-try-starts t) try-starts.Pre
 
-abbrev try-starts-below : ℕ → In 5 try-starts-kinds.ps
+abbrev try-starts-below : ℕ → In 4 try-starts-kinds.ps
 try-starts-below t =
-    and 5 try-starts-kinds.ps (falls 5 try-starts-kinds.ps _<_ μ-try-starts t) try-starts.Pre
+    and 4 try-starts-kinds.ps (falls 4 try-starts-kinds.ps _<_ μ-try-starts t) try-starts.Pre
 
 judge-returns : (t : ℕ) → judge-lts.Need-returns (
   has-ended-reads.Asked,
@@ -216,7 +217,7 @@ judge-add-line : (t : ℕ) → judge-lts.Need-add-line (
 ) (judge-at t) judge.Post
 judge-add-line t c = let s = c .before .before .before .before .before .before .before .before .before .before .before .before .before .before .before .before in omega (arith, s .pre .1 .0 .1 .stated, s .pre .1 .0 .1 .last-of, c .before .if5 .taken, s .pre .1 .0 .0 .linked .valid .lines)
 
-judge-mul-t20 : (t : ℕ) → judge-lts.Need-mul-t20 (
+judge-mul-t19 : (t : ℕ) → judge-lts.Need-mul-t19 (
   has-ended-reads.Asked,
   has-ended-reads.Learnt,
   cut-of-reads.Asked,
@@ -230,9 +231,9 @@ judge-mul-t20 : (t : ℕ) → judge-lts.Need-mul-t20 (
   with-best-reads.Asked,
   with-best-reads.Learnt,
 ) (judge-at t) judge.Post
-judge-mul-t20 t c = let s = c .before .before .before .before .before .before .before .before .before .before .before .before .before .before .before .before in omega (arith, s .pre .1 .0 .1 .stated, s .pre .1 .0 .1 .last-of, c .before .if5 .taken, s .pre .1 .0 .0 .linked .valid .lines)
+judge-mul-t19 t c = let s = c .before .before .before .before .before .before .before .before .before .before .before .before .before .before .before .before in omega (arith, s .pre .1 .0 .1 .stated, s .pre .1 .0 .1 .last-of, c .before .if5 .taken, s .pre .1 .0 .0 .linked .valid .lines)
 
-judge-element-copy-out-t23 : (t : ℕ) → judge-lts.Need-element-copy-out-t23 (
+judge-element-copy-out-t22 : (t : ℕ) → judge-lts.Need-element-copy-out-t22 (
   has-ended-reads.Asked,
   has-ended-reads.Learnt,
   cut-of-reads.Asked,
@@ -246,7 +247,26 @@ judge-element-copy-out-t23 : (t : ℕ) → judge-lts.Need-element-copy-out-t23 (
   with-best-reads.Asked,
   with-best-reads.Learnt,
 ) (judge-at t) judge.Post
-judge-element-copy-out-t23 t c = let s = c .before .before .before .before .before .before .before .before .before .before .before .before .before .before .before .before in omega (arith, s .pre .1 .0 .1 .stated, s .pre .1 .0 .1 .last-of, c .before .if5 .taken, s .pre .1 .0 .0 .linked .valid .lines)
+judge-element-copy-out-t22 t c = let s = c .before .before .before .before .before .before .before .before .before .before .before .before .before .before .before .before in omega (arith, s .pre .1 .0 .1 .stated, s .pre .1 .0 .1 .last-of, c .before .if5 .taken, s .pre .1 .0 .0 .linked .valid .lines)
+
+judge-cast-t24 : (t : ℕ) → judge-lts.Need-cast-t24 (
+  has-ended-reads.Asked,
+  has-ended-reads.Learnt,
+  cut-of-reads.Asked,
+  cut-of-reads.Learnt,
+  place-reads.Asked,
+  place-reads.Learnt,
+  falls-short-reads.Asked,
+  falls-short-reads.Learnt,
+  try-starts-below t,
+  try-starts.Post,
+  with-best-reads.Asked,
+  with-best-reads.Learnt,
+) (judge-at t) judge.Post
+judge-cast-t24 t c = let s = c .before .before .before .before .before .before .before .before .before .before .before .before .before .before .before .before .before in
+    let l = s .pre .1 .0 .0 in
+    let next : s .args .due .line + 1 < length (l .linked .net .periods) = omega (arith, s .pre .1 .0 .1 .last-of, c .before .before .if5 .taken) in
+    omega (arith, l .count-of (s .args .due .line + 1) next, startCounts-low (l .linked .net) (l .linked .valid) (s .args .due .line + 1) next)
 
 judge-try-starts-requires : (t : ℕ) → judge-lts.Need-try-starts-requires (
   has-ended-reads.Asked,
@@ -263,13 +283,15 @@ judge-try-starts-requires : (t : ℕ) → judge-lts.Need-try-starts-requires (
   with-best-reads.Learnt,
 ) (judge-at t) judge.Post
 judge-try-starts-requires t c κs = let s = c .before .before .before .before .before .before .before .before .before .before .before .before .before .before .before .before .before in
-    let more = placed-of-stands (s .pre .1 .0 .1) (c .before .before .before .before .before .before .before .place .ensures (s .pre .1 .0 .0) (can-place (s .pre .1 .0 .1) (s .args .due .start) (s .pre .1 .1 .0)))
+    let l = s .pre .1 .0 .0 in
+    let more = placed-of-stands (s .pre .1 .0 .1) (c .before .before .before .before .before .before .before .place .ensures l (can-place (s .pre .1 .0 .1) (s .args .due .start) (s .pre .1 .1 .0)))
     (sym (c .before .before .before .before .before .before .falls-short .ensures) ∙ c .before .before .before .before .before .if4 .left) in
-    let few = next-few (s .pre .1 .0 .1) more (s .pre .1 .0 .0 .linked .valid) (c .before .before .if5 .taken) in (
-      omega (arith, s .pre .0, few, c .before .before .if5 .taken),
+    let few = next-few (s .pre .1 .0 .1) more (l .linked .valid) (c .before .before .if5 .taken) in
+    let count = l .count-of (s .args .due .line + 1) (omega (arith, s .pre .1 .0 .1 .last-of, c .before .before .if5 .taken)) in (
+      omega (arith, s .pre .0, few, count, c .before .before .if5 .taken),
       (
-        (s .pre .1 .0 .0, can-try-next (s .pre .1 .0 .1) more (c .before .before .if5 .taken)),
-        (omega (arith, few), omega (arith, s .pre .1 .1 .1, c .before .before .before .before .before .before .before .before .before .before .if3 .left)),
+        (l, can-try-next (s .pre .1 .0 .1) more (c .before .before .if5 .taken)),
+        (omega (arith, few, count), omega (arith, s .pre .1 .1 .1, c .before .before .before .before .before .before .before .before .before .before .if3 .left)),
       ),
     )
 
@@ -293,7 +315,10 @@ judge-returns-5 t c = let s = c .before .before .before .before .before .before 
       let stands = sym (c .before .before .before .before .before .before .before .falls-short .ensures) ∙ c .before .before .before .before .before .before .if4 .left in
       let more = placed-of-stands can (c .before .before .before .before .before .before .before .before .place .ensures l (can-place can (s .args .due .start) (s .pre .1 .1 .0))) stands in
       judged-next can more (s .args .walk) (c .before .before .before .before .before .before .before .before .before .before .before .before .before .before .before .before .if1 .left) (sym (c .before .before .before .before .before .before .before .before .before .before .before .before .before .before .before .has-ended .ensures) ∙ c .before .before .before .before .before .before .before .before .before .before .before .before .before .before .if2 .left) (c .before .before .before .before .before .before .before .before .before .before .before .if3 .left)
-      (sym (c .before .before .before .before .before .before .before .before .before .cut-of .ensures _ _) ∙ stands) (c .before .before .before .if5 .taken) (c .try-starts .result)
+      (sym (c .before .before .before .before .before .before .before .before .before .cut-of .ensures _ _) ∙ stands) (c .before .before .before .if5 .taken)
+      (countIn (getD (s .args .lines .now) (s .args .due .line + 1) 0))
+      (l .count-of (s .args .due .line + 1) (omega (arith, can .last-of, c .before .before .before .if5 .taken)))
+      (c .try-starts .result)
       (c .try-starts .ensures .1 l (can-try-next can more (c .before .before .before .if5 .taken))),
 )
 
@@ -436,8 +461,9 @@ pub +judge+try-starts-spec : {M : Type 1} → statement M
     (judge-falls-short-requires t)
     (judge-returns-4 t)
     (judge-add-line t)
-    (judge-mul-t20 t)
-    (judge-element-copy-out-t23 t)
+    (judge-mul-t19 t)
+    (judge-element-copy-out-t22 t)
+    (judge-cast-t24 t)
     (judge-try-starts-requires t)
     (judge-returns-5 t)
     (judge-with-best-requires t)
