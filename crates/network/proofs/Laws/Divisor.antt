@@ -156,14 +156,8 @@ gcd-comm a b = divides-antisymm (gcd a b) (gcd b a) (swap a b) (swap b a)
 pub gcd-pos-left : (a b : ℕ) → 0 < a → 0 < gcd a b
 gcd-pos-left a b = pos-of-divides (gcd a b) a (gcd-divides-left a b)
 
-pub gcd-pos-right : (a b : ℕ) → 0 < b → 0 < gcd a b
-gcd-pos-right a b = pos-of-divides (gcd a b) b (gcd-divides-right a b)
-
 pub gcd-le-left : (a b : ℕ) → 0 < a → gcd a b ≤ a
 gcd-le-left a b = le-of-divides (gcd a b) a (gcd-divides-left a b)
-
-pub gcd-le-right : (a b : ℕ) → 0 < b → gcd a b ≤ b
-gcd-le-right a b = le-of-divides (gcd a b) b (gcd-divides-right a b)
 
 -- ---- the least common multiple. Only `lcm-pos` asks that the numbers be positive
 

@@ -144,18 +144,6 @@ module _ {A : Type 0} (a d : A) where
   snoc-all P (x ∷ xs) f g zero h = f 0 (zero-lt-suc _)
   snoc-all P (x ∷ xs) f g (suc i) h = snoc-all P xs (λ j l. f (suc j) (suc-le-suc l)) g i (le-of-suc-le-suc h)
 
-  -- What holds of every two elements in their order, and of each and one more
-  pub snoc-pairs : (R : A → A → Type 0) (xs : List A) → ((j k : ℕ) → j < k → k < length xs → R (getD xs j d) (getD xs k d))
-      → ((j : ℕ) → j < length xs → R (getD xs j d) a)
-      → (j k : ℕ) → j < k → k < length (xs ++ (a ∷ [])) → R (getD (xs ++ (a ∷ [])) j d) (getD (xs ++ (a ∷ [])) k d)
-  snoc-pairs R [] f g j k h l = absurd (omega arith)
-  snoc-pairs R (x ∷ xs) f g j zero h l = absurd (omega arith)
-  snoc-pairs R (x ∷ xs) f g zero (suc k) h l =
-      snoc-all (R x) xs (λ i m. f 0 (suc i) (zero-lt-suc i) (suc-le-suc m)) (g 0 (zero-lt-suc _)) k (le-of-suc-le-suc l)
-  snoc-pairs R (x ∷ xs) f g (suc j) (suc k) h l =
-      snoc-pairs R xs (λ i m o q. f (suc i) (suc m) (suc-le-suc o) (suc-le-suc q)) (λ i m. g (suc i) (suc-le-suc m)) j k
-      (le-of-suc-le-suc h) (le-of-suc-le-suc l)
-
 -- The part of a list behind its first places, as a slice has it
 pub take-rest : {A : Type 0} (k : ℕ) (l : List A) → take (length l - k) (drop k l) ≡ drop k l
 take-rest k l = take-all (length l - k) (drop k l) (rw length-drop (le-refl _))

@@ -4,17 +4,12 @@ use mathlib.Core.Path.{_≡_, refl}
 use mathlib.Core.List.{List, [], _∷_, _++_}
 use mathlib.Core.Bool.{Bool, true, false}
 use borrow.Author.Tests.{ne-eqb}
-use lib.Dec.{eqb, leb}
+use lib.Dec.{eqb}
 use Rattle.network.specs.declared.Call.{Call}
 use Rattle.network.specs.Lists.{pick}
 use Rattle.network.specs.Divisor.{lcm}
-use Rattle.network.specs.Network.{Net, ends, unknown, command, operandBytes, cycle, callsAt, howOftenAt, withLine, latestOffset}
-use Rattle.network.proofs.Laws.Lists.{length-keep-some}
+use Rattle.network.specs.Network.{Net, ends, unknown, command, operandBytes, cycle, withLine, latestOffset}
 use Rattle.network.proofs.Laws.Divisor.{commonCycle-snoc}
-
-pub howOftenAt-some : (line stop : ℕ) (cs : List Call) → leb 1 (howOftenAt line stop cs) ≡ callsAt line stop cs
-unfolding howOftenAt callsAt
-howOftenAt-some line stop = length-keep-some _
 
 -- A byte that is no command with operands
 module _ (b : ℕ) (not-line : b ≡ 0x4C → ⊥) (not-call : b ≡ 0x43 → ⊥) (not-ride : b ≡ 0x46 → ⊥) where

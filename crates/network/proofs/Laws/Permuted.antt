@@ -13,13 +13,12 @@ use lib.Dec.{eqb}
 use lib.IntN.{ℤ}
 use lib.ListN.{length, getD}
 use Rattle.network.specs.declared.Call.{Call}
-use Rattle.network.specs.Lists.{pick, any, keep, below, leastOf}
+use Rattle.network.specs.Lists.{pick, any, keep, below}
 use Rattle.network.specs.Network.{Net, maxStop, isServed}
 use Rattle.network.specs.Valid.{noCall, Valid}
 use Rattle.network.specs.Rating.{periodOf, gapOfCalls, gapOfStop, callsOfStop, stopGap, servedList, eachOnce, counted, rating}
-use Rattle.network.proofs.Laws.Members.{Has, All, AllPairs, all-cons, all-head, all-tail, pairs-cons, pairs-head, pairs-tail}
+use Rattle.network.proofs.Laws.Members.{All, AllPairs, all-cons, all-head, all-tail, pairs-cons, pairs-head, pairs-tail}
 use Rattle.network.proofs.Laws.Membership.{EveryTwo}
-use Rattle.network.proofs.Laws.Least.{leastOf-same}
 use Rattle.network.proofs.Laws.Pairs.{gapOfCalls-symmetric, gapOfStop-le-pair, gapOfStop-attained, gapOfStop-none}
 use Rattle.network.proofs.Laws.Pairs.{gapOfStop-single, gapOfStop-periods}
 use Rattle.network.proofs.Laws.StopGap.{callsOfStop-period-pos}
@@ -79,11 +78,6 @@ module _ {A : Type 0} (d : A) where
       (all-cons d (R a′) l (subst₂ R g e (s a b (all-head d (R a) b l first))) (subst (λ x. All d (R x) l) g (pairs-head d R b l rest)))
       (pairs-cons d R l (subst (λ x. All d (R x) l) e (all-tail d (R a) b l first)) (pairs-tail d R b l rest))
   pairs-permuted R s (List·Permᴰ·trans π ρ) f = pairs-permuted R s ρ (pairs-permuted R s π f)
-
-pub leastOf-permuted : {xs ys : List ℕ} → List·Permᴰ xs ys → leastOf xs ≡ leastOf ys
-leastOf-permuted {xs} {ys} π =
-    leastOf-same xs ys (all-permuted 0 (Has 0 ys) (Permᴰ·symm π) (λ i h. (i, h, refl)))
-    (all-permuted 0 (Has 0 xs) π (λ i h. (i, h, refl)))
 
 or-swap : (a b c : Bool) → (a || (b || c)) ≡ (b || (a || c))
 or-swap true true c = refl
