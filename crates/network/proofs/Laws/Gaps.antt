@@ -34,6 +34,6 @@ pub use Rattle.network.proofs.Laws.Permuted.{length-permuted, all-permu
 pub use Rattle.network.proofs.Laws.Permuted.{gapOfStop-permuted, stopGap-permuted, rating-permuted}
 -- the order of ratings
 pub use Rattle.network.proofs.Laws.Order.{Above, above-of-isAbove, isAbove-of-above, below-of-not-isAbove, isAbove-none}
-pub use Rattle.network.proofs.Laws.Order.{none-is-not-above, isAbove-irreflexive, isAbove-transitive}
+pub use Rattle.network.proofs.Laws.Order.{above-none, none-is-not-above, isAbove-irreflexive, isAbove-transitive}
 -- how large the numbers of a rating can be
 pub use Rattle.network.proofs.Laws.Ranges.{least-range, sum-range}

@@ -11,7 +11,7 @@ use Rattle.network.specs.declared.Rating.{Rating}
 use Rattle.network.specs.Rating.{isAbove}
 use Rattle.network.proofs.Laws.Lists.{zero-ne-one}
 use Rattle.network.proofs.Laws.Gaps.{Above, above-of-isAbove, below-of-not-isAbove}
-use Rattle.network.proofs.Laws.Order.{above-none}
+use Rattle.network.proofs.Laws.Gaps.{above-none}
 use Rattle.search.specs.declared.Cut.{Cut}
 use Rattle.search.specs.declared.Rule.the-variants as rules
 use Rattle.search.specs.Held.{ruleOf, rated, isShort, IsCut}
