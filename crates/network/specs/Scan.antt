@@ -4,7 +4,7 @@ use mathlib.Core.Path.{_≡_}
 use mathlib.Core.Bool.{true}
 use mathlib.Core.List.{List, [], _∷_, map}
 use lib.Dec.{eqb, ltb}
-use lib.IntN.{ℤ, pos, _-ℤ_}
+use lib.IntN.{ℤ, _-ℤ_}
 use lib.ListN.{length, getD, take}
 use Rattle.network.specs.declared.Call.{Call}
 use Rattle.network.specs.declared.Network.{Network}
@@ -69,10 +69,6 @@ unfoldable pub DivisorsOf : List ℕ → List ℕ → Type 0
 DivisorsOf periods divisors =
     (i j : ℕ) → i < length periods → j < length periods → getD divisors (i * maxLines + j) 0 ≡ gcd (getD periods i 0) (getD periods j 0)
 
--- The starts of a row
-unfoldable pub startsIn : List ℕ → List ℤ
-startsIn row = map pos row
-
 -- The gap of two calls by theorem 3.1.2, `g` being the greatest common divisor of their lines' periods
 unfoldable pub gapBy : ℕ → List ℤ → Call → Call → ℕ
 gapBy g starts c d = fold g (residue (arrivalOf starts c -ℤ arrivalOf starts d) g)
@@ -86,8 +82,9 @@ pub record Rows (list divisors previous : List ℕ) (k : ℕ) : Type 0 where
   pub divisors-are : DivisorsOf (netOf network .periods) divisors
   pub leads : LeadsBack previous (callsIn (network .list)) k
 
--- A call of the network beside the first `k` calls, of which the latest is at its stop
-pub record Beside (n : Network) (call : Call) (k : ℕ) : Type 0 where
+-- A call of the network beside the first `k` calls, of which the latest is at its stop, and a sheet that fits
+pub record Beside (n : Network) (sheet : List ℤ) (call : Call) (k : ℕ) : Type 0 where
+  pub fits : length sheet ≡ length (netOf n .periods)
   pub own-line : call .line < length (netOf n .periods)
   pub within : k ≤ n .calls
   pub lands : 0 < k → getD (callsIn (n .list)) (k - 1) noCall .stop ≡ call .stop

@@ -2,14 +2,14 @@
 use crate::Network;
 use crate::divisor::gcd;
 ghost use mathlib.Core.Path.{_≡_};
-ghost use Prim.Native.Nat.{ℕ, _+_, _*_, _<_, _≤_};
-ghost use lib.IntN.{pos, _-ℤ_};
+ghost use Prim.Native.Nat.{ℕ, _+_, _*_, _<_, _≤_, _^_};
+ghost use lib.IntN.{pos, natAbs, _+ℤ_, _-ℤ_};
 ghost use lib.ListN.{length, getD};
 ghost use Rattle.network.specs.Divisor as divisor;
 ghost use Rattle.network.specs.Gap as gaps;
 ghost use Rattle.network.specs.Network as net;
 
-// A number of either sign, reduced to 0..g-1.
+// A difference of arrivals, of either sign, reduced to 0..g-1.
 pub fn residue(x: i64, g: u32) -> u32
     requires { ⌜ 0 < g ⌝ }
     ensures { λ r. ⌜ r ≡ gaps.residue x g ⌝ }
@@ -25,48 +25,19 @@ pub fn residue(x: i64, g: u32) -> u32
     }
 }
 
-// A start less whole periods of its line, which change no gap.
-fn reduced(start: i32, period: u16) -> u16
-    requires { ⌜ 0 < period ⌝ }
-    ensures { λ r. ⌜ r ≡ gaps.residue start period ⌝ }
+// One arrival of a call: its line's start plus its offset.
+pub fn arrival(start: i32, offset: u16) -> i64
+    ensures { λ r. ⌜ (r ≡ start +ℤ pos offset) × (natAbs r ≤ 2 ^ 32) ⌝ }
 {
-    residue(start as i64, period as u32) as u16
+    start as i64 + offset as i64
 }
 
-// The starts of a sheet, each reduced by its line's period: then no arrival has a sign, and their differences take 32 bits.
-pub fn start_row(periods: &[u16; Network::MAX_LINES], sheet: &[i32]) -> [u16; Network::MAX_LINES]
-    requires { ⌜ (length (now sheet) ≤ net.maxLines) × ((i : ℕ) → i < length (now sheet) → 0 < getD (now periods) i 0) ⌝ }
-    ensures { λ r. ⌜ ((i : ℕ) → i < length (now (sheet .entry)) → getD r i 0 ≡ gaps.residue (getD (now (sheet .entry)) i (pos 0)) (getD (now (periods .entry)) i 0)) ⌝ }
+// The gap of two calls: the difference of their arrivals, reduced by the divisor of their periods, or what is left of that divisor.
+pub fn gap(a: i64, b: i64, g: u32) -> u32
+    requires { ⌜ (natAbs a ≤ 2 ^ 32) × (natAbs b ≤ 2 ^ 32) × (0 < g) ⌝ }
+    ensures { λ r. ⌜ r ≡ gaps.fold g (gaps.residue (a -ℤ b) g) ⌝ }
 {
-    let mut row = [0u16; Network::MAX_LINES];
-    let lines = sheet.len();
-    for line in 0..lines {
-        row[line] = reduced(sheet[line], periods[line]);
-    }
-    row
-}
-
-// One arrival of a call: its line's reduced start plus its offset.
-pub fn arrival(start: u16, offset: u16) -> u32
-    ensures { λ r. ⌜ r ≡ start + offset ⌝ }
-{
-    start as u32 + offset as u32
-}
-
-// The minutes between two arrivals.
-fn distance(a: u32, b: u32) -> u32
-    ensures { λ r. ⌜ r ≡ gaps.distance (pos a) (pos b) ⌝ }
-{
-    if b < a { a - b } else { b - a }
-}
-
-// The gap of two calls: the difference of their arrivals, reduced by the divisor of their periods, or what is left of that divisor. The
-// sign of the difference exchanges the two.
-pub fn gap(a: u32, b: u32, g: u32) -> u32
-    requires { ⌜ 0 < g ⌝ }
-    ensures { λ r. ⌜ r ≡ gaps.fold g (gaps.residue (pos a -ℤ pos b) g) ⌝ }
-{
-    let d = distance(a, b) % g;
+    let d = residue(a - b, g);
     if d < g - d { d } else { g - d }
 }
 

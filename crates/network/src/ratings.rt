@@ -4,7 +4,6 @@ use crate::Network;
 use crate::Rating;
 use crate::gaps::arrival;
 use crate::gaps::gap;
-use crate::gaps::start_row;
 use crate::gaps::write_divisors;
 ghost use mathlib.Core.Path.{_≡_};
 ghost use mathlib.Core.List.{map, _++_, _∷_, []};
@@ -17,20 +16,16 @@ ghost use Rattle.network.specs.Scan as scan;
 ghost use Rattle.network.specs.Stored.{netOf, callsIn, Sound};
 ghost use Rattle.network.specs.Valid.{Valid};
 
-// The gap of two calls, with the starts and the divisors of the lines' periods.
-fn call_gap(
-    starts: &[u16; Network::MAX_LINES],
-    divisors: &[u32; Network::PAIRS],
-    first: Call,
-    second: Call,
-) -> u32
-    requires { ⌜ (first .line < net.maxLines) × (second .line < net.maxLines) × (0 < getD (now divisors) (first .line * net.maxLines + second .line) 0) ⌝ }
-    ensures { λ r. ⌜ r ≡ scan.gapBy (getD (now (divisors .entry)) (first .line * net.maxLines + second .line) 0) (scan.startsIn (now (starts .entry))) first second ⌝ }
+// The gap of two calls, on a sheet of starts, with the divisors of the lines' periods.
+fn call_gap(sheet: &[i32], divisors: &[u32; Network::PAIRS], first: Call, second: Call) -> u32
+    requires { ⌜ (first .line < net.maxLines) × (first .line < length (now sheet)) × (0 < getD (now divisors) (first .line * net.maxLines + second .line) 0) ⌝ }
+    requires { ⌜ (second .line < net.maxLines) × (second .line < length (now sheet)) ⌝ }
+    ensures { λ r. ⌜ r ≡ scan.gapBy (getD (now (divisors .entry)) (first .line * net.maxLines + second .line) 0) (now (sheet .entry)) first second ⌝ }
 {
     let line = first.line as usize;
     let other = second.line as usize;
-    let a = arrival(starts[line], first.offset);
-    let b = arrival(starts[other], second.offset);
+    let a = arrival(sheet[line], first.offset);
+    let b = arrival(sheet[other], second.offset);
     gap(a, b, divisors[line * Network::MAX_LINES + other])
 }
 
@@ -40,20 +35,20 @@ fn least_gap(
     list: &[u32; Network::MAX_CALLS],
     divisors: &[u32; Network::PAIRS],
     previous: &[u16; Network::MAX_CALLS],
-    starts: &[u16; Network::MAX_LINES],
+    sheet: &[i32],
     call: Call,
     next: u16,
     least: u32,
 ) -> u32
-    requires { ⌜ ((h : scan.Rows (now list) (now divisors) (now previous) next) × scan.Beside (h .network) call next) ⌝ }
-    ensures { λ r. ⌜ ((h : scan.Rows (now (list .entry)) (now (divisors .entry)) (now (previous .entry)) next) → scan.Beside (h .network) call next → r ≡ scan.leastFrom least (map (λ d. rating.gapOfCalls (netOf (h .network)) (scan.startsIn (now (starts .entry))) d call) (scan.callsBefore (call .stop) (callsIn (h .network .list)) next))) ⌝ }
+    requires { ⌜ ((h : scan.Rows (now list) (now divisors) (now previous) next) × scan.Beside (h .network) (now sheet) call next) ⌝ }
+    ensures { λ r. ⌜ ((h : scan.Rows (now (list .entry)) (now (divisors .entry)) (now (previous .entry)) next) → scan.Beside (h .network) (now (sheet .entry)) call next → r ≡ scan.leastFrom least (map (λ d. rating.gapOfCalls (netOf (h .network)) (now (sheet .entry)) d call) (scan.callsBefore (call .stop) (callsIn (h .network .list)) next))) ⌝ }
 {
     let mut lesser = least;
     let mut from = next as usize;
     while 0 < from {
         let at = from - 1;
         let other = Call::unpacked(list[at]);
-        let between = call_gap(starts, divisors, other, call);
+        let between = call_gap(sheet, divisors, other, call);
         if between < lesser {
             lesser = between;
         }
@@ -69,19 +64,19 @@ fn gap_with(
     list: &[u32; Network::MAX_CALLS],
     divisors: &[u32; Network::PAIRS],
     previous: &[u16; Network::MAX_CALLS],
-    starts: &[u16; Network::MAX_LINES],
+    sheet: &[i32],
     call: Call,
     before: u16,
     gap: u32,
 ) -> u32
-    requires { ⌜ ((h : scan.Rows (now list) (now divisors) (now previous) before) × scan.Beside (h .network) call before × (now periods ≡ h .network .periods)) ⌝ }
-    ensures { λ r. ⌜ ((h : scan.Rows (now (list .entry)) (now (divisors .entry)) (now (previous .entry)) before) → scan.Beside (h .network) call before → now (periods .entry) ≡ h .network .periods → gap ≡ rating.gapOfStop (netOf (h .network)) (scan.startsIn (now (starts .entry))) (scan.callsBefore (call .stop) (callsIn (h .network .list)) before) → r ≡ rating.gapOfStop (netOf (h .network)) (scan.startsIn (now (starts .entry))) (scan.callsBefore (call .stop) (callsIn (h .network .list)) before ++ (call ∷ []))) ⌝ }
+    requires { ⌜ ((h : scan.Rows (now list) (now divisors) (now previous) before) × scan.Beside (h .network) (now sheet) call before × (now periods ≡ h .network .periods)) ⌝ }
+    ensures { λ r. ⌜ ((h : scan.Rows (now (list .entry)) (now (divisors .entry)) (now (previous .entry)) before) → scan.Beside (h .network) (now (sheet .entry)) call before → now (periods .entry) ≡ h .network .periods → gap ≡ rating.gapOfStop (netOf (h .network)) (now (sheet .entry)) (scan.callsBefore (call .stop) (callsIn (h .network .list)) before) → r ≡ rating.gapOfStop (netOf (h .network)) (now (sheet .entry)) (scan.callsBefore (call .stop) (callsIn (h .network .list)) before ++ (call ∷ []))) ⌝ }
 {
     if before == 0 {
         let line = call.line as usize;
         return periods[line] as u32;
     }
-    least_gap(list, divisors, previous, starts, call, before, gap)
+    least_gap(list, divisors, previous, sheet, call, before, gap)
 }
 
 // The gaps of the stops that count, in one pass over the calls. `last` has for each stop one more than the latest call there, and
@@ -91,11 +86,11 @@ fn scanned_gaps(
     list: &[u32; Network::MAX_CALLS],
     calls: usize,
     divisors: &[u32; Network::PAIRS],
-    starts: &[u16; Network::MAX_LINES],
+    sheet: &[i32],
     counts: &[u8; Network::STOPS],
 ) -> [u32; Network::STOPS]
-    requires { ⌜ ((lines : ℕ) × (h : scan.Lent (now periods) (now list) lines calls) × scan.DivisorsOf (netOf (h .network) .periods) (now divisors)) ⌝ }
-    ensures { λ r. ⌜ ((lines : ℕ) (h : scan.Lent (now (periods .entry)) (now (list .entry)) lines calls) → scan.DivisorsOf (netOf (h .network) .periods) (now (divisors .entry)) → (stop : ℕ) → stop < net.stopCount → 0 < getD (now (counts .entry)) stop 0 → getD r stop 0 ≡ rating.stopGap (netOf (h .network)) (scan.startsIn (now (starts .entry))) stop) ⌝ }
+    requires { ⌜ ((h : scan.Lent (now periods) (now list) (length (now sheet)) calls) × scan.DivisorsOf (netOf (h .network) .periods) (now divisors)) ⌝ }
+    ensures { λ r. ⌜ ((h : scan.Lent (now (periods .entry)) (now (list .entry)) (length (now (sheet .entry))) calls) → scan.DivisorsOf (netOf (h .network) .periods) (now (divisors .entry)) → (stop : ℕ) → stop < net.stopCount → 0 < getD (now (counts .entry)) stop 0 → getD r stop 0 ≡ rating.stopGap (netOf (h .network)) (now (sheet .entry)) stop) ⌝ }
 {
     let mut gaps = [0u32; Network::STOPS];
     let mut last = [0u16; Network::STOPS];
@@ -106,16 +101,7 @@ fn scanned_gaps(
         let before = last[stop];
         if 0 < counts[stop] {
             let gap = gaps[stop];
-            gaps[stop] = gap_with(
-                periods,
-                list,
-                divisors,
-                &previous,
-                starts,
-                call,
-                before,
-                gap,
-            );
+            gaps[stop] = gap_with(periods, list, divisors, &previous, sheet, call, before, gap);
         }
         previous[i] = before;
         last[stop] = i as u16 + 1;
@@ -136,8 +122,7 @@ pub fn stop_gaps(
 {
     let mut divisors = [0u32; Network::PAIRS];
     write_divisors(periods, sheet.len(), &mut divisors);
-    let starts = start_row(periods, sheet);
-    scanned_gaps(periods, list, calls, &divisors, &starts, counts)
+    scanned_gaps(periods, list, calls, &divisors, sheet, counts)
 }
 
 // The rating of stops with these gaps: those that count, with their weights in the sum.

@@ -1,13 +1,11 @@
 -- The formula of theorem 3.1.2 gives the gap of two lines, over all trips and over those from 0 on, and the laws of that formula and of
 -- residues: the differences of two trips are all the integers of one residue by the periods' greatest common divisor. Assumes nothing.
-use Prim.Native.Nat.{ℕ, suc, _+_, _*_, _-_, _/_, _%_, _≤_, _<_, min}
+use Prim.Native.Nat.{ℕ, suc, _+_, _*_, _-_, _/_, _%_, _≤_, _<_}
 use native.Mathlib.Nat.{mod-lt, mod-le, mod-eq-of-lt, div-add-mod', add-mul-mod-self-right}
 use native.Mathlib.Nat.{eq-zero-or-pos, le-antisymm, le-mul-of-pos-right}
 use native.Mathlib.Omega.{arith, min-cases}
-use native.Mathlib.Decide.{ℕ-discrete}
-use mathlib.Core.Path.{_≡_, refl, sym, ap, subst, _∙_}
+use mathlib.Core.Path.{_≡_, sym, ap, subst, _∙_}
 use mathlib.Core.Logic.{_⊎_, inl, inr}
-use lib.Arith.{lt-of-le-ne}
 use lib.IntN.{ℤ, pos, negsuc, natAbs, subℕ, _+ℤ_, _-ℤ_, _*ℤ_, zero-*ℤ, +ℤ-idr}
 use Rattle.network.specs.Divisor.{gcd}
 use Rattle.network.specs.Gap.{trip, distance, IsGap, IsGapFromZero, residue, fold, gapOf}
@@ -66,33 +64,12 @@ pub gapOf-residue : (a b c d : ℤ) (t u : ℕ) → residue (a -ℤ b) (gcd t u)
 unfolding gapOf
 gapOf-residue a b c d t u e = ap (fold (gcd t u)) e
 
-pub residue-of-residue : (x : ℤ) (g : ℕ) → 0 < g → residue (pos (residue x g)) g ≡ residue x g
-unfolding residue
-residue-of-residue x g h = mod-eq-of-lt (residue-lt x g h)
-
 -- ---- the least magnitude of the integers of one residue
 
 fold-residue-le : (x : ℤ) (g : ℕ) → fold g (residue x g) ≤ natAbs x
 unfolding fold residue
 fold-residue-le (pos n) g = omega (arith, mod-le n g)
 fold-residue-le (negsuc n) g = omega (arith, mod-le n g)
-
--- the sign exchanges the residue and what is left of g
-pub fold-residue-natAbs : (x : ℤ) (g : ℕ) → 0 < g → fold g (natAbs x % g) ≡ fold g (residue x g)
-unfolding fold residue
-fold-residue-natAbs (pos n) g h = refl
-fold-residue-natAbs (negsuc n) g h = go (ℕ-discrete (suc (n % g)) g)
-  where
-    go : Dec (suc (n % g) ≡ g) → min (suc n % g) (g - suc n % g) ≡ min (g - suc (n % g)) (g - (g - suc (n % g)))
-    go (yes e) =
-        let none : suc n % g ≡ 0 =
-        remainder-unique (mod-lt (suc n) h) h (suc n / g) (suc (n / g)) (omega (arith, div-add-mod' (suc n) g, div-add-mod' n g, e)) in
-        omega (arith, none, e)
-    go (no f) =
-        let below : suc (n % g) < g = lt-of-le-ne (mod-lt n h) f in
-        let next : suc n % g ≡ suc (n % g) =
-        remainder-unique (mod-lt (suc n) h) below (suc n / g) (n / g) (omega (arith, div-add-mod' (suc n) g, div-add-mod' n g)) in
-        omega (arith, next, below)
 
 fold-residue-attained : (x : ℤ) (g : ℕ) → 0 < g → (m : ℤ) × (natAbs (x +ℤ m *ℤ pos g) ≡ fold g (residue x g))
 unfolding fold

@@ -90,6 +90,11 @@ difference-of-eq h k e = omega (arith, ap up e, ap dn e)
 
 -- ---- bounds
 
+pub natAbs-add-le : (x y : ℤ) → natAbs (x +ℤ y) ≤ natAbs x + natAbs y
+natAbs-add-le x y =
+    omega
+    (arith, natAbs-of-difference (difference-add (difference x) (difference y)), natAbs-of-difference (difference x), natAbs-of-difference (difference y))
+
 pub natAbs-sub-le : (x y : ℤ) → natAbs (x -ℤ y) ≤ natAbs x + natAbs y
 natAbs-sub-le x y =
     omega
@@ -99,6 +104,10 @@ natAbs-sub-le x y =
 pub mag-le-natAbs : (x : ℤ) → mag x ≤ natAbs x
 mag-le-natAbs (pos n) = omega arith
 mag-le-natAbs (negsuc n) = omega arith
+
+pub natAbs-le-mag : (x : ℤ) → natAbs x ≤ mag x + 1
+natAbs-le-mag (pos n) = omega arith
+natAbs-le-mag (negsuc n) = omega arith
 
 -- a number within half of the range, so that no sum of two leaves it
 pub sfits-of-natAbs : {w : Width} (x : ℤ) → natAbs x < 2 ^ hbits w → SFits w x

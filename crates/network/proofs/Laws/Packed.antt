@@ -41,7 +41,11 @@ pub callIn-zero : callIn 0 ≡ noCall
 unfolding callIn
 callIn-zero = refl
 
--- Whatever number it is, its call is at a stop below 64
+-- Whatever number it is, its call is of a line below 16 and at a stop below 64
+pub callIn-line : (code : ℕ) → callIn code .line < maxLines
+unfolding callIn
+callIn-line code = omega arith
+
 pub callIn-stop : (code : ℕ) → callIn code .stop ≤ maxStop
 unfolding callIn
 callIn-stop code = omega arith

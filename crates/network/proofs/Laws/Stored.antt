@@ -47,6 +47,9 @@ module _ (n : Network) (s : Sound n) (v : Valid (netOf n)) where
   held-call-line k h =
       rw (held-lines n s) at (rw (held-call n k h) at (v .call-line k (rw (held-calls n s) h)))
 
+  pub held-call-stop : (k : ℕ) → k < n .calls → getD (callsIn (n .list)) k noCall .stop ≤ maxStop
+  held-call-stop k h = rw (held-call n k h) at (v .call-stop k (rw (held-calls n s) h))
+
   pub held-period-pos : (line : ℕ) → line < n .lines → 0 < getD (n .periods) line 0
   held-period-pos line h = rw (held-period n line h) at (v .period-pos line (rw (held-lines n s) h))
 

@@ -1,37 +1,41 @@
--- `network::gaps::gap` meets its contract: the formula of theorem 3.1.2, in which the sign of the difference doesn't matter, the lesser of
--- the two by a test. Assumes nothing.
-use Prim.Native.Nat.{ℕ, _-_, _%_, _<_, min}
-use mathlib.Core.Path.{_≡_, ap, _∙_}
-use native.Mathlib.Nat.{mod-lt}
+-- `network::gaps::gap` meets its contract: the formula of theorem 3.1.2, the lesser of the two by a test. Assumes nothing.
+use Prim.Native.Nat.{ℕ, _-_, _<_, min}
+use mathlib.Core.Path.{_≡_, ap, ap₂, _∙_}
 use native.Mathlib.Omega.{arith}
-use borrow.Author.Needs.{needs}
-use lib.IntN.{pos, _-ℤ_}
+use lib.IntN.{ℤ, _-ℤ_}
+use mir.Syntax.{w64}
+use mir.Val.{SFits, toZ, ofZ}
+use mir.Facts.{toZ-ofZ}
 use Rattle.network.specs.Gap as gaps
-use Rattle.network.proofs.Laws.Gap.{fold-residue-natAbs}
+use Rattle.network.proofs.Laws.Gap.{residue-lt}
+use Rattle.network.proofs.Laws.Integers.{natAbs-sub-le, sfits-of-natAbs}
 use Rattle.network.proofs.gaps.gap.Statement.{statement}
 use Rattle.network.proofs.gaps.gap.Tie as tie
 
-module _ (c : tie.After-distance) where
-  abbrev g : ℕ
-  g = c .before .args .g
+-- What the code subtracts is the difference of the two arrivals
+module _ (s : tie.Start) where
+  abbrev difference : ℤ
+  difference = s .args .a -ℤ s .args .b
 
-  abbrev d : ℕ
-  d = c .distance .result % g
+  fits : SFits w64 difference
+  fits = sfits-of-natAbs difference (omega (arith, natAbs-sub-le (s .args .a) (s .args .b), s .pre))
 
-  below : d < g
-  below = mod-lt (c .distance .result) (c .before .pre)
+  subtracted : toZ w64 (ofZ w64 (s .args .a)) -ℤ toZ w64 (ofZ w64 (s .args .b)) ≡ difference
+  subtracted = ap₂ _-ℤ_ (toZ-ofZ (s .fits .a)) (toZ-ofZ (s .fits .b))
 
-  folded : min d (g - d) ≡ gaps.fold g (gaps.residue (pos (c .before .args .a) -ℤ pos (c .before .args .b)) g)
-  unfolding gaps.fold gaps.distance
-  folded =
-      ap (λ (n : ℕ). min (n % g) (g - n % g)) (c .distance .ensures)
-      ∙ fold-residue-natAbs (pos (c .before .args .a) -ℤ pos (c .before .args .b)) g (c .before .pre)
+reduced : (c : tie.After-residue) → c .residue .result ≡ gaps.residue (difference (c .before)) (c .before .args .g)
+reduced c =
+    let s = c .before in
+    c .residue .ensures ∙ ap (λ (z : ℤ). gaps.residue z (s .args .g)) (ap (λ (z : ℤ). toZ w64 (ofZ w64 z)) (subtracted s) ∙ toZ-ofZ (fits s))
 
-distance-requires : tie.Need-distance-requires
-distance-requires c κs = search needs
+below : (c : tie.After-residue) → c .residue .result < c .before .args .g
+below c = let s = c .before in omega (arith, reduced c, residue-lt (difference s) (s .args .g) (s .pre .2))
 
-rem-d : tie.Need-rem-d
-rem-d c = search needs
+sub-residue : tie.Need-sub-residue
+sub-residue c = rw (subtracted c) (fits c)
+
+residue-requires : tie.Need-residue-requires
+residue-requires c κs = c .pre .2
 
 sub-if1 : tie.Need-sub-if1
 sub-if1 c = omega (arith, below c)
@@ -40,13 +44,20 @@ sub-result : tie.Need-sub-result
 sub-result c = omega (arith, below (c .before))
 
 returns : tie.Need-returns
+unfolding gaps.fold
 returns c =
-    let lesser : d (c .before) ≡ min (d (c .before)) (g (c .before) - d (c .before)) = omega (arith, c .if1 .taken) in lesser ∙ folded (c .before)
+    let r = c .before in
+    let g = r .before .args .g in
+    let lesser : r .residue .result ≡ min (r .residue .result) (g - r .residue .result) = omega arith in
+    lesser ∙ ap (λ (d : ℕ). min d (g - d)) (reduced r)
 
 returns-2 : tie.Need-returns-2
+unfolding gaps.fold
 returns-2 c =
-    let lesser : g (c .before) - d (c .before) ≡ min (d (c .before)) (g (c .before) - d (c .before)) = omega (arith, c .if1 .left) in
-    lesser ∙ folded (c .before)
+    let r = c .before in
+    let g = r .before .args .g in
+    let lesser : g - r .residue .result ≡ min (r .residue .result) (g - r .residue .result) = omega arith in
+    lesser ∙ ap (λ (d : ℕ). min d (g - d)) (reduced r)
 
 pub gap-spec : {M : Type 1} → statement M
-gap-spec = tie.close (tie.spec distance-requires rem-d sub-if1 sub-result returns returns-2)
+gap-spec = tie.close (tie.spec sub-residue residue-requires sub-if1 sub-result returns returns-2)

@@ -13,7 +13,7 @@ use Rattle.network.specs.declared.Call.{Call}
 use Rattle.network.specs.declared.Network.{Network}
 use Rattle.network.specs.Lists.{keep}
 use Rattle.network.specs.Rating.{periodOf, gapOfCalls, gapOfStop}
-use Rattle.network.specs.Scan.{callsBefore, leastFrom, startsIn}
+use Rattle.network.specs.Scan.{callsBefore, leastFrom}
 use Rattle.network.specs.Stored.{netOf, callsIn, Sound}
 use Rattle.network.specs.Valid.{Valid, noCall}
 use Rattle.network.proofs.Laws.Scan.{keep-all, callsBefore-some, gapOfStop-next}
@@ -64,7 +64,7 @@ returns c h b periods-are e =
     let s = c .before .before .before in
     ap (λ (ps : List ℕ). getD ps (s .args .call .line) 0) periods-are
     ∙ sym
-    (ap (λ (k : ℕ). gapOfStop (netOf (h .network)) (startsIn (s .args .starts .now)) (callsBefore (s .args .call .stop) (callsIn (h .network .list)) k ++ (s .args .call ∷ [])))
+    (ap (λ (k : ℕ). gapOfStop (netOf (h .network)) (s .args .sheet .now) (callsBefore (s .args .call .stop) (callsIn (h .network .list)) k ++ (s .args .call ∷ [])))
     (c .before .before .if1 .taken)
     ∙ held-period (h .network) (s .args .call .line) (omega (arith, b .own-line, held-lines (h .network) (h .sound))))
 
@@ -77,9 +77,9 @@ returns-2 c h b periods-are e =
     let cs = callsBefore (s .args .call .stop) (callsIn (h .network .list)) (s .args .before) in
     let p = pos-of-ne-zero (c .before .if1 .left) in
     c .least-gap .ensures h b
-    ∙ ap (λ (v : ℕ). leastFrom v (map (λ d. gapOfCalls (netOf (h .network)) (startsIn (s .args .starts .now)) d (s .args .call)) cs)) e
+    ∙ ap (λ (v : ℕ). leastFrom v (map (λ d. gapOfCalls (netOf (h .network)) (s .args .sheet .now) d (s .args .call)) cs)) e
     ∙ sym
-    (gapOfStop-next (netOf (h .network)) (startsIn (s .args .starts .now)) cs (s .args .call)
+    (gapOfStop-next (netOf (h .network)) (s .args .sheet .now) cs (s .args .call)
     (callsBefore-some (s .args .call .stop) (callsIn (h .network .list)) (s .args .before) p
     (omega (arith, b .within, h .sound .calls, length-held (h .network) (h .sound)))
     (b .lands p))

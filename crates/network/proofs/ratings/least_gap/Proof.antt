@@ -6,14 +6,14 @@ use mathlib.Core.List.{List, map}
 use mathlib.Core.Logic.{⊎-elim}
 use native.Mathlib.Omega.{arith}
 use lib.IntN.{ℤ}
-use lib.ListN.{getD}
+use lib.ListN.{length, getD}
 use Rattle.network.specs.declared.Call.{Call}
 use Rattle.network.specs.declared.Network.{Network}
 use Rattle.network.specs.Lists.{keep}
 use Rattle.network.specs.Divisor.{gcd}
 use Rattle.network.specs.Gap.{gapOf}
 use Rattle.network.specs.Rating.{periodOf, gapOfCalls}
-use Rattle.network.specs.Scan.{lastAt, callsBefore, leastFrom, LeadsBack, DivisorsOf, startsIn, gapBy, Rows, Beside}
+use Rattle.network.specs.Scan.{lastAt, callsBefore, leastFrom, LeadsBack, DivisorsOf, gapBy, Rows, Beside}
 use Rattle.network.specs.Stored.{netOf, callIn, callsIn}
 use Rattle.network.specs.Valid.{noCall}
 use Rattle.network.proofs.Laws.Divisor.{gcd-pos-left}
@@ -35,12 +35,12 @@ OnTheWay network sheet call next least lesser from =
     ≡ leastFrom least (map (to network sheet call) (callsBefore (call .stop) (callsIn (network .list)) next)))
 
 abbrev Inv-loop : tie.InvT-loop
-Inv-loop list divisors previous starts call next least lesser₀ from₀ lesser from =
+Inv-loop list divisors previous sheet call next least lesser₀ from₀ lesser from =
     (from ≤ next)
-    × ((h : Rows list divisors previous next) → Beside (h .network) call next → OnTheWay (h .network) (startsIn starts) call next least lesser from)
+    × ((h : Rows list divisors previous next) → Beside (h .network) sheet call next → OnTheWay (h .network) sheet call next least lesser from)
 
 abbrev μ-loop : tie.MeasureT-loop
-μ-loop list divisors previous starts call next least lesser₀ from₀ lesser from = from
+μ-loop list divisors previous sheet call next least lesser₀ from₀ lesser from = from
 
 -- At a turn of the loop
 module _ (c : tie.In-loop Inv-loop μ-loop) where
@@ -62,13 +62,13 @@ module _ (c : tie.In-loop Inv-loop μ-loop) where
   divisor k = getD (start .args .divisors .now) (k .line * 16 + start .args .call .line) 0
 
   abbrev between : Call → ℕ
-  between k = gapBy (divisor k) (startsIn (start .args .starts .now)) k (start .args .call)
+  between k = gapBy (divisor k) (start .args .sheet .now) k (start .args .call)
 
   abbrev Asked : Call → Type 0
-  Asked k = (k .line < 16) × (start .args .call .line < 16) × (0 < divisor k)
+  Asked k = (k .line < 16) × (k .line < length (start .args .sheet .now)) × (0 < divisor k)
 
   -- in a network that the rows hold
-  module _ (h : Held) (b : Beside (h .network) (start .args .call) (start .args .next)) where
+  module _ (h : Held) (b : Beside (h .network) (start .args .sheet .now) (start .args .call) (start .args .next)) where
     in-file : at < h .network .calls
     in-file = omega (arith, c .loop-test .taken, c .before .loop .inv .0, b .within)
 
@@ -85,6 +85,9 @@ module _ (c : tie.In-loop Inv-loop μ-loop) where
     own-line : start .args .call .line < h .network .lines
     own-line = omega (arith, b .own-line, held-lines (h .network) (h .sound))
 
+    sheet-length : length (start .args .sheet .now) ≡ h .network .lines
+    sheet-length = b .fits ∙ held-lines (h .network) (h .sound)
+
     period-pos : 0 < getD (netOf (h .network) .periods) (other .line) 0
     period-pos = h .valid .period-pos (other .line) (omega (arith, other-line, held-lines (h .network) (h .sound)))
 
@@ -96,13 +99,13 @@ module _ (c : tie.In-loop Inv-loop μ-loop) where
     asked : Asked other
     asked = (
       omega (arith, other-line, h .sound .lines),
-      omega (arith, own-line, h .sound .lines),
+      omega (arith, other-line, sheet-length),
       rw divisor-is (gcd-pos-left _ _ period-pos),
     )
 
-    gap-is : between other ≡ to (h .network) (startsIn (start .args .starts .now)) (start .args .call) other
+    gap-is : between other ≡ to (h .network) (start .args .sheet .now) (start .args .call) other
     unfolding gapOfCalls gapOf gapBy periodOf
-    gap-is = ap (λ (g : ℕ). gapBy g (startsIn (start .args .starts .now)) other (start .args .call)) divisor-is
+    gap-is = ap (λ (g : ℕ). gapBy g (start .args .sheet .now) other (start .args .call)) divisor-is
 
     led-back : getD (start .args .previous .now) at 0 ≡ lastAt (start .args .call .stop) (callsIn (h .network .list)) at
     unfolding LeadsBack
@@ -114,11 +117,11 @@ module _ (c : tie.In-loop Inv-loop μ-loop) where
 
     -- one call further back
     onward :
-        leastFrom (min (c .before .loop .lesser) (to (h .network) (startsIn (start .args .starts .now)) (start .args .call) other))
-        (map (to (h .network) (startsIn (start .args .starts .now)) (start .args .call)) (callsBefore (start .args .call .stop) (callsIn (h .network .list)) (getD (start .args .previous .now) at 0)))
-        ≡ leastFrom (start .args .least) (map (to (h .network) (startsIn (start .args .starts .now)) (start .args .call)) (callsBefore (start .args .call .stop) (callsIn (h .network .list)) (start .args .next)))
+        leastFrom (min (c .before .loop .lesser) (to (h .network) (start .args .sheet .now) (start .args .call) other))
+        (map (to (h .network) (start .args .sheet .now) (start .args .call)) (callsBefore (start .args .call .stop) (callsIn (h .network .list)) (getD (start .args .previous .now) at 0)))
+        ≡ leastFrom (start .args .least) (map (to (h .network) (start .args .sheet .now) (start .args .call)) (callsBefore (start .args .call .stop) (callsIn (h .network .list)) (start .args .next)))
     onward =
-        let g = to (h .network) (startsIn (start .args .starts .now)) (start .args .call) in
+        let g = to (h .network) (start .args .sheet .now) (start .args .call) in
         let s = start .args .call .stop in
         ap (λ (o : Call). leastFrom (min (c .before .loop .lesser) (g o)) (map g (callsBefore s (callsIn (h .network .list)) (getD (start .args .previous .now) at 0)))) other-is
         ∙ ap (λ (k : ℕ). leastFrom (min (c .before .loop .lesser) (g (getD (callsIn (h .network .list)) at noCall))) (map g (callsBefore s (callsIn (h .network .list)) k))) led-back
@@ -149,7 +152,7 @@ call-gap-requires : tie.Need-call-gap-requires Inv-loop μ-loop
 call-gap-requires c κs =
     let t = c .before .before in
     let (h, b) = start t .pre in
-    subst (Asked t) (sym (c .unpacked .ensures)) (asked t h b)
+    (subst (Asked t) (sym (c .unpacked .ensures)) (asked t h b), (omega (arith, own-line t h b, h .sound .lines), omega (arith, own-line t h b, sheet-length t h b)))
 
 mul-from : tie.Need-mul-from Inv-loop μ-loop
 mul-from c = omega (arith, small (c .before .before .before .before))
@@ -176,7 +179,7 @@ loop-again c =
       omega (arith, led-lower t h₀ b₀, t .before .loop .inv .0),
       λ h b.
           let stop = start t .args .call .stop in
-          let g = to (h .network) (startsIn (start t .args .starts .now)) (start t .args .call) in
+          let g = to (h .network) (start t .args .sheet .now) (start t .args .call) in
           let is = c .before .before .call-gap .ensures ∙ ap (between t) (c .before .before .before .unpacked .ensures) ∙ gap-is t h b in
           let lesser : c .before .if1 .lesser ≡ min (t .before .loop .lesser) (g (other t)) =
           ⊎-elim (λ w. omega (arith, is, w .1, w .0 .taken)) (λ w. omega (arith, is, w .1, w .0 .left)) (c .before .if1 .came) in (
@@ -191,7 +194,7 @@ returns c h b =
     let s = c .before .before in
     let l = c .before .loop in
     let none : 0 ≡ l .from = omega (arith, c .loop-test .left) in
-    ap (λ (k : ℕ). leastFrom (l .lesser) (map (to (h .network) (startsIn (s .args .starts .now)) (s .args .call)) (callsBefore (s .args .call .stop) (callsIn (h .network .list)) k))) none
+    ap (λ (k : ℕ). leastFrom (l .lesser) (map (to (h .network) (s .args .sheet .now) (s .args .call)) (callsBefore (s .args .call .stop) (callsIn (h .network .list)) k))) none
     ∙ l .inv .1 h b .1
 
 pub least-gap-spec : {M : Type 1} → statement M

@@ -10,7 +10,7 @@ use lib.ListN.{length, getD, set}
 use Rattle.network.specs.declared.Call.{Call}
 use Rattle.network.specs.declared.Network.{Network}
 use Rattle.network.specs.Rating.{gapOfStop, callsOfStop, stopGap}
-use Rattle.network.specs.Scan.{lastAt, callsBefore, LeadsBack, DivisorsOf, startsIn, Lent, Rows, Beside}
+use Rattle.network.specs.Scan.{lastAt, callsBefore, LeadsBack, DivisorsOf, Lent, Rows, Beside}
 use Rattle.network.specs.Stored.{netOf, callIn, callsIn}
 use Rattle.network.specs.Valid.{noCall}
 use Rattle.network.proofs.Laws.Packed.{call-in-row, callIn-stop}
@@ -20,22 +20,21 @@ use Rattle.network.proofs.ratings.scanned_gaps.Statement.{statement}
 use Rattle.network.proofs.ratings.scanned_gaps.Tie as tie
 
 abbrev Inv-loop : tie.InvT-loop
-Inv-loop periods list calls divisors starts counts gaps₀ last₀ previous₀ i₀ gaps last previous i =
+Inv-loop periods list calls divisors sheet counts gaps₀ last₀ previous₀ i₀ gaps last previous i =
     (i ≤ calls)
-    × ((lines : ℕ) (h : Lent periods list lines calls) → DivisorsOf (netOf (h .network) .periods) divisors → Scanned (netOf (h .network)) (startsIn starts) (callsIn (h .network .list)) counts gaps last previous i)
+    × ((h : Lent periods list (length sheet) calls) → DivisorsOf (netOf (h .network) .periods) divisors → Scanned (netOf (h .network)) sheet (callsIn (h .network .list)) counts gaps last previous i)
 
 abbrev μ-loop : tie.MeasureT-loop
-μ-loop periods list calls divisors starts counts gaps₀ last₀ previous₀ i₀ gaps last previous i = calls - i
+μ-loop periods list calls divisors sheet counts gaps₀ last₀ previous₀ i₀ gaps last previous i = calls - i
 
 -- A network that the rows hold, and the divisors of its periods
 abbrev Held : tie.Start Inv-loop μ-loop → Type 0
 Held s =
-    (lines : ℕ)
-    × (h : Lent (s .args .periods .now) (s .args .list .now) lines (s .args .calls))
+    (h : Lent (s .args .periods .now) (s .args .list .now) (length (s .args .sheet .now)) (s .args .calls))
     × DivisorsOf (netOf (h .network) .periods) (s .args .divisors .now)
 
 small : (t : tie.In-loop Inv-loop μ-loop) → t .before .loop .i < 256
-small t = let h = t .before .before .pre .1 in omega (arith, t .loop-test .taken, h .calls-are, h .sound .calls)
+small t = let h = t .before .before .pre .0 in omega (arith, t .loop-test .taken, h .calls-are, h .sound .calls)
 
 stop-low : (u : tie.After-unpacked Inv-loop μ-loop) → u .unpacked .result .stop < 64
 stop-low u =
@@ -44,8 +43,8 @@ stop-low u =
 
 -- At a turn of the loop, in a network that the rows hold: the call that is looked at, and the latest before it at its stop
 module _ (u : tie.After-unpacked Inv-loop μ-loop) (held-by : Held (u .before .before .before .before)) where
-  abbrev h : Lent (u .before .before .before .before .args .periods .now) (u .before .before .before .before .args .list .now) (held-by .0) (u .before .before .before .before .args .calls)
-  h = held-by .1
+  abbrev h : Lent (u .before .before .before .before .args .periods .now) (u .before .before .before .before .args .list .now) (length (u .before .before .before .before .args .sheet .now)) (u .before .before .before .before .args .calls)
+  h = held-by .0
 
   abbrev turn : tie.In-loop Inv-loop μ-loop
   turn = u .before .before
@@ -57,7 +56,7 @@ module _ (u : tie.After-unpacked Inv-loop μ-loop) (held-by : Held (u .before .b
   network = h .network
 
   abbrev sheet : List ℤ
-  sheet = startsIn (start .args .starts .now)
+  sheet = start .args .sheet .now
 
   abbrev counts : List ℕ
   counts = start .args .counts .now
@@ -75,7 +74,7 @@ module _ (u : tie.After-unpacked Inv-loop μ-loop) (held-by : Held (u .before .b
   before = getD (turn .before .loop .last) (call .stop) 0
 
   abbrev scanned : Scanned (netOf network) sheet held counts (turn .before .loop .gaps) (turn .before .loop .last) (turn .before .loop .previous) i
-  scanned = turn .before .loop .inv .1 (held-by .0) h (held-by .2)
+  scanned = turn .before .loop .inv .1 h (held-by .1)
 
   call-is : call ≡ getD held i noCall
   call-is = u .unpacked .ensures ∙ ap (λ (l : List ℕ). callIn (getD l i 0)) (h .list-is) ∙ sym (call-in-row (network .list) i)
@@ -112,13 +111,14 @@ module _ (u : tie.After-unpacked Inv-loop μ-loop) (held-by : Held (u .before .b
         sound = h .sound;
         valid = h .valid;
         list-is = h .list-is;
-        divisors-are = held-by .2;
+        divisors-are = held-by .1;
         leads = leads-before;
       }
 
-  beside : Beside network call before
+  beside : Beside network sheet call before
   beside =
       record {
+        fits = h .lines-are;
         own-line = omega (arith, line-low, held-lines network (h .sound));
         within = omega (arith, before-le, in-file);
         lands = lastAt-landed held (call .stop) i before before-is;
@@ -155,7 +155,7 @@ module _ (u : tie.After-unpacked Inv-loop μ-loop) (held-by : Held (u .before .b
       (scanned .last-is _ held-low) z)
 
 loop-holds : tie.Need-loop-holds Inv-loop μ-loop
-loop-holds c = (omega arith, λ lines h d. scanned-none (netOf (h .network)) (startsIn (c .args .starts .now)) (callsIn (h .network .list)) (c .args .counts .now))
+loop-holds c = (omega arith, λ h d. scanned-none (netOf (h .network)) (c .args .sheet .now) (callsIn (h .network .list)) (c .args .counts .now))
 
 mul-unpacked : tie.Need-mul-unpacked Inv-loop μ-loop
 mul-unpacked c = omega (arith, small c)
@@ -189,7 +189,7 @@ unfolding rows
 gap-with-requires c κs =
     let u = c .before .before .before .before in
     let h = u .before .before .before .before .pre in
-    (rows u h, beside u h, h .1 .periods-are)
+    (rows u h, beside u h, h .0 .periods-are)
 
 mul-gaps : tie.Need-mul-gaps Inv-loop μ-loop
 mul-gaps c = omega (arith, stop-low (c .before .before .before .before .before))
@@ -226,8 +226,8 @@ unfolding rows
 loop-again c =
     let u = c .before .before .before in (
       omega (arith, c .before .before .before .before .before .loop-test .taken),
-      λ lines l d.
-          let h : Held (u .before .before .before .before) = (lines, l, d) in
+      λ l d.
+          let h : Held (u .before .before .before .before) = (l, d) in
           ⊎-elim
           (λ w.
           rw (w .3)
@@ -241,9 +241,9 @@ loop-again c =
 
 returns : tie.Need-returns Inv-loop μ-loop
 unfolding stopGap callsOfStop callsBefore netOf
-returns c lines h d stop low counts =
-    c .before .loop .inv .1 lines h d .gaps-are stop low counts
-    ∙ ap (λ (j : ℕ). gapOfStop (netOf (h .network)) (startsIn (c .before .before .args .starts .now)) (callsBefore stop (callsIn (h .network .list)) j))
+returns c h d stop low counts =
+    c .before .loop .inv .1 h d .gaps-are stop low counts
+    ∙ ap (λ (j : ℕ). gapOfStop (netOf (h .network)) (c .before .before .args .sheet .now) (callsBefore stop (callsIn (h .network .list)) j))
     (le-antisymm (c .before .loop .inv .0) (c .loop-test .left) ∙ h .calls-are)
 
 pub scanned-gaps-spec : {M : Type 1} → statement M
