@@ -41,8 +41,8 @@ impl Call {
         ensures { λ r. ⌜ r ≡ callIn code ⌝ }
     {
         Call {
-            line: (code / Call::LINE_UNIT % 16) as u8,
-            stop: (code / Call::STOP_UNIT % 64) as u8,
+            line: (code / Call::LINE_UNIT % Network::MAX_LINES as u32) as u8,
+            stop: (code / Call::STOP_UNIT % Network::STOPS as u32) as u8,
             offset: (code % Call::STOP_UNIT) as u16,
         }
     }
