@@ -31,7 +31,7 @@ fn gap_by(divisor: u32, reciprocal: u64, earlier: u32, later: u32) -> u32
     if d < divisor - d { d } else { divisor - d }
 }
 
-// The least of an upper value and the gaps of a call to those before it at its stop.
+// The least of an upper value and the gaps of a call to those before it at its stop. No gap is below 0: there the rest isn't looked at.
 fn lowered(
     codes: &[u32; Network::MAX_CALLS],
     previous: &[u16; Network::MAX_CALLS],
@@ -51,6 +51,9 @@ fn lowered(
     let mut least = value as u32;
     let mut from = previous[at] as usize;
     while 0 < from {
+        if least == 0 {
+            return 0;
+        }
         let before = from - 1;
         let other = codes[before];
         let other_line = (other / Call::LINE_UNIT) as usize;

@@ -12,7 +12,7 @@ use Rattle.network.specs.Lists.{keep}
 use Rattle.network.specs.Rating.{gapOfCalls}
 use Rattle.network.specs.Scan.{lastAt, callsBefore, leastFrom, LeadsBack}
 use Rattle.network.specs.Valid.{noCall}
-use Rattle.network.proofs.Laws.Gaps.{lastAt-le, lastAt-landed, callsBefore-lastAt, step-back}
+use Rattle.network.proofs.Laws.Gaps.{lastAt-le, lastAt-landed, callsBefore-lastAt, step-back, leastFrom-le}
 use Rattle.search.specs.Held.{Linked, callsIn}
 use Rattle.search.proofs.Laws.Codes.{lineIn}
 use Rattle.search.proofs.Laws.Linked.{length-callsIn, calls-few, line-row-lt-16, divisor-pos, divisor-le, reciprocal-is, gap-of-rows}
@@ -22,6 +22,9 @@ use Rattle.search.proofs.place.lowered.Tie as tie
 -- the gap from an earlier call to the one at a place
 abbrev to : {codes previous divisors : List ℕ} → Linked codes previous divisors → List ℕ → ℕ → Call → ℕ
 to l starts at d = gapOfCalls (l .net) (map pos starts) d (getD (callsIn l) at noCall)
+
+least-from-zero : (v : ℕ) (xs : List ℕ) → v ≡ 0 → 0 ≡ leastFrom v xs
+least-from-zero v xs e = omega (arith, leastFrom-le v xs)
 
 abbrev Inv-loop : tie.InvT-loop
 Inv-loop codes previous divisors starts at value code line row arrival least₀ from₀ least from =
@@ -160,45 +163,49 @@ loop-holds c =
     let s = c .before .before .before in
     (led-le (rows s) (s .args .at) (at-low s), omega arith, λ l h. first-turn l (s .args .starts .now) (s .args .at) (s .args .value) h)
 
+-- at 0 the rest counts for nothing
+returns : tie.Need-returns Inv-loop μ-loop
+returns c l h = least-from-zero _ _ (c .if1 .taken) ∙ c .before .before .loop .inv .2 l h .1
+
 sub-before : tie.Need-sub-before Inv-loop μ-loop
-sub-before c = c .loop-test .taken
+sub-before c = c .before .loop-test .taken
 
 mul-other : tie.Need-mul-other Inv-loop μ-loop
-mul-other c = omega (arith, before-small c)
+mul-other c = omega (arith, before-small (c .before))
 
 element-copy-out-other : tie.Need-element-copy-out-other Inv-loop μ-loop
-element-copy-out-other c = before-small c
+element-copy-out-other c = before-small (c .before)
 
 cast-other-line : tie.Need-cast-other-line Inv-loop μ-loop
-cast-other-line c = omega (arith, other-small (c .before))
+cast-other-line c = omega (arith, other-small (c .before .before))
 
 add-word : tie.Need-add-word Inv-loop μ-loop
-add-word c = omega (arith, other-small (c .before), line-small (start (c .before)))
+add-word c = omega (arith, other-small (c .before .before), line-small (start (c .before .before)))
 
 mul-word : tie.Need-mul-word Inv-loop μ-loop
-mul-word c = omega (arith, other-small (c .before), line-small (start (c .before)))
+mul-word c = omega (arith, other-small (c .before .before), line-small (start (c .before .before)))
 
 element-copy-out-word : tie.Need-element-copy-out-word Inv-loop μ-loop
-element-copy-out-word c = omega (arith, other-small (c .before), line-small (start (c .before)))
+element-copy-out-word c = omega (arith, other-small (c .before .before), line-small (start (c .before .before)))
 
 cast-gap-by : tie.Need-cast-gap-by Inv-loop μ-loop
-cast-gap-by c = let t = c .before .before in omega (arith, divisor-le (rows (start t)) (start t .args .at) (before t) (at-low (start t)) (before-low t))
+cast-gap-by c = let t = c .before .before .before in omega (arith, divisor-le (rows (start t)) (start t .args .at) (before t) (at-low (start t)) (before-low t))
 
 mul-gap-by : tie.Need-mul-gap-by Inv-loop μ-loop
-mul-gap-by c = omega (arith, other-small (c .before .before))
+mul-gap-by c = omega (arith, other-small (c .before .before .before))
 
 element-copy-out-gap-by : tie.Need-element-copy-out-gap-by Inv-loop μ-loop
-element-copy-out-gap-by c = other-small (c .before .before)
+element-copy-out-gap-by c = other-small (c .before .before .before)
 
 cast-gap-by-2 : tie.Need-cast-gap-by-2 Inv-loop μ-loop
-cast-gap-by-2 c = let t = c .before .before .before in omega (arith, start-small (start t) (lineIn (getD (start t .args .codes .now) (before t) 0)))
+cast-gap-by-2 c = let t = c .before .before .before .before in omega (arith, start-small (start t) (lineIn (getD (start t .args .codes .now) (before t) 0)))
 
 add-gap-by : tie.Need-add-gap-by Inv-loop μ-loop
-add-gap-by c = let t = c .before .before .before in omega (arith, start-small (start t) (lineIn (getD (start t .args .codes .now) (before t) 0)))
+add-gap-by c = let t = c .before .before .before .before in omega (arith, start-small (start t) (lineIn (getD (start t .args .codes .now) (before t) 0)))
 
 gap-by-requires : tie.Need-gap-by-requires Inv-loop μ-loop
 gap-by-requires c κs =
-    let t = c .before .before .before in
+    let t = c .before .before .before .before in
     let s = start t in (
       (
         divisor-pos (rows s) (s .args .at) (before t) (at-low s) (before-low t),
@@ -212,27 +219,27 @@ gap-by-requires c κs =
     )
 
 mul-from-2 : tie.Need-mul-from-2 Inv-loop μ-loop
-mul-from-2 c = omega (arith, before-small (c .before .before .before .before .before))
+mul-from-2 c = omega (arith, before-small (c .before .before .before .before .before .before))
 
 element-copy-out-from-2 : tie.Need-element-copy-out-from-2 Inv-loop μ-loop
-element-copy-out-from-2 c = before-small (c .before .before .before .before .before)
+element-copy-out-from-2 c = before-small (c .before .before .before .before .before .before)
 
 cast-from-2 : tie.Need-cast-from-2 Inv-loop μ-loop
-cast-from-2 c = let t = c .before .before .before .before .before .before in omega (arith, led-le (rows (start t)) (before t) (before-low t), before-small t)
+cast-from-2 c = let t = c .before .before .before .before .before .before .before in omega (arith, led-le (rows (start t)) (before t) (before-low t), before-small t)
 
 loop-less : tie.Need-loop-less Inv-loop μ-loop
-loop-less c = let t = c .before .before .before .before .before .before in omega (arith, led-le (rows (start t)) (before t) (before-low t), t .loop-test .taken)
+loop-less c = let t = c .before .before .before .before .before .before .before in omega (arith, led-le (rows (start t)) (before t) (before-low t), t .loop-test .taken)
 
 loop-again : tie.Need-loop-again Inv-loop μ-loop
 loop-again c =
-    let t = c .before .before .before .before .before .before in
+    let t = c .before .before .before .before .before .before .before in
     let s = start t in (
       omega (arith, led-le (rows s) (before t) (before-low t), t .before .loop .inv .0),
-      ⊎-elim (λ w. omega (arith, w .1, w .0 .taken, t .before .loop .inv .1)) (λ w. omega (arith, w .1, t .before .loop .inv .1)) (c .before .if1 .came),
+      ⊎-elim (λ w. omega (arith, w .1, w .0 .taken, t .before .loop .inv .1)) (λ w. omega (arith, w .1, t .before .loop .inv .1)) (c .before .if2 .came),
       λ l h.
           let is = c .before .before .gap-by .ensures ∙ gap-of-rows l (s .args .at) (before t) h (in-file l t h) (s .args .starts .now) in
-          let lesser : c .before .if1 .least ≡ min (t .before .loop .least) (to l (s .args .starts .now) (s .args .at) (getD (callsIn l) (before t) noCall)) =
-          ⊎-elim (λ w. omega (arith, is, w .1, w .0 .taken)) (λ w. omega (arith, is, w .1, w .0 .left)) (c .before .if1 .came) in
+          let lesser : c .before .if2 .least ≡ min (t .before .loop .least) (to l (s .args .starts .now) (s .args .at) (getD (callsIn l) (before t) noCall)) =
+          ⊎-elim (λ w. omega (arith, is, w .1, w .0 .taken)) (λ w. omega (arith, is, w .1, w .0 .left)) (c .before .if2 .came) in
           let turn = one-turn l (s .args .starts .now) (s .args .at) (s .args .value) (t .before .loop .from) (t .before .loop .least) (in-file l t h)
           (t .loop-test .taken) (t .before .loop .inv .2 l h) in (
             turn .0,
@@ -245,9 +252,9 @@ loop-again c =
 cast-result : tie.Need-cast-result Inv-loop μ-loop
 cast-result c = let s = c .before .before .before .before .before in omega (arith, c .before .loop .inv .1, s .fits .value)
 
-returns : tie.Need-returns Inv-loop μ-loop
+returns-2 : tie.Need-returns-2 Inv-loop μ-loop
 unfolding leastFrom callsBefore keep
-returns c l h =
+returns-2 c l h =
     let s = c .before .before .before .before .before in
     let p = c .before .loop in
     let none : 0 ≡ p .from = omega (arith, c .loop-test .left) in
@@ -272,6 +279,7 @@ lowered-spec =
     element-copy-out-from
     cast-from
     loop-holds
+    returns
     sub-before
     mul-other
     element-copy-out-other
@@ -291,4 +299,4 @@ lowered-spec =
     loop-less
     loop-again
     cast-result
-    returns)
+    returns-2)
