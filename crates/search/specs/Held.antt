@@ -59,15 +59,15 @@ pub record Linked (codes previous divisors : List ℕ) : Type 0 where
       → getD divisors (i * maxLines + j) 0 ≡ withReciprocal (gcd (getD (net .periods) j 0) (getD (net .periods) i 0))
 
 -- The calls in the order of their lines
-abbrev pub callsIn : {codes previous divisors : List ℕ} → Linked codes previous divisors → List Call
-callsIn l = byLine (l .net .calls) (length (l .net .periods))
+abbrev pub callsByLine : {codes previous divisors : List ℕ} → Linked codes previous divisors → List Call
+callsByLine l = byLine (l .net .calls) (length (l .net .periods))
 
 -- The least of a value and the gaps of the call at a place to those before it at its stop
 abbrev pub loweredAt : {codes previous divisors : List ℕ} → Linked codes previous divisors → List ℕ → ℕ → ℕ → ℕ
 loweredAt l starts at value =
     leastFrom value
-    (map (λ d. gapOfCalls (l .net) (map pos starts) d (getD (callsIn l) at noCall))
-    (callsBefore (getD (callsIn l) at noCall .stop) (callsIn l) at))
+    (map (λ d. gapOfCalls (l .net) (map pos starts) d (getD (callsByLine l) at noCall))
+    (callsBefore (getD (callsByLine l) at noCall .stop) (callsByLine l) at))
 
 -- The place of a line's first call and the number of its starts, which stand in one number
 abbrev pub firstIn : ℕ → ℕ

@@ -19,7 +19,7 @@ use Rattle.network.proofs.Laws.Gaps.{residue-eq-of-multiple}
 use Rattle.network.proofs.Laws.Integers.{difference-pos, difference-sub, difference-add-multiple, eq-of-difference}
 use Rattle.search.specs.Layout.{byLine}
 use Rattle.network.proofs.Laws.Packed.{InLimits}
-use Rattle.search.specs.Held.{Linked, callsIn, reciprocal, withReciprocal}
+use Rattle.search.specs.Held.{Linked, callsByLine, reciprocal, withReciprocal}
 use Rattle.search.proofs.Laws.Layout.{length-byLine-all, byLine-line-lt}
 use Rattle.search.proofs.Laws.Codes.{lineIn, stopIn, offsetIn, line-of-packed, stop-of-packed, offset-of-packed}
 use Rattle.search.proofs.Laws.Reciprocal.{divisor-part, reciprocal-part}
@@ -45,36 +45,36 @@ arrival-of starts line offset c e f =
 
 module _ {codes previous divisors : List ℕ} (l : Linked codes previous divisors) where
   -- all calls are in line order
-  pub length-callsIn : length (callsIn l) ≡ length (l .net .calls)
-  length-callsIn = length-byLine-all (l .net .calls) (length (l .net .periods)) (l .valid .call-line)
+  pub length-callsByLine : length (callsByLine l) ≡ length (l .net .calls)
+  length-callsByLine = length-byLine-all (l .net .calls) (length (l .net .periods)) (l .valid .call-line)
 
   pub calls-few : length (l .net .calls) ≤ 256
   calls-few = l .valid .calls
 
   module _ (i : ℕ) (h : i < length (l .net .calls)) where
-    pub line-low : getD (callsIn l) i noCall .line < length (l .net .periods)
-    line-low = byLine-line-lt (l .net .calls) (length (l .net .periods)) (length (l .net .periods)) i (omega arith) (omega (arith, length-callsIn))
+    pub line-low : getD (callsByLine l) i noCall .line < length (l .net .periods)
+    line-low = byLine-line-lt (l .net .calls) (length (l .net .periods)) (length (l .net .periods)) i (omega arith) (omega (arith, length-callsByLine))
 
-    pub stop-low : getD (callsIn l) i noCall .stop < 64
+    pub stop-low : getD (callsByLine l) i noCall .stop < 64
     stop-low =
         omega
-        (arith, byLine-all (λ (c : Call). c .stop ≤ maxStop) (l .net .calls) (l .valid .call-stop) (length (l .net .periods)) i (omega (arith, length-callsIn)))
+        (arith, byLine-all (λ (c : Call). c .stop ≤ maxStop) (l .net .calls) (l .valid .call-stop) (length (l .net .periods)) i (omega (arith, length-callsByLine)))
 
-    in-limits : InLimits (getD (callsIn l) i noCall)
+    in-limits : InLimits (getD (callsByLine l) i noCall)
     in-limits =
         record {
           line = omega (arith, line-low, l .valid .lines);
           stop = omega (arith, stop-low);
-          offset = byLine-all (λ (c : Call). c .offset ≤ maxOffset) (l .net .calls) (l .valid .call-offset) (length (l .net .periods)) i (omega (arith, length-callsIn));
+          offset = byLine-all (λ (c : Call). c .offset ≤ maxOffset) (l .net .calls) (l .valid .call-offset) (length (l .net .periods)) i (omega (arith, length-callsByLine));
         }
 
-    pub line-of : lineIn (getD codes i 0) ≡ getD (callsIn l) i noCall .line
+    pub line-of : lineIn (getD codes i 0) ≡ getD (callsByLine l) i noCall .line
     line-of = ap lineIn (l .code-of i h) ∙ line-of-packed _ in-limits
 
-    pub stop-of : stopIn (getD codes i 0) ≡ getD (callsIn l) i noCall .stop
+    pub stop-of : stopIn (getD codes i 0) ≡ getD (callsByLine l) i noCall .stop
     stop-of = ap stopIn (l .code-of i h) ∙ stop-of-packed _ in-limits
 
-    offset-of : offsetIn (getD codes i 0) ≡ getD (callsIn l) i noCall .offset
+    offset-of : offsetIn (getD codes i 0) ≡ getD (callsByLine l) i noCall .offset
     offset-of = ap offsetIn (l .code-of i h) ∙ offset-of-packed _ in-limits
 
     line-row-low : lineIn (getD codes i 0) < length (l .net .periods)
@@ -87,29 +87,29 @@ module _ {codes previous divisors : List ℕ} (l : Linked codes previous divisor
   module _ (i j : ℕ) (hi : i < length (l .net .calls)) (hj : j < length (l .net .calls)) where
     word-is :
         getD divisors (lineIn (getD codes i 0) * 16 + lineIn (getD codes j 0)) 0
-        ≡ withReciprocal (gcd (periodOf (l .net) (getD (callsIn l) j noCall)) (periodOf (l .net) (getD (callsIn l) i noCall)))
+        ≡ withReciprocal (gcd (periodOf (l .net) (getD (callsByLine l) j noCall)) (periodOf (l .net) (getD (callsByLine l) i noCall)))
     unfolding periodOf
     word-is =
         l .divisor-of (lineIn (getD codes i 0)) (lineIn (getD codes j 0)) (line-row-low i hi) (line-row-low j hj)
         ∙ ap₂ (λ (a b : ℕ). withReciprocal (gcd (getD (l .net .periods) a 0) (getD (l .net .periods) b 0))) (line-of j hj) (line-of i hi)
 
-    period-pos : 0 < periodOf (l .net) (getD (callsIn l) j noCall)
+    period-pos : 0 < periodOf (l .net) (getD (callsByLine l) j noCall)
     unfolding periodOf
     period-pos = l .valid .period-pos _ (line-low j hj)
 
-    period-le : periodOf (l .net) (getD (callsIn l) j noCall) ≤ maxPeriod
+    period-le : periodOf (l .net) (getD (callsByLine l) j noCall) ≤ maxPeriod
     unfolding periodOf
     period-le = l .valid .period _ (line-low j hj)
 
-    gcd-pos : 0 < gcd (periodOf (l .net) (getD (callsIn l) j noCall)) (periodOf (l .net) (getD (callsIn l) i noCall))
+    gcd-pos : 0 < gcd (periodOf (l .net) (getD (callsByLine l) j noCall)) (periodOf (l .net) (getD (callsByLine l) i noCall))
     gcd-pos = gcd-pos-left _ _ period-pos
 
-    gcd-low : gcd (periodOf (l .net) (getD (callsIn l) j noCall)) (periodOf (l .net) (getD (callsIn l) i noCall)) ≤ 1440
+    gcd-low : gcd (periodOf (l .net) (getD (callsByLine l) j noCall)) (periodOf (l .net) (getD (callsByLine l) i noCall)) ≤ 1440
     gcd-low = le-trans (gcd-le-left _ _ period-pos) period-le
 
     divisor-is :
         getD divisors (lineIn (getD codes i 0) * 16 + lineIn (getD codes j 0)) 0 % 2048
-        ≡ gcd (periodOf (l .net) (getD (callsIn l) j noCall)) (periodOf (l .net) (getD (callsIn l) i noCall))
+        ≡ gcd (periodOf (l .net) (getD (callsByLine l) j noCall)) (periodOf (l .net) (getD (callsByLine l) i noCall))
     divisor-is = ap (λ (w : ℕ). w % 2048) word-is ∙ divisor-part _ gcd-pos (omega (arith, gcd-low))
 
     pub divisor-pos : 0 < getD divisors (lineIn (getD codes i 0) * 16 + lineIn (getD codes j 0)) 0 % 2048
@@ -128,15 +128,15 @@ module _ {codes previous divisors : List ℕ} (l : Linked codes previous divisor
         → fold (getD divisors (lineIn (getD codes i 0) * 16 + lineIn (getD codes j 0)) 0 % 2048)
         (residue (pos (getD starts (lineIn (getD codes j 0)) 0 + offsetIn (getD codes j 0)) -ℤ pos (getD starts (lineIn (getD codes i 0)) 0 + offsetIn (getD codes i 0)))
         (getD divisors (lineIn (getD codes i 0) * 16 + lineIn (getD codes j 0)) 0 % 2048))
-        ≡ gapOfCalls (l .net) (map pos starts) (getD (callsIn l) j noCall) (getD (callsIn l) i noCall)
+        ≡ gapOfCalls (l .net) (map pos starts) (getD (callsByLine l) j noCall) (getD (callsByLine l) i noCall)
     unfolding gapOfCalls gapOf
     gap-of-rows starts =
         ap (λ (g : ℕ). fold g (residue (pos (getD starts (lineIn (getD codes j 0)) 0 + offsetIn (getD codes j 0)) -ℤ pos (getD starts (lineIn (getD codes i 0)) 0 + offsetIn (getD codes i 0))) g))
         divisor-is
-        ∙ ap₂ (λ (a b : ℤ). fold (gcd (periodOf (l .net) (getD (callsIn l) j noCall)) (periodOf (l .net) (getD (callsIn l) i noCall)))
-        (residue (a -ℤ b) (gcd (periodOf (l .net) (getD (callsIn l) j noCall)) (periodOf (l .net) (getD (callsIn l) i noCall)))))
+        ∙ ap₂ (λ (a b : ℤ). fold (gcd (periodOf (l .net) (getD (callsByLine l) j noCall)) (periodOf (l .net) (getD (callsByLine l) i noCall)))
+        (residue (a -ℤ b) (gcd (periodOf (l .net) (getD (callsByLine l) j noCall)) (periodOf (l .net) (getD (callsByLine l) i noCall)))))
         (arrives j hj)
         (arrives i hi)
       where
-        arrives : (k : ℕ) → k < length (l .net .calls) → pos (getD starts (lineIn (getD codes k 0)) 0 + offsetIn (getD codes k 0)) ≡ arrivalOf (map pos starts) (getD (callsIn l) k noCall)
-        arrives k h = arrival-of starts (lineIn (getD codes k 0)) (offsetIn (getD codes k 0)) (getD (callsIn l) k noCall) (line-of k h) (offset-of k h)
+        arrives : (k : ℕ) → k < length (l .net .calls) → pos (getD starts (lineIn (getD codes k 0)) 0 + offsetIn (getD codes k 0)) ≡ arrivalOf (map pos starts) (getD (callsByLine l) k noCall)
+        arrives k h = arrival-of starts (lineIn (getD codes k 0)) (offsetIn (getD codes k 0)) (getD (callsByLine l) k noCall) (line-of k h) (offset-of k h)

@@ -13,15 +13,15 @@ use Rattle.network.specs.Rating.{gapOfCalls}
 use Rattle.network.specs.Scan.{lastAt, callsBefore, leastFrom, LeadsBack}
 use Rattle.network.specs.Valid.{noCall}
 use Rattle.network.proofs.Laws.Gaps.{lastAt-le, lastAt-landed, callsBefore-lastAt, step-back, leastFrom-le}
-use Rattle.search.specs.Held.{Linked, callsIn}
+use Rattle.search.specs.Held.{Linked, callsByLine}
 use Rattle.search.proofs.Laws.Codes.{lineIn}
-use Rattle.search.proofs.Laws.Linked.{length-callsIn, calls-few, line-row-lt-16, divisor-pos, divisor-le, reciprocal-is, gap-of-rows}
+use Rattle.search.proofs.Laws.Linked.{length-callsByLine, calls-few, line-row-lt-16, divisor-pos, divisor-le, reciprocal-is, gap-of-rows}
 use Rattle.search.proofs.place.lowered.Statement.{statement}
 use Rattle.search.proofs.place.lowered.Tie as tie
 
 -- the gap from an earlier call to the one at a place
 abbrev to : {codes previous divisors : List ℕ} → Linked codes previous divisors → List ℕ → ℕ → Call → ℕ
-to l starts at d = gapOfCalls (l .net) (map pos starts) d (getD (callsIn l) at noCall)
+to l starts at d = gapOfCalls (l .net) (map pos starts) d (getD (callsByLine l) at noCall)
 
 least-from-zero : (v : ℕ) (xs : List ℕ) → v ≡ 0 → 0 ≡ leastFrom v xs
 least-from-zero v xs e = omega (arith, leastFrom-le v xs)
@@ -32,9 +32,9 @@ Inv-loop codes previous divisors starts at value code line row arrival least₀ 
     × (least ≤ value)
     × ((l : Linked codes previous divisors)
     → at < length (l .net .calls)
-    → (0 < from → getD (callsIn l) (from - 1) noCall .stop ≡ getD (callsIn l) at noCall .stop)
-    × (leastFrom least (map (to l starts at) (callsBefore (getD (callsIn l) at noCall .stop) (callsIn l) from))
-    ≡ leastFrom value (map (to l starts at) (callsBefore (getD (callsIn l) at noCall .stop) (callsIn l) at))))
+    → (0 < from → getD (callsByLine l) (from - 1) noCall .stop ≡ getD (callsByLine l) at noCall .stop)
+    × (leastFrom least (map (to l starts at) (callsBefore (getD (callsByLine l) at noCall .stop) (callsByLine l) from))
+    ≡ leastFrom value (map (to l starts at) (callsBefore (getD (callsByLine l) at noCall .stop) (callsByLine l) at))))
 
 abbrev μ-loop : tie.MeasureT-loop
 μ-loop codes previous divisors starts at value code line row arrival least₀ from₀ least from = from
@@ -58,25 +58,25 @@ module _ (s : tie.Start Inv-loop μ-loop) where
 
 -- For any network that the rows hold: where the row leads from a call, it leads to the one before at its stop
 module _ {codes previous divisors : List ℕ} (l : Linked codes previous divisors) where
-  led : (j : ℕ) → j < length (l .net .calls) → getD previous j 0 ≡ lastAt (getD (callsIn l) j noCall .stop) (callsIn l) j
+  led : (j : ℕ) → j < length (l .net .calls) → getD previous j 0 ≡ lastAt (getD (callsByLine l) j noCall .stop) (callsByLine l) j
   unfolding LeadsBack
   led j h = l .leads j h
 
   led-le : (j : ℕ) → j < length (l .net .calls) → getD previous j 0 ≤ j
-  led-le j h = omega (arith, led j h, lastAt-le (getD (callsIn l) j noCall .stop) (callsIn l) j)
+  led-le j h = omega (arith, led j h, lastAt-le (getD (callsByLine l) j noCall .stop) (callsByLine l) j)
 
   -- before the first turn
   first-turn :
       (starts : List ℕ) (at value : ℕ)
       → at < length (l .net .calls)
-      → (0 < getD previous at 0 → getD (callsIn l) (getD previous at 0 - 1) noCall .stop ≡ getD (callsIn l) at noCall .stop)
-      × (leastFrom value (map (to l starts at) (callsBefore (getD (callsIn l) at noCall .stop) (callsIn l) (getD previous at 0)))
-      ≡ leastFrom value (map (to l starts at) (callsBefore (getD (callsIn l) at noCall .stop) (callsIn l) at)))
+      → (0 < getD previous at 0 → getD (callsByLine l) (getD previous at 0 - 1) noCall .stop ≡ getD (callsByLine l) at noCall .stop)
+      × (leastFrom value (map (to l starts at) (callsBefore (getD (callsByLine l) at noCall .stop) (callsByLine l) (getD previous at 0)))
+      ≡ leastFrom value (map (to l starts at) (callsBefore (getD (callsByLine l) at noCall .stop) (callsByLine l) at)))
   first-turn starts at value h =
-      let stop = getD (callsIn l) at noCall .stop in (
-        lastAt-landed (callsIn l) stop at (getD previous at 0) (led at h),
+      let stop = getD (callsByLine l) at noCall .stop in (
+        lastAt-landed (callsByLine l) stop at (getD previous at 0) (led at h),
         ap (λ cs. leastFrom value (map (to l starts at) cs))
-            (ap (callsBefore stop (callsIn l)) (led at h) ∙ sym (callsBefore-lastAt stop (callsIn l) at (omega (arith, length-callsIn l)))),
+            (ap (callsBefore stop (callsByLine l)) (led at h) ∙ sym (callsBefore-lastAt stop (callsByLine l) at (omega (arith, length-callsByLine l)))),
       )
 
   -- one turn: from a call at the stop back to the one before
@@ -84,20 +84,20 @@ module _ {codes previous divisors : List ℕ} (l : Linked codes previous divisor
       (starts : List ℕ) (at value from least : ℕ)
       → from - 1 < length (l .net .calls)
       → 0 < from
-      → (0 < from → getD (callsIn l) (from - 1) noCall .stop ≡ getD (callsIn l) at noCall .stop)
-      × (leastFrom least (map (to l starts at) (callsBefore (getD (callsIn l) at noCall .stop) (callsIn l) from))
-      ≡ leastFrom value (map (to l starts at) (callsBefore (getD (callsIn l) at noCall .stop) (callsIn l) at)))
-      → (0 < getD previous (from - 1) 0 → getD (callsIn l) (getD previous (from - 1) 0 - 1) noCall .stop ≡ getD (callsIn l) at noCall .stop)
-      × (leastFrom (min least (to l starts at (getD (callsIn l) (from - 1) noCall)))
-      (map (to l starts at) (callsBefore (getD (callsIn l) at noCall .stop) (callsIn l) (getD previous (from - 1) 0)))
-      ≡ leastFrom value (map (to l starts at) (callsBefore (getD (callsIn l) at noCall .stop) (callsIn l) at)))
+      → (0 < from → getD (callsByLine l) (from - 1) noCall .stop ≡ getD (callsByLine l) at noCall .stop)
+      × (leastFrom least (map (to l starts at) (callsBefore (getD (callsByLine l) at noCall .stop) (callsByLine l) from))
+      ≡ leastFrom value (map (to l starts at) (callsBefore (getD (callsByLine l) at noCall .stop) (callsByLine l) at)))
+      → (0 < getD previous (from - 1) 0 → getD (callsByLine l) (getD previous (from - 1) 0 - 1) noCall .stop ≡ getD (callsByLine l) at noCall .stop)
+      × (leastFrom (min least (to l starts at (getD (callsByLine l) (from - 1) noCall)))
+      (map (to l starts at) (callsBefore (getD (callsByLine l) at noCall .stop) (callsByLine l) (getD previous (from - 1) 0)))
+      ≡ leastFrom value (map (to l starts at) (callsBefore (getD (callsByLine l) at noCall .stop) (callsByLine l) at)))
   one-turn starts at value from least h k inv =
-      let stop = getD (callsIn l) at noCall .stop in
-      let back : getD previous (from - 1) 0 ≡ lastAt stop (callsIn l) (from - 1) = led (from - 1) h ∙ ap (λ (t : ℕ). lastAt t (callsIn l) (from - 1)) (inv .0 k) in (
-        lastAt-landed (callsIn l) stop (from - 1) (getD previous (from - 1) 0) back,
-        ap (λ (j : ℕ). leastFrom (min least (to l starts at (getD (callsIn l) (from - 1) noCall))) (map (to l starts at) (callsBefore stop (callsIn l) j))) back
-            ∙ step-back (to l starts at) stop (callsIn l) (from - 1) least (omega (arith, length-callsIn l)) (inv .0 k)
-            ∙ ap (λ (j : ℕ). leastFrom least (map (to l starts at) (callsBefore stop (callsIn l) j))) (omega arith)
+      let stop = getD (callsByLine l) at noCall .stop in
+      let back : getD previous (from - 1) 0 ≡ lastAt stop (callsByLine l) (from - 1) = led (from - 1) h ∙ ap (λ (t : ℕ). lastAt t (callsByLine l) (from - 1)) (inv .0 k) in (
+        lastAt-landed (callsByLine l) stop (from - 1) (getD previous (from - 1) 0) back,
+        ap (λ (j : ℕ). leastFrom (min least (to l starts at (getD (callsByLine l) (from - 1) noCall))) (map (to l starts at) (callsBefore stop (callsByLine l) j))) back
+            ∙ step-back (to l starts at) stop (callsByLine l) (from - 1) least (omega (arith, length-callsByLine l)) (inv .0 k)
+            ∙ ap (λ (j : ℕ). leastFrom least (map (to l starts at) (callsBefore stop (callsByLine l) j))) (omega arith)
             ∙ inv .1,
       )
 
@@ -238,13 +238,13 @@ loop-again c =
       ⊎-elim (λ w. omega (arith, w .1, w .0 .taken, t .before .loop .inv .1)) (λ w. omega (arith, w .1, t .before .loop .inv .1)) (c .before .if2 .came),
       λ l h.
           let is = c .before .before .gap-by .ensures ∙ gap-of-rows l (s .args .at) (before t) h (in-file l t h) (s .args .starts .now) in
-          let lesser : c .before .if2 .least ≡ min (t .before .loop .least) (to l (s .args .starts .now) (s .args .at) (getD (callsIn l) (before t) noCall)) =
+          let lesser : c .before .if2 .least ≡ min (t .before .loop .least) (to l (s .args .starts .now) (s .args .at) (getD (callsByLine l) (before t) noCall)) =
           ⊎-elim (λ w. omega (arith, is, w .1, w .0 .taken)) (λ w. omega (arith, is, w .1, w .0 .left)) (c .before .if2 .came) in
           let turn = one-turn l (s .args .starts .now) (s .args .at) (s .args .value) (t .before .loop .from) (t .before .loop .least) (in-file l t h)
           (t .loop-test .taken) (t .before .loop .inv .2 l h) in (
             turn .0,
             ap (λ (v : ℕ). leastFrom v (map (to l (s .args .starts .now) (s .args .at))
-                (callsBefore (getD (callsIn l) (s .args .at) noCall .stop) (callsIn l) (getD (s .args .previous .now) (before t) 0)))) lesser
+                (callsBefore (getD (callsByLine l) (s .args .at) noCall .stop) (callsByLine l) (getD (s .args .previous .now) (before t) 0)))) lesser
                 ∙ turn .1,
           ),
     )
@@ -258,7 +258,7 @@ returns-2 c l h =
     let s = c .before .before .before .before .before in
     let p = c .before .loop in
     let none : 0 ≡ p .from = omega (arith, c .loop-test .left) in
-    ap (λ (k : ℕ). leastFrom (p .least) (map (to l (s .args .starts .now) (s .args .at)) (callsBefore (getD (callsIn l) (s .args .at) noCall .stop) (callsIn l) k))) none
+    ap (λ (k : ℕ). leastFrom (p .least) (map (to l (s .args .starts .now) (s .args .at)) (callsBefore (getD (callsByLine l) (s .args .at) noCall .stop) (callsByLine l) k))) none
     ∙ p .inv .2 l h .1
 
 pub lowered-spec : {M : Type 1} → statement M

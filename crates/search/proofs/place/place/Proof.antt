@@ -16,11 +16,11 @@ use Rattle.network.specs.Scan.{leastFrom, callsBefore}
 use Rattle.network.specs.Valid.{noCall}
 use Rattle.search.specs.declared.Placed.{Placed}
 use Rattle.search.specs.Layout.{byLine}
-use Rattle.search.specs.Held.{Laid, firstIn, callsIn, isShort, CanPlace, startsOf, Represents}
+use Rattle.search.specs.Held.{Laid, firstIn, callsByLine, isShort, CanPlace, startsOf, Represents}
 use Rattle.search.proofs.Laws.Codes.{stopIn}
 use Rattle.search.proofs.Laws.Layout.{length-byLine-le}
 use Rattle.search.proofs.Laws.Placing.{length-byLine-grows}
-use Rattle.search.proofs.Laws.Linked.{length-callsIn, calls-few, stop-of, stop-low}
+use Rattle.search.proofs.Laws.Linked.{length-callsByLine, calls-few, stop-of, stop-low}
 use Rattle.search.proofs.Laws.Placing.{
   Lowering,
   lowering-first,
@@ -107,10 +107,10 @@ module _ (t : tie.In-loop Inv-loop μ-loop) where
         omega
         (arith, t .loop-test .taken, l .first-of (start .args .due .line + 1) (omega (arith, stated)), length-byLine-le (l .linked .net .calls) (start .args .due .line + 1))
 
-    in-order : i < length (callsIn (l .linked))
-    in-order = omega (arith, in-file, length-callsIn (l .linked))
+    in-order : i < length (callsByLine (l .linked))
+    in-order = omega (arith, in-file, length-callsByLine (l .linked))
 
-    here : getD (callsIn (l .linked)) i noCall .stop ≡ stop
+    here : getD (callsByLine (l .linked)) i noCall .stop ≡ stop
     here = sym (stop-of (l .linked) i in-file)
 
     low : stop < 64
@@ -155,13 +155,13 @@ module _ (c : tie.After-lowered Inv-loop μ-loop) where
     value-is :
         c .lowered .result
         ≡ leastFrom (getD (next turn .values) (stop turn) 0)
-        (map (λ d. gapOfCalls (l .linked .net) (map pos (starts (start turn))) d (getD (callsIn (l .linked)) (i turn) noCall))
-        (callsBefore (stop turn) (callsIn (l .linked)) (i turn)))
+        (map (λ d. gapOfCalls (l .linked .net) (map pos (starts (start turn))) d (getD (callsByLine (l .linked)) (i turn) noCall))
+        (callsBefore (stop turn) (callsByLine (l .linked)) (i turn)))
     value-is =
         c .lowered .ensures (l .linked) (in-file turn l begun stated)
         ∙ ap₂ (λ (st : List ℕ) (k : ℕ). leastFrom (getD (next turn .values) (stop turn) 0)
-        (map (λ d. gapOfCalls (l .linked .net) (map pos st) d (getD (callsIn (l .linked)) (i turn) noCall))
-        (callsBefore k (callsIn (l .linked)) (i turn))))
+        (map (λ d. gapOfCalls (l .linked .net) (map pos st) d (getD (callsByLine (l .linked)) (i turn) noCall))
+        (callsBefore k (callsByLine (l .linked)) (i turn))))
         (turn .before .loop .inv .1)
         (here turn l begun stated)
 
