@@ -4,8 +4,8 @@
 //!
 //! For each two lines a table has, by the difference of their starts, the least
 //! gap over the stops that both call at. A try's upper least gap is then the
-//! least of some look-ups, and most tries are dropped by it before any stop is
-//! touched. For the others a second table has the gaps at those stops.
+//! least of some look-ups, and a try that falls by it is dropped before any stop
+//! is touched. For the others a second table has the gaps at those stops.
 
 use crate::papers::caps::caps;
 use crate::papers::network::{Network, STOPS};
