@@ -7,9 +7,9 @@
 //! least of some look-ups, and a try that falls by it is dropped before any stop
 //! is touched. For the others a second table has the gaps at those stops.
 
-use crate::papers::caps::caps;
+use crate::papers::caps::{caps, upper_rating};
 use crate::papers::network::{Network, STOPS};
-use crate::papers::rating::{divisor, nearer, rating_of_gaps, remainder, Rating};
+use crate::papers::rating::{divisor, nearer, remainder, Rating};
 use crate::papers::walk::{Answer, Walked};
 
 /// A number for each stop, or for each stop of a line.
@@ -69,13 +69,11 @@ pub fn walk(net: &Network, budget: u32) -> Walked {
 
 impl Walker {
     fn new(net: &Network, budget: u32) -> Walker {
-        let caps = caps(net);
-        let served: Vec<u32> = net.served_stops().iter().map(|&stop| caps[stop]).collect();
         let lines = net.lines();
         Walker {
             lines: (0..lines).map(|line| Line::new(net, line)).collect(),
-            uppers: vec![caps.map(|cap| cap as u16); lines + 1],
-            ratings: vec![rating_of_gaps(&served); lines + 1],
+            uppers: vec![caps(net).map(|cap| cap as u16); lines + 1],
+            ratings: vec![upper_rating(net, 0, &[]); lines + 1],
             starts: vec![0; lines],
             best: None,
             best_starts: vec![0; lines],

@@ -11,7 +11,7 @@ ghost use Rattle.examination.specs.Chosen.{ratingFrom};
 ghost use Rattle.examination.specs.Sheets as sheets;
 
 // The rating that rate answers; none where it refuses, which is below every rating.
-pub fn rating_from(answer: RateAnswer) -> Rating
+fn rating_from(answer: RateAnswer) -> Rating
     ensures { λ r. ⌜ r ≡ ratingFrom answer ⌝ }
 {
     match answer {

@@ -13,7 +13,7 @@ ghost use Rattle.search.specs.Search.{searchAnswer};
 ghost use Rattle.examination.specs.Sheets as sheets;
 
 // A sheet of this rating beside what the search answers.
-pub fn marked(least: u32, sum: u32, answer: SearchAnswer) -> MarkAnswer
+fn marked(least: u32, sum: u32, answer: SearchAnswer) -> MarkAnswer
     ensures { λ r. ⌜ sheets.markAnswer r ≡ sheets.marked least sum (searchAnswer answer) ⌝ }
 {
     match answer {

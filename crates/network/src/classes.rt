@@ -73,7 +73,7 @@ fn fill_rows(network: Network, class_row: &mut [u8], weight_row: &mut [u16]) -> 
 }
 
 // The lowest stops: 1 for each stop that the class row names as its own lowest, 0 for the others.
-pub fn lowest_row(classes: &[u8; Network::STOPS]) -> [u8; Network::STOPS]
+fn lowest_row(classes: &[u8; Network::STOPS]) -> [u8; Network::STOPS]
     ensures { λ r. ⌜ ((stop : ℕ) → stop < net.stopCount → ltb 0 (getD r stop 0) ≡ eqb (getD (now (classes .entry)) stop 0) stop) ⌝ }
 {
     let mut row = [0u8; Network::STOPS];

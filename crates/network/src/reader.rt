@@ -29,7 +29,7 @@ pub fn word(bytes: &[u8], at: usize) -> u16
 }
 
 // A file that a ground refuses, with the network up to there.
-pub fn refused(network: Network, number: u8, place: usize) -> Step
+fn refused(network: Network, number: u8, place: usize) -> Step
     ensures { λ r. ⌜ (r .check ≡ Check.Refused number place) × (r .network ≡ network) ⌝ }
 {
     Step {
@@ -39,7 +39,7 @@ pub fn refused(network: Network, number: u8, place: usize) -> Step
 }
 
 // A file that is accepted, and its network.
-pub fn passed(network: Network) -> Step
+fn passed(network: Network) -> Step
     ensures { λ r. ⌜ (r .check ≡ Check.Passes) × (r .network ≡ network) ⌝ }
 {
     Step {
@@ -49,7 +49,7 @@ pub fn passed(network: Network) -> Step
 }
 
 // How many bytes of operands a command has.
-pub fn operand_bytes(code: u8) -> usize
+fn operand_bytes(code: u8) -> usize
     ensures { λ r. ⌜ r ≡ net.operandBytes (net.command code) ⌝ }
 {
     match code {
@@ -110,7 +110,7 @@ fn read_line(size: Size, behind: &[u8], at: usize) -> Told
 }
 
 // 43 and 46: whether ground 3 applies, the operands being cut off.
-pub fn call_cut_off(behind: &[u8]) -> bool
+fn call_cut_off(behind: &[u8]) -> bool
     ensures { λ r. ⌜ r ≡ ground.cutOff net.callsByOffset (now (behind .entry)) ⌝ }
 {
     behind.len() < 4

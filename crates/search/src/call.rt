@@ -29,7 +29,7 @@ ghost use Rattle.search.specs.Held as held;
 ghost use Rattle.search.specs.Search as spec;
 
 // The caps as the numbers of a rating.
-pub fn widened(row: &[u16; Network::STOPS]) -> [u32; Network::STOPS]
+fn widened(row: &[u16; Network::STOPS]) -> [u32; Network::STOPS]
     ensures { λ r. ⌜ ((stop : ℕ) → stop < net.stopCount → getD r stop 0 ≡ getD (now (row .entry)) stop 0) ⌝ }
 {
     let caps: &[u16] = row;
@@ -113,7 +113,7 @@ fn write_starts(row: &mut [i32], starts: &[u16; Network::MAX_LINES])
 }
 
 // What a walk at its end answers.
-pub fn outcome(walk: Walk) -> SearchAnswer
+fn outcome(walk: Walk) -> SearchAnswer
     ensures { λ r. ⌜ ((n : net.Net) → spec.searchAnswer r ≡ spec.outcomeOf (held.stateOf n walk)) ⌝ }
 {
     let best = walk.best;
