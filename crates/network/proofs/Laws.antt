@@ -25,6 +25,10 @@ pub mod Starts
 pub mod Permuted
 pub mod Trips
 pub mod Tidy
+pub mod Joined
+pub mod Sorted
+pub mod Archive
+pub mod ArchiveCall
 pub mod Order
 pub mod Gaps
 pub mod Representatives

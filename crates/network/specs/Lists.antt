@@ -48,3 +48,8 @@ leastOf (x ∷ y ∷ rest) = min x (leastOf (y ∷ rest))
 unfoldable pub pairsOf : {A : Type 0} → (A → A → ℕ) → List A → List ℕ
 pairsOf f [] = []
 pairsOf f (a ∷ rest) = map (f a) rest ++ pairsOf f rest
+
+-- What each element gives, one behind the other
+unfoldable pub joined : {A : Type 0} → (A → List ℕ) → List A → List ℕ
+joined f [] = []
+joined f (a ∷ rest) = f a ++ joined f rest

@@ -1,6 +1,6 @@
 -- Document 01, "Grounds for refusing, by their origin": when a call refuses, with which number and place; and what the order's first demand
 -- asks of a call.
-use Prim.Native.Nat.{ℕ}
+use Prim.Native.Nat.{ℕ, _<_}
 use mathlib.Core.Path.{_≡_}
 use mathlib.Core.List.{List}
 use mathlib.Core.Logic.{_⊎_}
@@ -8,9 +8,10 @@ use lib.IntN.{ℤ}
 use lib.ListN.{length}
 use Rattle.network.specs.Network.{Net, stopCount}
 use Rattle.network.specs.Reading.{readFile, accepted, refused}
+use Rattle.network.specs.Archive.{archiveLength}
 
 -- A call on a file and what else is lent to it refuses by the file's own ground, at its place; or, after the file, at place 0, by the call's own
--- ground (15, 16 or 17) where what is lent doesn't fit the file's network
+-- ground (15 to 18) where what is lent doesn't fit the file's network
 pub data Refuses (file : List ℕ) (ground : ℕ) (unfit : Net → Type 0) : ℕ → ℕ → Type 0 where
   by-file : {number place : ℕ} → readFile file ≡ refused number place → Refuses file ground unfit number place
   after-file : {n : Net} → readFile file ≡ accepted n → unfit n → Refuses file ground unfit ground 0
@@ -22,6 +23,10 @@ Unfit row n = length row ≡ length (n .periods) → ⊥
 -- 17: class or weight row isn't 64 long
 abbrev pub Not64 : List ℕ → List ℕ → Net → Type 0
 Not64 classes weights n = (length classes ≡ stopCount → ⊥) ⊎ (length weights ≡ stopCount → ⊥)
+
+-- 18: the row is shorter than the archive form
+abbrev pub TooShort : List ℕ → Net → Type 0
+TooShort row n = length row < archiveLength n
 
 -- Demand 1 of a call that answers so, given when it is to refuse, and with what, and what it is for each lent row to be as it was
 pub record Demand1 (answers refuses : ℕ → ℕ → Type 0) (untouched : Type 0) : Type 0 where

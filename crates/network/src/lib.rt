@@ -1,5 +1,6 @@
 // The network of lines and stops: the reader of network files, gaps and ratings, and classes of stops.
 pub mod alike;
+pub mod archive;
 pub mod classes;
 pub mod divisor;
 pub mod gaps;
@@ -243,5 +244,11 @@ pub enum RateAnswer {
 // What the class call answers.
 pub enum ClassAnswer {
     Classes { count: u32 },
+    Refused { number: u8, place: usize },
+}
+
+// What the archive call answers.
+pub enum ArchiveAnswer {
+    Archived { bytes: u32 },
     Refused { number: u8, place: usize },
 }

@@ -5,10 +5,10 @@ use native.Mathlib.Nat.{dvd-trans, dvd-mul-left, dvd-add, dvd-add-iff-right, dvd
 use native.Mathlib.Nat.{div-mul-cancel, le-of-dvd, pos-of-dvd-of-pos, eq-zero-or-pos, div-add-mod', mod-lt, mul-pos, mul-comm, mul-one}
 use native.Mathlib.Nat.{zero-lt-suc, le-refl, le-of-suc-le-suc, not-suc-le-zero}
 use native.Mathlib.Omega.{arith}
-use mathlib.Core.Path.{_≡_, refl, sym, ap, subst}
+use mathlib.Core.Path.{_≡_, refl, sym, ap, subst, _∙_}
 use mathlib.Core.Logic.{_⊎_, inl, inr}
 use mathlib.Core.List.{List, [], _∷_, _++_}
-use lib.ListN.{length, getD}
+use lib.ListN.{length, getD, length-append, List·getD-append}
 use Rattle.network.specs.Divisor.{Divides, gcdWithin, gcd, lcm, cycleFrom, commonCycle}
 
 -- ---- divisibility. The library's is truncated; the quotient is its witness
@@ -240,3 +240,13 @@ commonCycle-least ps m = cycleFrom-least 1 ps m (one-divides m)
 pub commonCycle-pos : (ps : List ℕ) → ((i : ℕ) → i < length ps → 0 < getD ps i 0) → 0 < commonCycle ps
 unfolding commonCycle
 commonCycle-pos ps = cycleFrom-pos 1 ps (zero-lt-suc 0)
+
+-- the first of the periods alone have no longer cycle than all
+pub commonCycle-prefix-le : (ps qs all : List ℕ) → ps ++ qs ≡ all → ((i : ℕ) → i < length all → 0 < getD all i 0) → commonCycle ps ≤ commonCycle all
+commonCycle-prefix-le ps qs all e positive =
+    le-of-divides (commonCycle ps) (commonCycle all)
+    (commonCycle-least ps (commonCycle all)
+    (λ i h.
+    subst (λ (t : ℕ). Divides t (commonCycle all)) (ap (λ (l : List ℕ). getD l i 0) (sym e) ∙ List·getD-append ps qs 0 i h)
+    (period-divides-commonCycle all i (omega (arith, h, ap length e, length-append ps qs)))))
+    (commonCycle-pos all positive)

@@ -1,20 +1,21 @@
 -- Laws of a command's grounds: which applies first, what it tells that none does, and what a refusal names. Each follows from the
 -- tests, in their order. Assumes nothing.
 use Prim.Native.Nat.{ℕ, _+_, _<_, _≤_}
-use mathlib.Core.Path.{_≡_, refl, subst₂}
+use mathlib.Core.Path.{_≡_, refl, ap, subst₂, _∙_}
 use native.Mathlib.Omega.{arith}
-use mathlib.Core.Bool.{Bool, true, false, or-true}
+use mathlib.Core.Bool.{Bool, true, false, not, or-true}
 use mathlib.Core.List.{List, [], _∷_, _++_}
 use lib.Dec.{eqb, ltb}
 use lib.ListN.{length}
-use borrow.Author.Tests.{lt-ltb, le-ltb, ltb-false, leb-false, eqb-false, not-false}
+use borrow.Author.Tests.{lt-ltb, le-ltb, lt-leb, ne-eqb, ltb-false, leb-false, eqb-false, not-false}
 use Rattle.network.specs.declared.Check.the-variants.{Passes, Refused}
 use Rattle.network.specs.Divisor.{lcm}
 use Rattle.network.specs.Network.{Net, SoFar, Command, statesLine, callsByOffset, callsByRide, ends, unknown}
 use Rattle.network.specs.Network.{maxLines, maxPeriod, maxCycle, maxStop, maxOffset, maxCalls, maxCallsAtStop}
 use Rattle.network.specs.Network.{cycle, howOftenAt, callsAnywhere, word, operandBytes, lineOperand, stopOperand, rideOffset}
 use Rattle.network.specs.Grounds.{Ground, _at_when_, first, cutOff, periodOutOfRange, someLineSilent, callGrounds, grounds}
-use Rattle.network.proofs.Laws.Lists.{zero-ne-one, or-neither, allBelow-at}
+use Rattle.network.proofs.Laws.Lists.{zero-ne-one, or-neither, or-none, allBelow-at}
+use Rattle.network.proofs.Laws.Tables.{allBelow-of-each}
 
 pub first-none : first [] ≡ Passes
 unfolding first
@@ -162,6 +163,37 @@ end-passes f p behind e₀ =
       every-line-calls = λ i. allBelow-at (λ line. callsAnywhere line (f .network .calls)) (length (f .network .periods)) i (not-false _ silent);
       last = omega (arith, leb-false 1 (length behind) more);
     }
+
+-- ---- and where it fits, none applies
+
+pub line-fits-passes : (f : SoFar) (p : ℕ) (behind : List ℕ) → LineFits (f .network) behind → first (grounds statesLine f p behind) ≡ Passes
+unfolding grounds cutOff operandBytes
+line-fits-passes f p behind fits =
+    first-miss _ _ _ _ (le-ltb _ _ (fits .operands))
+    ∙ first-miss _ _ _ _ (lt-leb _ _ (fits .room))
+    ∙ first-miss _ _ _ _ (period-in-range _ (fits .period-pos) (fits .period))
+    ∙ first-miss _ _ _ _ (le-ltb _ _ (fits .cycle-max))
+    ∙ first-none
+
+pub offset-fits-passes : (f : SoFar) (p : ℕ) (behind : List ℕ) → CallFits callsByOffset (f .network) behind
+    → first (grounds callsByOffset f p behind) ≡ Passes
+unfolding grounds callGrounds cutOff
+offset-fits-passes f p behind fits =
+    first-miss _ _ _ _ (le-ltb _ _ (fits .operands))
+    ∙ first-miss _ _ _ _ (lt-leb _ _ (fits .line))
+    ∙ first-miss _ _ _ _ (le-ltb _ _ (fits .stop))
+    ∙ first-miss _ _ _ _ (lt-leb _ _ (fits .often))
+    ∙ first-miss _ _ _ _ (lt-leb _ _ (fits .room))
+    ∙ first-none
+
+pub end-fits-passes : (f : SoFar) (p : ℕ) (behind : List ℕ) → EndFits (f .network) behind → first (grounds ends f p behind) ≡ Passes
+unfolding grounds someLineSilent
+end-fits-passes f p behind fits =
+    first-miss _ _ _ _
+    (or-none _ _ (ne-eqb (length (f .network .periods)) 0 (λ e. omega (arith, e, fits .some-line)))
+    (ap not (allBelow-of-each (λ line. callsAnywhere line (f .network .calls)) (length (f .network .periods)) (fits .every-line-calls))))
+    ∙ first-miss _ _ _ _ (lt-leb 1 (length behind) (omega (arith, fits .last)))
+    ∙ first-none
 
 -- ---- what a refusal names: a number of document 01's fourteen, and the command's place or, by ground 14, the next
 

@@ -56,6 +56,17 @@ module _ (line stop : ℕ) (cs : List Call) (c : Call) where
       go (yes e) (no g) = rw (as-often (λ _. g)) few
       go (no g) q = rw (as-often (λ e _. g e)) few
 
+-- Before a call the line calls there less often than it may, where with all calls it does not call there too often
+pub howOftenAt-before : (cs : List Call) (c : Call) (ds all : List Call) → cs ++ (c ∷ ds) ≡ all → howOftenAt (c .line) (c .stop) all ≤ maxCallsAtStop
+    → howOftenAt (c .line) (c .stop) cs < maxCallsAtStop
+unfolding howOftenAt keep
+howOftenAt-before cs c ds all e few =
+    let isIt : Call → Bool = λ (d : Call). eqb (d .line) (c .line) && eqb (d .stop) (c .stop) in
+    let itself : isIt c ≡ true = and-both _ _ (eq-eqb (c .line) _ refl) (eq-eqb (c .stop) _ refl) in
+    let split : keep isIt all ≡ keep isIt cs ++ (c ∷ keep isIt ds) =
+    ap (keep isIt) (sym e) ∙ keep-append isIt cs (c ∷ ds) ∙ ap (λ (t : Bool). keep isIt cs ++ pick t (c ∷ keep isIt ds) (keep isIt ds)) itself in
+    omega (arith, few, ap length split, length-append (keep isIt cs) (c ∷ keep isIt ds))
+
 -- ---- no line calls twice at a stop
 
 pub no-line-twice : {n : Net} → Valid n → (j k : ℕ) → j < k → k < length (n .calls)

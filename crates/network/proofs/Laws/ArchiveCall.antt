@@ -1,0 +1,75 @@
+-- The archive call: what the answer and the row are in each case, and when it refuses, both ways: the definitions go by the reading and by one test of
+-- the row's length. Assumes nothing.
+use Prim.Native.Nat.{ℕ, _≤_, _<_}
+use mathlib.Core.Path.{_≡_, refl, ap, ap₂, _∙_}
+use mathlib.Core.Bool.{Bool, true, false}
+use mathlib.Core.List.{List, [], _∷_, _++_}
+use borrow.Author.Tests.{le-leb, lt-leb, leb-false}
+use lib.Dec.{leb}
+use lib.ListN.{length, drop}
+use Rattle.network.specs.Archive.{archive, archiveLength, archiveOutcome, archiveRowAfter}
+use Rattle.network.specs.Lists.{pick}
+use Rattle.network.specs.Network.{Net}
+use Rattle.network.specs.Reading.{Reading, accepted, refused, Outcome, values, refusal, readFile}
+use Rattle.network.specs.Refusals.{Refuses, by-file, after-file, TooShort}
+use Rattle.network.proofs.Laws.Lists.{zero-ne-one}
+use Rattle.network.proofs.Laws.Refusals.{same-refusal}
+
+-- The answer and the row afterwards
+abbrev pub Archived : Reading → List ℕ → Outcome → List ℕ → Type 0
+Archived read row answer after = (answer ≡ archiveOutcome read (length row)) × (after ≡ archiveRowAfter read row)
+
+module _ (read : Reading) (row : List ℕ) where
+  -- the file is refused
+  pub archived-refused : (number place : ℕ) → read ≡ refused number place → Archived read row (refusal number place) row
+  unfolding archiveOutcome archiveRowAfter
+  archived-refused number place e = rw e (refl, refl)
+
+  -- the row is shorter than the archive form
+  pub archived-short : (n : Net) → read ≡ accepted n → length row < archiveLength n → Archived read row (refusal 18 0) row
+  unfolding archiveOutcome archiveRowAfter
+  archived-short n e h = rw (e, lt-leb (archiveLength n) (length row) h) (refl, refl)
+
+  pub archived-written : (n : Net) (bytes : ℕ) (after : List ℕ) → read ≡ accepted n → archiveLength n ≤ length row → bytes ≡ archiveLength n
+      → after ≡ archive n ++ drop (archiveLength n) row → Archived read row (values (bytes ∷ [])) after
+  unfolding archiveOutcome archiveRowAfter
+  archived-written n bytes after e h b w = rw (e, le-leb (archiveLength n) (length row) h) (ap (λ (k : ℕ). values (k ∷ [])) b, w)
+
+-- ---- when it refuses
+
+module _ (file row : List ℕ) where
+  pub archive-refuses : {number place : ℕ} → Refuses file 18 (TooShort row) number place → archiveOutcome (readFile file) (length row) ≡ refusal number place
+  unfolding archiveOutcome
+  archive-refuses (by-file e) = ap (λ (k : Reading). archiveOutcome k (length row)) e
+  archive-refuses (after-file {n = n} e short) =
+      ap (λ (k : Reading). archiveOutcome k (length row)) e
+      ∙ ap (λ (t : Bool). pick t (values (archiveLength n ∷ [])) (refusal 18 0)) (lt-leb (archiveLength n) (length row) short)
+
+  -- A refusal is by the file or by the row, and leaves the row
+  archive-refused : {number place : ℕ} → (read : Reading) → readFile file ≡ read → archiveOutcome read (length row) ≡ refusal number place
+      → Refuses file 18 (TooShort row) number place × (archiveRowAfter read row ≡ row)
+  unfolding archiveOutcome archiveRowAfter
+  archive-refused (refused number′ place′) e h = (by-file (e ∙ same-refusal h), refl)
+  archive-refused {number} {place} (accepted n) e h = at (leb (archiveLength n) (length row)) refl h
+    where
+      at : (b : Bool) → leb (archiveLength n) (length row) ≡ b → pick b (values (archiveLength n ∷ [])) (refusal 18 0) ≡ refusal number place
+          → Refuses file 18 (TooShort row) number place × (pick b (archive n ++ drop (archiveLength n) row) row ≡ row)
+      at true f g = absurd (zero-ne-one (cc))
+      at false f g =
+          let number-is : 18 ≡ number = cc in
+          let place-is : 0 ≡ place = cc in
+          (rw (← number-is, ← place-is) (after-file e (leb-false (archiveLength n) (length row) f)), refl)
+
+  module _ {number place : ℕ} (h : archiveOutcome (readFile file) (length row) ≡ refusal number place) where
+    pub archive-refuses-only : Refuses file 18 (TooShort row) number place
+    archive-refuses-only = archive-refused (readFile file) refl h .0
+
+    pub archive-row-as-found : archiveRowAfter (readFile file) row ≡ row
+    archive-row-as-found = archive-refused (readFile file) refl h .1
+
+  -- A row that is long enough is written
+  pub archive-answers : {n : Net} → readFile file ≡ accepted n → archiveLength n ≤ length row
+      → (archiveOutcome (readFile file) (length row) ≡ values (archiveLength n ∷ []))
+      × (archiveRowAfter (readFile file) row ≡ archive n ++ drop (archiveLength n) row)
+  unfolding archiveOutcome archiveRowAfter
+  archive-answers {n} e h = rw (e, le-leb (archiveLength n) (length row) h) (refl, refl)
