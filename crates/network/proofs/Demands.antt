@@ -1,24 +1,27 @@
--- The order's demands on read, rate, the weighted rating and the class call. Each theorem holds of every call that has returned: of what was
+-- The order's demands on read, rate, the weighted rating, the class call and the archive call. Each theorem holds of every call that has returned: of what was
 -- lent, `a`, its answer, `r`, and the rows at its exit, `s`, where they keep the contract in src/, which every call does. Assumes nothing.
-use Prim.Native.Nat.{ℕ, _≤_, _<_}
-use mathlib.Core.Path.{_≡_, refl, sym, ap₂, _∙_}
+use Prim.Native.Nat.{ℕ, _+_, _*_, _≤_, _<_}
+use mathlib.Core.Path.{_≡_, refl, sym, ap, ap₂, subst, _∙_}
 use mathlib.Core.Bool.{true, false}
-use mathlib.Core.List.{List, [], _∷_, List·Memᴰ}
+use mathlib.Core.List.{List, [], _∷_, _++_, List·Memᴰ}
 use mathlib.Core.Logic.{_↔_}
+use native.Mathlib.Omega.{arith}
 use borrow.Fn.World.{ArgsD, ResD}
 use borrow.Fn.Kinds.{endedOf}
 use contract.Lifetimes.{Lfts}
 use denote.Triple.Clauses.{AtExit}
 use lib.Dec.{eqb}
 use lib.IntN.{ℤ}
-use lib.ListN.{length, getD}
+use lib.ListN.{length, getD, drop}
 use Rattle.network.specs.Lists.{countBelow}
 use Rattle.network.specs.Divisor.{Divides}
 use Rattle.network.specs.Network.{Net, maxLines, maxPeriod, maxCycle, maxStop, stopCount, maxCalls, isServed, servedStops, cycle}
 use Rattle.network.specs.Reading.{Reading, Outcome, values, refusal, readFile, accepted, refused, readAnswer, readOutcome}
 use Rattle.network.specs.Gives.{Gives}
-use Rattle.network.specs.Refusals.{Refuses, Unfit, Not64, Demand1}
-use Rattle.network.specs.Valid.{Valid}
+use Rattle.network.specs.Refusals.{Refuses, Unfit, Not64, TooShort, Demand1}
+use Rattle.network.specs.Tidy.{notAfter}
+use Rattle.network.specs.Archive.{tidied, archive, archiveLength, SameNetwork, archiveAnswer}
+use Rattle.network.specs.Valid.{IsBytes, Valid}
 use Rattle.network.specs.Rating.{Counted, counted, IsRatingOver, IsRating, rating, ratingOver}
 use Rattle.network.specs.ByLines.{IsStopGapOfLines}
 use Rattle.network.specs.Rate.{rateAnswer, rateOutcome}
@@ -30,6 +33,10 @@ use Rattle.network.proofs.Laws.Valid.{accepted-valid, cycle-multiple, c
 use Rattle.network.proofs.Laws.Reading.{gives-what-is-read, readFile-gives}
 use Rattle.network.proofs.Laws.Refusals.{read-refuses, read-refuses-only, sheet-refuses, sheet-refuses-only, sheet-answers}
 use Rattle.network.proofs.Laws.Refusals.{class-refuses, class-refuses-only, classes-as-found, weights-as-found, class-answers}
+use Rattle.network.proofs.Laws.Tidy.{Sorted, tidy-sorted}
+use Rattle.network.proofs.Laws.Archive.{read-archive, same-tidied, archive-tidied, archive-of-same, same-of-archive, length-archive, archive-bytes}
+use Rattle.network.proofs.Laws.ArchiveCall.{archive-refuses, archive-refuses-only, archive-row-as-found, archive-answers}
+use Rattle.network.proofs.Laws.SameNetwork.{AnswersAlike, tidied-answers-alike}
 use Rattle.network.proofs.Laws.ByLines.{stop-gap-by-lines}
 use Rattle.network.proofs.Laws.Rating.{rating-is-rating, IsRating-unique}
 use Rattle.network.proofs.Laws.Ranges.{served-range, class-range, calls-some, least-range, sum-range}
@@ -48,6 +55,9 @@ use Rattle.network.proofs.classes.weighted.Reads as weighted-contract
 use Rattle.network.proofs.classes.classes as classes
 use Rattle.network.proofs.classes.classes.Kinds as classes-kinds
 use Rattle.network.proofs.classes.classes.Reads as classes-contract
+use Rattle.network.proofs.archive.archive as archive-call
+use Rattle.network.proofs.archive.archive.Kinds as archive-kinds
+use Rattle.network.proofs.archive.archive.Reads as archive-contract
 
 -- ---- Every call may be made: none asks anything of what is lent
 
@@ -62,6 +72,9 @@ weighted-asks-nothing κs a = tt
 
 pub classes-asks-nothing : (κs : Lfts 3) (a : ArgsD classes.signature κs) → classes-contract.Pre κs a
 classes-asks-nothing κs a = tt
+
+pub archive-asks-nothing : (κs : Lfts 2) (a : ArgsD archive-call.signature κs) → archive-contract.Pre κs a
+archive-asks-nothing κs a = tt
 
 -- ---- What an accepted file's read call answers: the numbers of lines, served stops and calls, and the common cycle
 
@@ -247,3 +260,81 @@ module _ (κs : Lfts 3) (a : ArgsD classes.signature κs) (r : ResD classes.sign
   classes-demand-3 {n} reads c w =
       let e = class-answers (a .0 .now) (a .1 .0 .now) (a .1 .1 .0 .now) reads c w in
       rw (kept .0 ∙ e .0, kept .1 .0 ∙ e .1, kept .1 .1 .0 ∙ e .2) (classified (accepted-valid (a .0 .now) n (kept .1 .1 .1) reads))
+
+-- ---- The archive call: a row that is long enough
+
+-- The archive form of an accepted file's network (document 02, A.1)
+pub record IsArchive (file : List ℕ) (n : Net) (form : List ℕ) : Type 0 where
+  pub length-is : length form ≡ 3 * length (n .periods) + 5 * length (n .calls) + 1
+  pub length-range : (9 ≤ length form) × (length form ≤ 1329)
+  pub is-bytes : IsBytes form
+  -- reading it gives the same periods and offsets ..
+  pub read-back : Net
+  pub reads : Gives form (accepted read-back)
+  pub same-network : SameNetwork read-back n
+  -- .. with the calls by line, then stop, then offset
+  pub in-order : Sorted notAfter (read-back .calls)
+  -- the archive form of an archive form is itself
+  pub again : archive read-back ≡ form
+  -- read, rate, the weighted rating and the class call answer alike on the file and on its archive form
+  pub answers-alike : AnswersAlike (readFile form) (readFile file)
+
+pub is-archive : {file : List ℕ} {n : Net} → IsBytes file → readFile file ≡ accepted n → IsArchive file n (archive n)
+unfolding archiveLength tidied
+is-archive {file} {n} bytes reads =
+    let valid = accepted-valid file n bytes reads in
+    record {
+      length-is = length-archive n;
+      length-range = (omega (arith, length-archive n, valid .some-line, calls-some valid), omega (arith, length-archive n, valid .lines, valid .calls));
+      is-bytes = archive-bytes valid;
+      read-back = tidied n;
+      reads = subst (Gives (archive n)) (read-archive valid) (readFile-gives (archive n));
+      same-network = same-tidied n;
+      in-order = tidy-sorted (n .calls);
+      again = archive-tidied n;
+      answers-alike = rw (read-archive valid, reads) (tidied-answers-alike valid);
+    }
+
+-- What the call answers and leaves in the row
+pub record Archives (file : List ℕ) (n : Net) (answer : Outcome) (row after : List ℕ) : Type 0 where
+  pub form : List ℕ
+  pub is-form : IsArchive file n form
+  pub answered : answer ≡ values (length form ∷ [])
+  -- bytes behind it stay
+  pub written : after ≡ form ++ drop (length form) row
+
+module _ (κs : Lfts 2) (a : ArgsD archive-call.signature κs) (r : ResD archive-call.signature κs)
+    (s : AtExit (endedOf 2 archive-kinds.ps archive-kinds.r) κs) (kept : archive-contract.Post κs a r s) where
+  pub archive-demand-1 : Demand1 (λ number place. archiveAnswer r ≡ refusal number place) (Refuses (a .0 .now) 18 (TooShort (a .1 .0 .now)))
+      (s .1 .0 .now ≡ a .1 .0 .now)
+  archive-demand-1 =
+      record {
+        faulty-is-refused = λ number place f. kept .0 ∙ archive-refuses (a .0 .now) (a .1 .0 .now) f;
+        no-other-is-refused = λ number place e. archive-refuses-only (a .0 .now) (a .1 .0 .now) (sym (kept .0) ∙ e);
+        rows-as-found = λ number place e. kept .1 .0 ∙ archive-row-as-found (a .0 .now) (a .1 .0 .now) (sym (kept .0) ∙ e);
+      }
+
+  pub archive-writes : {n : Net} → readFile (a .0 .now) ≡ accepted n → archiveLength n ≤ length (a .1 .0 .now)
+      → Archives (a .0 .now) n (archiveAnswer r) (a .1 .0 .now) (s .1 .0 .now)
+  archive-writes {n} reads room =
+      let e = archive-answers (a .0 .now) (a .1 .0 .now) reads room in
+      let long = sym (length-archive n) in
+      record {
+        form = archive n;
+        is-form = is-archive (kept .1 .1) reads;
+        answered = kept .0 ∙ e .0 ∙ ap (λ (k : ℕ). values (k ∷ [])) long;
+        written = kept .1 .0 ∙ e .1 ∙ ap (λ (k : ℕ). archive n ++ drop k (a .1 .0 .now)) long;
+      }
+
+-- Two files have equal archive bytes exactly when their periods and offsets are equal
+pub equal-archives : {one other : List ℕ} {m n : Net} {form form′ : List ℕ} → IsBytes one → IsBytes other → readFile one ≡ accepted m
+    → readFile other ≡ accepted n → IsArchive one m form → IsArchive other n form′ → (form ≡ form′) ↔ SameNetwork m n
+equal-archives {one} {other} {m} {n} bytes bytes′ reads reads′ a b = (
+  λ e.
+      same-of-archive (accepted-valid one m bytes reads) (accepted-valid other n bytes′ reads′)
+      (archive-of-same (flipped (a .same-network)) ∙ a .again ∙ e ∙ sym (b .again) ∙ archive-of-same (b .same-network)),
+  λ same. sym (a .again) ∙ archive-of-same (a .same-network) ∙ archive-of-same same ∙ archive-of-same (flipped (b .same-network)) ∙ b .again,
+)
+  where
+    flipped : {k l : Net} → SameNetwork k l → SameNetwork l k
+    flipped same = record { same-periods = sym (same .same-periods); same-calls = λ c. sym (same .same-calls c) }

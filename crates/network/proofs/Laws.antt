@@ -45,3 +45,4 @@ pub mod ClassRows
 pub mod Weighted
 pub mod Ranges
 pub mod Classified
+pub mod SameNetwork

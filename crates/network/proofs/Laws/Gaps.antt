@@ -31,7 +31,7 @@ pub use Rattle.network.proofs.Laws.Starts.{stopGap-moved-together, rati
 pub use Rattle.network.proofs.Laws.Starts.{movedByPeriod, stopGap-moved-by-period, rating-moved-by-period}
 -- calls in another order
 pub use Rattle.network.proofs.Laws.Permuted.{length-permuted, all-permuted, keep-permuted}
-pub use Rattle.network.proofs.Laws.Permuted.{gapOfStop-permuted, stopGap-permuted, rating-permuted}
+pub use Rattle.network.proofs.Laws.Permuted.{gapOfStop-permuted, counted-permuted, stopGap-permuted, rating-permuted}
 -- the order of ratings
 pub use Rattle.network.proofs.Laws.Order.{Above, above-of-isAbove, isAbove-of-above, below-of-not-isAbove, isAbove-none}
 pub use Rattle.network.proofs.Laws.Order.{above-none, none-is-not-above, isAbove-irreflexive, isAbove-transitive}

@@ -1,11 +1,11 @@
 -- Neither the gap of a stop nor the rating depends on the order in which calls are listed: what holds of all elements of a list, or of
 -- all its pairs whichever comes first, holds of each of its permutations. Assumes nothing.
-use Prim.Native.Nat.{ℕ, zero, suc, _≤_, _<_}
+use Prim.Native.Nat.{ℕ, zero, suc, _+_, _≤_, _<_}
 use mathlib.Core.Path.{_≡_, refl, sym, ap, ap₂, subst, subst₂, fun-ext, _∙_}
 use mathlib.Core.Bool.{Bool, true, false, _||_}
-use mathlib.Core.List.{List, _∷_, List·Memᴰ, List·Memᴰ·head, List·Memᴰ·tail, List·Memᴰ·cases-cons}
+use mathlib.Core.List.{List, _∷_, _++_, map, append-assoc, List·Memᴰ, List·Memᴰ·head, List·Memᴰ·tail, List·Memᴰ·cases-cons}
 use mathlib.Core.List.{List·Permᴰ, List·Permᴰ·nil, List·Permᴰ·cons, List·Permᴰ·swap, List·Permᴰ·trans}
-use mathlib.Core.List.{Permᴰ·refl, Permᴰ·symm}
+use mathlib.Core.List.{Permᴰ·refl, Permᴰ·symm, Permᴰ·map, Permᴰ·append-left, Permᴰ·append-right, List·Permᴰ·append-comm}
 use mathlib.Core.Logic.{_⊎_, inl, inr}
 use native.Mathlib.Nat.{le-antisymm}
 use native.Mathlib.Omega.{arith}
@@ -13,12 +13,12 @@ use lib.Dec.{eqb}
 use lib.IntN.{ℤ}
 use lib.ListN.{length, getD}
 use Rattle.network.specs.declared.Call.{Call}
-use Rattle.network.specs.Lists.{pick, any, keep, below}
+use Rattle.network.specs.Lists.{pick, any, keep, below, sumOf, leastOf, pairsOf}
 use Rattle.network.specs.Network.{Net, maxStop, isServed}
 use Rattle.network.specs.Valid.{noCall, Valid}
 use Rattle.network.specs.Rating.{periodOf, gapOfCalls, gapOfStop, callsOfStop, stopGap, servedList, eachOnce, counted, rating}
 use Rattle.network.proofs.Laws.Members.{All, AllPairs, all-cons, all-head, all-tail, pairs-cons, pairs-head, pairs-tail}
-use Rattle.network.proofs.Laws.Membership.{EveryTwo}
+use Rattle.network.proofs.Laws.Membership.{EveryTwo, leastOf-same-members}
 use Rattle.network.proofs.Laws.Pairs.{gapOfCalls-symmetric, gapOfStop-le-pair, gapOfStop-attained, gapOfStop-none}
 use Rattle.network.proofs.Laws.Pairs.{gapOfStop-single, gapOfStop-periods}
 use Rattle.network.proofs.Laws.StopGap.{callsOfStop-period-pos}
@@ -112,6 +112,31 @@ module _ {A : Type 0} (p : A → Bool) where
       go false false = Permᴰ·refl (keep p l)
   keep-permuted (List·Permᴰ·trans π ρ) = List·Permᴰ·trans (keep-permuted π) (keep-permuted ρ)
 
+  pub sumOf-permuted : (f : A → ℕ) {xs ys : List A} → List·Permᴰ xs ys → sumOf f xs ≡ sumOf f ys
+  unfolding sumOf
+  sumOf-permuted f List·Permᴰ·nil = refl
+  sumOf-permuted f (List·Permᴰ·cons e π) = ap₂ _+_ (ap f e) (sumOf-permuted f π)
+  sumOf-permuted f (List·Permᴰ·swap {a = a} {b = b} {l = l} e g) = rw (ap f (sym e), ap f (sym g)) (omega arith)
+  sumOf-permuted f (List·Permᴰ·trans π ρ) = sumOf-permuted f π ∙ sumOf-permuted f ρ
+
+-- The numbers of all pairs, whichever of two comes first
+module _ {A : Type 0} (f : A → A → ℕ) (symmetric : (a b : A) → f a b ≡ f b a) where
+  pub pairsOf-permuted : {xs ys : List A} → List·Permᴰ xs ys → List·Permᴰ (pairsOf f xs) (pairsOf f ys)
+  unfolding pairsOf
+  pairsOf-permuted List·Permᴰ·nil = List·Permᴰ·nil
+  pairsOf-permuted (List·Permᴰ·cons {a = a} {b = b} {l₁ = l₁} {l₂ = l₂} e π) =
+      subst (λ x. List·Permᴰ (map (f a) l₁ ++ pairsOf f l₁) (map (f x) l₂ ++ pairsOf f l₂)) e
+      (List·Permᴰ·trans (Permᴰ·append-right (pairsOf f l₁) (Permᴰ·map (f a) π)) (Permᴰ·append-left (map (f a) l₂) (pairsOf-permuted π)))
+  pairsOf-permuted (List·Permᴰ·swap {a = a} {b = b} {l = l} e g) =
+      subst₂ (λ x y. List·Permᴰ (pairsOf f (a ∷ b ∷ l)) (pairsOf f (x ∷ y ∷ l))) g e
+      (List·Permᴰ·cons (symmetric a b)
+      (subst₂ (λ x y. List·Permᴰ x y) (append-assoc (map (f a) l) (map (f b) l) (pairsOf f l)) (append-assoc (map (f b) l) (map (f a) l) (pairsOf f l))
+      (Permᴰ·append-right (pairsOf f l) (List·Permᴰ·append-comm (map (f a) l) (map (f b) l)))))
+  pairsOf-permuted (List·Permᴰ·trans π ρ) = List·Permᴰ·trans (pairsOf-permuted π) (pairsOf-permuted ρ)
+
+pub leastOf-permuted : {xs ys : List ℕ} → List·Permᴰ xs ys → leastOf xs ≡ leastOf ys
+leastOf-permuted {xs} {ys} π = leastOf-same-members xs ys (λ a. member-permuted π) (λ a. member-permuted (Permᴰ·symm π))
+
 -- ---- permutations of calls
 
 module _ (n : Net) (starts : List ℤ) where
@@ -152,7 +177,7 @@ module _ (n : Net) (starts : List ℤ) where
 
 -- Two networks with the same periods, the calls in another order
 module _ (n m : Net) (valid : Valid n) (periods : n .periods ≡ m .periods) (π : List·Permᴰ (n .calls) (m .calls)) where
-  counted-permuted : counted n ≡ counted m
+  pub counted-permuted : counted n ≡ counted m
   unfolding counted servedList isServed
   counted-permuted = ap (λ p. eachOnce (below p (suc maxStop))) (fun-ext (λ stop. any-permuted (λ (c : Call). eqb (c .stop) stop) π))
 
