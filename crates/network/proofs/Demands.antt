@@ -12,7 +12,8 @@ use contract.Lifetimes.{Lfts}
 use denote.Triple.Clauses.{AtExit}
 use lib.Dec.{eqb}
 use lib.IntN.{ℤ}
-use lib.ListN.{length, getD, drop}
+use lib.ListN.{length, getD, take, drop}
+use lib.Seq.{take-at}
 use Rattle.network.specs.Lists.{countBelow}
 use Rattle.network.specs.Divisor.{Divides}
 use Rattle.network.specs.Network.{Net, maxLines, maxPeriod, maxCycle, maxStop, stopCount, maxCalls, isServed, servedStops, cycle}
@@ -27,7 +28,7 @@ use Rattle.network.specs.ByLines.{IsStopGapOfLines}
 use Rattle.network.specs.Rate.{rateAnswer, rateOutcome}
 use Rattle.network.specs.ByLines.{AlikeOfLines}
 use Rattle.network.specs.Classes.{unserved, classRow, weightRow, classCount, lowestStops}
-use Rattle.network.specs.ClassCall.{classAnswer, weightedRating, weightedOutcome}
+use Rattle.network.specs.ClassCall.{classAnswer, classOutcome, classRowAfter, weightRowAfter, weightedRating, weightedOutcome}
 use Rattle.network.proofs.Laws.AlikeByLines.{alike-by-lines}
 use Rattle.network.proofs.Laws.Valid.{accepted-valid, cycle-multiple, cycle-least, cycle-pos}
 use Rattle.network.proofs.Laws.Reading.{gives-what-is-read, readFile-gives}
@@ -36,7 +37,7 @@ use Rattle.network.proofs.Laws.Refusals.{class-refuses, class-refuses-o
 use Rattle.network.proofs.Laws.Tidy.{Sorted, tidy-sorted}
 use Rattle.network.proofs.Laws.Archive.{read-archive, same-tidied, archive-tidied, archive-of-same, same-of-archive, length-archive, archive-bytes}
 use Rattle.network.proofs.Laws.ArchiveCall.{archive-refuses, archive-refuses-only, archive-row-as-found, archive-answers}
-use Rattle.network.proofs.Laws.SameNetwork.{AnswersAlike, tidied-answers-alike}
+use Rattle.network.proofs.Laws.SameNetwork.{AnswersAlike, same-answers-alike}
 use Rattle.network.proofs.Laws.ByLines.{stop-gap-by-lines}
 use Rattle.network.proofs.Laws.Rating.{rating-is-rating, IsRating-unique}
 use Rattle.network.proofs.Laws.Ranges.{served-range, class-range, calls-some, least-range, sum-range}
@@ -264,7 +265,7 @@ module _ (κs : Lfts 3) (a : ArgsD classes.signature κs) (r : ResD classes.sign
 -- ---- The archive call: a row that is long enough
 
 -- The archive form of an accepted file's network (document 02, A.1)
-pub record IsArchive (file : List ℕ) (n : Net) (form : List ℕ) : Type 0 where
+pub record IsArchive (n : Net) (form : List ℕ) : Type 0 where
   pub length-is : length form ≡ 3 * length (n .periods) + 5 * length (n .calls) + 1
   pub length-range : (9 ≤ length form) × (length form ≤ 1329)
   pub is-bytes : IsBytes form
@@ -276,13 +277,10 @@ pub record IsArchive (file : List ℕ) (n : Net) (form : List ℕ) : Type 0 wher
   pub in-order : Sorted notAfter (read-back .calls)
   -- the archive form of an archive form is itself
   pub again : archive read-back ≡ form
-  -- read, rate, the weighted rating and the class call answer alike on the file and on its archive form
-  pub answers-alike : AnswersAlike (readFile form) (readFile file)
 
-pub is-archive : {file : List ℕ} {n : Net} → IsBytes file → readFile file ≡ accepted n → IsArchive file n (archive n)
+pub is-archive : {n : Net} → Valid n → IsArchive n (archive n)
 unfolding archiveLength tidied
-is-archive {file} {n} bytes reads =
-    let valid = accepted-valid file n bytes reads in
+is-archive {n} valid =
     record {
       length-is = length-archive n;
       length-range = (omega (arith, length-archive n, valid .some-line, calls-some valid), omega (arith, length-archive n, valid .lines, valid .calls));
@@ -292,13 +290,12 @@ is-archive {file} {n} bytes reads =
       same-network = same-tidied n;
       in-order = tidy-sorted (n .calls);
       again = archive-tidied n;
-      answers-alike = rw (read-archive valid, reads) (tidied-answers-alike valid);
     }
 
 -- What the call answers and leaves in the row
-pub record Archives (file : List ℕ) (n : Net) (answer : Outcome) (row after : List ℕ) : Type 0 where
+pub record Archives (n : Net) (answer : Outcome) (row after : List ℕ) : Type 0 where
   pub form : List ℕ
-  pub is-form : IsArchive file n form
+  pub is-form : IsArchive n form
   pub answered : answer ≡ values (length form ∷ [])
   -- bytes behind it stay
   pub written : after ≡ form ++ drop (length form) row
@@ -315,26 +312,89 @@ module _ (κs : Lfts 2) (a : ArgsD archive-call.signature κs) (r : ResD archive
       }
 
   pub archive-writes : {n : Net} → readFile (a .0 .now) ≡ accepted n → archiveLength n ≤ length (a .1 .0 .now)
-      → Archives (a .0 .now) n (archiveAnswer r) (a .1 .0 .now) (s .1 .0 .now)
+      → Archives n (archiveAnswer r) (a .1 .0 .now) (s .1 .0 .now)
   archive-writes {n} reads room =
       let e = archive-answers (a .0 .now) (a .1 .0 .now) reads room in
       let long = sym (length-archive n) in
       record {
         form = archive n;
-        is-form = is-archive (kept .1 .1) reads;
+        is-form = is-archive (accepted-valid (a .0 .now) n (kept .1 .1) reads);
         answered = kept .0 ∙ e .0 ∙ ap (λ (k : ℕ). values (k ∷ [])) long;
         written = kept .1 .0 ∙ e .1 ∙ ap (λ (k : ℕ). archive n ++ drop k (a .1 .0 .now)) long;
       }
 
--- Two files have equal archive bytes exactly when their periods and offsets are equal
-pub equal-archives : {one other : List ℕ} {m n : Net} {form form′ : List ℕ} → IsBytes one → IsBytes other → readFile one ≡ accepted m
-    → readFile other ≡ accepted n → IsArchive one m form → IsArchive other n form′ → (form ≡ form′) ↔ SameNetwork m n
-equal-archives {one} {other} {m} {n} bytes bytes′ reads reads′ a b = (
-  λ e.
-      same-of-archive (accepted-valid one m bytes reads) (accepted-valid other n bytes′ reads′)
-      (archive-of-same (flipped (a .same-network)) ∙ a .again ∙ e ∙ sym (b .again) ∙ archive-of-same (b .same-network)),
-  λ same. sym (a .again) ∙ archive-of-same (a .same-network) ∙ archive-of-same same ∙ archive-of-same (flipped (b .same-network)) ∙ b .again,
-)
-  where
-    flipped : {k l : Net} → SameNetwork k l → SameNetwork l k
-    flipped same = record { same-periods = sym (same .same-periods); same-calls = λ c. sym (same .same-calls c) }
+-- ---- Two files, by two calls
+
+module _ (κs : Lfts 2) (a : ArgsD archive-call.signature κs) (r : ResD archive-call.signature κs)
+    (s : AtExit (endedOf 2 archive-kinds.ps archive-kinds.r) κs) (kept : archive-contract.Post κs a r s) (κs′ : Lfts 2)
+    (a′ : ArgsD archive-call.signature κs′) (r′ : ResD archive-call.signature κs′) (s′ : AtExit (endedOf 2 archive-kinds.ps archive-kinds.r) κs′)
+    (kept′ : archive-contract.Post κs′ a′ r′ s′) where
+  -- Two files have equal archive bytes exactly when their periods and offsets are equal
+  pub equal-archives : {m n : Net} → readFile (a .0 .now) ≡ accepted m → readFile (a′ .0 .now) ≡ accepted n → archiveLength m ≤ length (a .1 .0 .now)
+      → archiveLength n ≤ length (a′ .1 .0 .now) → (take (archiveLength m) (s .1 .0 .now) ≡ take (archiveLength n) (s′ .1 .0 .now)) ↔ SameNetwork m n
+  equal-archives {m} {n} reads reads′ room room′ =
+      let one : take (archiveLength m) (s .1 .0 .now) ≡ archive m =
+      ap (take (archiveLength m)) (kept .1 .0 ∙ archive-answers (a .0 .now) (a .1 .0 .now) reads room .1) ∙ take-at (archive m) _ _ (length-archive m) in
+      let other : take (archiveLength n) (s′ .1 .0 .now) ≡ archive n =
+      ap (take (archiveLength n)) (kept′ .1 .0 ∙ archive-answers (a′ .0 .now) (a′ .1 .0 .now) reads′ room′ .1) ∙ take-at (archive n) _ _ (length-archive n) in (
+        λ e.
+            same-of-archive (accepted-valid (a .0 .now) m (kept .1 .1) reads) (accepted-valid (a′ .0 .now) n (kept′ .1 .1) reads′)
+            (sym one ∙ e ∙ other),
+        λ same. one ∙ archive-of-same same ∙ sym other,
+      )
+
+-- Two files of one network, a file and its archive form among them, are answered alike
+alike-of-bytes : (one other : List ℕ) {m n : Net} → IsBytes one → IsBytes other → readFile one ≡ accepted m → readFile other ≡ accepted n
+    → SameNetwork m n → AnswersAlike (readFile one) (readFile other)
+alike-of-bytes one other {m} {n} bytes bytes′ reads reads′ same =
+    rw (reads, reads′) (same-answers-alike (accepted-valid one m bytes reads) (accepted-valid other n bytes′ reads′) same)
+
+module _ (κs : Lfts 1) (a : ArgsD read.signature κs) (r : ResD read.signature κs) (s : AtExit (endedOf 1 read-kinds.ps read-kinds.r) κs)
+    (kept : read-contract.Post κs a r s) (κs′ : Lfts 1) (a′ : ArgsD read.signature κs′) (r′ : ResD read.signature κs′)
+    (s′ : AtExit (endedOf 1 read-kinds.ps read-kinds.r) κs′) (kept′ : read-contract.Post κs′ a′ r′ s′) where
+  pub same-network-read-alike : {m n : Net} → readFile (a .0 .now) ≡ accepted m → readFile (a′ .0 .now) ≡ accepted n → SameNetwork m n
+      → readAnswer r ≡ readAnswer r′
+  same-network-read-alike reads reads′ same =
+      kept .0 ∙ alike-of-bytes (a .0 .now) (a′ .0 .now) (kept .1) (kept′ .1) reads reads′ same .read-alike ∙ sym (kept′ .0)
+
+module _ (κs : Lfts 2) (a : ArgsD rate.signature κs) (r : ResD rate.signature κs) (s : AtExit (endedOf 2 rate-kinds.ps rate-kinds.r) κs)
+    (kept : rate-contract.Post κs a r s) (κs′ : Lfts 2) (a′ : ArgsD rate.signature κs′) (r′ : ResD rate.signature κs′)
+    (s′ : AtExit (endedOf 2 rate-kinds.ps rate-kinds.r) κs′) (kept′ : rate-contract.Post κs′ a′ r′ s′) where
+  pub same-network-rated-alike : {m n : Net} → readFile (a .0 .now) ≡ accepted m → readFile (a′ .0 .now) ≡ accepted n → SameNetwork m n
+      → a .1 .0 .now ≡ a′ .1 .0 .now → rateAnswer r ≡ rateAnswer r′
+  same-network-rated-alike reads reads′ same sheets =
+      kept .0
+      ∙ alike-of-bytes (a .0 .now) (a′ .0 .now) (kept .1) (kept′ .1) reads reads′ same .rate-alike (a .1 .0 .now)
+      ∙ ap (rateOutcome (readFile (a′ .0 .now))) sheets
+      ∙ sym (kept′ .0)
+
+module _ (κs : Lfts 2) (a : ArgsD weighted.signature κs) (r : ResD weighted.signature κs)
+    (s : AtExit (endedOf 2 weighted-kinds.ps weighted-kinds.r) κs) (kept : weighted-contract.Post κs a r s) (κs′ : Lfts 2)
+    (a′ : ArgsD weighted.signature κs′) (r′ : ResD weighted.signature κs′) (s′ : AtExit (endedOf 2 weighted-kinds.ps weighted-kinds.r) κs′)
+    (kept′ : weighted-contract.Post κs′ a′ r′ s′) where
+  pub same-network-weighted-alike : {m n : Net} → readFile (a .0 .now) ≡ accepted m → readFile (a′ .0 .now) ≡ accepted n → SameNetwork m n
+      → a .1 .0 .now ≡ a′ .1 .0 .now → rateAnswer r ≡ rateAnswer r′
+  same-network-weighted-alike reads reads′ same sheets =
+      kept .0
+      ∙ alike-of-bytes (a .0 .now) (a′ .0 .now) (kept .1) (kept′ .1) reads reads′ same .weighted-alike (a .1 .0 .now)
+      ∙ ap (weightedOutcome (readFile (a′ .0 .now))) sheets
+      ∙ sym (kept′ .0)
+
+module _ (κs : Lfts 3) (a : ArgsD classes.signature κs) (r : ResD classes.signature κs)
+    (s : AtExit (endedOf 3 classes-kinds.ps classes-kinds.r) κs) (kept : classes-contract.Post κs a r s) (κs′ : Lfts 3)
+    (a′ : ArgsD classes.signature κs′) (r′ : ResD classes.signature κs′) (s′ : AtExit (endedOf 3 classes-kinds.ps classes-kinds.r) κs′)
+    (kept′ : classes-contract.Post κs′ a′ r′ s′) where
+  -- rows of the same content before have the same content afterwards
+  pub same-network-classified-alike : {m n : Net} → readFile (a .0 .now) ≡ accepted m → readFile (a′ .0 .now) ≡ accepted n → SameNetwork m n
+      → a .1 .0 .now ≡ a′ .1 .0 .now → a .1 .1 .0 .now ≡ a′ .1 .1 .0 .now
+      → (classAnswer r ≡ classAnswer r′) × (s .1 .0 .now ≡ s′ .1 .0 .now) × (s .1 .1 .0 .now ≡ s′ .1 .1 .0 .now)
+  same-network-classified-alike reads reads′ same rows weights =
+      let alike = alike-of-bytes (a .0 .now) (a′ .0 .now) (kept .1 .1 .1) (kept′ .1 .1 .1) reads reads′ same in
+      let there = readFile (a′ .0 .now) in (
+        kept .0
+            ∙ alike .classes-alike (length (a .1 .0 .now)) (length (a .1 .1 .0 .now))
+            ∙ ap₂ (λ (c w : List ℕ). classOutcome there (length c) (length w)) rows weights
+            ∙ sym (kept′ .0),
+        kept .1 .0 ∙ alike .class-row-alike (a .1 .0 .now) (a .1 .1 .0 .now) ∙ ap₂ (classRowAfter there) rows weights ∙ sym (kept′ .1 .0),
+        kept .1 .1 .0 ∙ alike .weight-row-alike (a .1 .0 .now) (a .1 .1 .0 .now) ∙ ap₂ (weightRowAfter there) rows weights ∙ sym (kept′ .1 .1 .0),
+      )

@@ -2,7 +2,7 @@
 -- beaten. Each theorem at the end holds of every call that has returned: of what was lent, `a`, its answer, `r`, and the row at its exit, `s`,
 -- where they keep the contract in src/, which every call does. Assumes nothing.
 use Prim.Native.Nat.{ℕ, _+_, _≤_, _<_}
-use mathlib.Core.Path.{_≡_, sym, ap, _∙_}
+use mathlib.Core.Path.{_≡_, sym, ap, ap₂, _∙_}
 use mathlib.Core.Bool.{Bool, true}
 use mathlib.Core.List.{List}
 use mathlib.Core.Logic.{_⊎_}
@@ -12,6 +12,7 @@ use contract.Lifetimes.{Lfts}
 use denote.Triple.Clauses.{AtExit}
 use lib.IntN.{ℤ}
 use lib.ListN.{length, drop}
+use Rattle.network.specs.Archive.{SameNetwork}
 use Rattle.network.specs.Lists.{pick}
 use Rattle.network.specs.Network.{Net, maxPeriod}
 use Rattle.network.specs.Reading.{Reading, readFile, accepted}
@@ -24,6 +25,7 @@ use Rattle.search.specs.Search.{searched, outcomeOf, searchOutcome, star
 use Rattle.search.proofs.Laws.Optimal.{searched-some, searched-length, searched-rating, searched-best, searched-stopped, triesBound-products}
 use Rattle.search.proofs.Laws.Outcome.{fit-outcome, fit-row, Told, told-of-finished, told-of-stopped, told-of-none}
 use Rattle.search.proofs.Laws.Outcome.{outcome-tries-le, outcome-tries-le-budget, outcome-finished}
+use Rattle.search.proofs.Laws.Reordered.{searchOutcome-same, startRowAfter-same}
 use Rattle.search.proofs.Laws.Outcome.{search-refuses, search-refuses-only, row-as-found}
 use Rattle.search.proofs.call.search as search
 use Rattle.search.proofs.call.search.Kinds as search-kinds
@@ -187,3 +189,28 @@ module _ (κs : Lfts 2) (a : ArgsD search.signature κs) (r : ResD search.signat
 
     pub search-answers : Answers n (a .1 .0 .now) (a .1 .1 .0) (searchAnswer r) (s .1 .0 .now)
     search-answers = answers searches reads
+
+-- ---- Two files of one network, a file and its archive form among them (document 02, A.1)
+
+-- Searched with the same budget and start row, they have the same answer with the same tries, and the same starts
+module _ (κs : Lfts 2) (a : ArgsD search.signature κs) (r : ResD search.signature κs)
+    (s : AtExit (endedOf 2 search-kinds.ps search-kinds.r) κs) (kept : search-contract.Post κs a r s) (κs′ : Lfts 2) (a′ : ArgsD search.signature κs′)
+    (r′ : ResD search.signature κs′) (s′ : AtExit (endedOf 2 search-kinds.ps search-kinds.r) κs′) (kept′ : search-contract.Post κs′ a′ r′ s′) where
+  pub same-network-searched-alike : {m n : Net} → readFile (a .0 .now) ≡ accepted m → readFile (a′ .0 .now) ≡ accepted n → SameNetwork m n
+      → a .1 .0 .now ≡ a′ .1 .0 .now → a .1 .1 .0 ≡ a′ .1 .1 .0 → (searchAnswer r ≡ searchAnswer r′) × (s .1 .0 .now ≡ s′ .1 .0 .now)
+  same-network-searched-alike {m} {n} reads reads′ same rows budgets =
+      let v = accepted-valid (a .0 .now) m (kept .1 .1) reads in
+      let w = accepted-valid (a′ .0 .now) n (kept′ .1 .1) reads′ in (
+        kept .0
+            ∙ ap (λ (k : Reading). searchOutcome k (length (a .1 .0 .now)) (a .1 .1 .0)) reads
+            ∙ searchOutcome-same v w same (length (a .1 .0 .now)) (a .1 .1 .0)
+            ∙ ap₂ (λ (row : List ℤ) (budget : ℕ). searchOutcome (accepted n) (length row) budget) rows budgets
+            ∙ ap (λ (k : Reading). searchOutcome k (length (a′ .1 .0 .now)) (a′ .1 .1 .0)) (sym reads′)
+            ∙ sym (kept′ .0),
+        kept .1 .0
+            ∙ ap (λ (k : Reading). startRowAfter k (a .1 .1 .0) (a .1 .0 .now)) reads
+            ∙ startRowAfter-same v w same (a .1 .1 .0) (a .1 .0 .now)
+            ∙ ap₂ (λ (row : List ℤ) (budget : ℕ). startRowAfter (accepted n) budget row) rows budgets
+            ∙ ap (λ (k : Reading). startRowAfter k (a′ .1 .1 .0) (a′ .1 .0 .now)) (sym reads′)
+            ∙ sym (kept′ .1 .0),
+      )

@@ -23,3 +23,4 @@ pub mod Tries
 pub mod Called
 pub mod Optimal
 pub mod Outcome
+pub mod Reordered

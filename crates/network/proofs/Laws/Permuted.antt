@@ -112,6 +112,7 @@ module _ {A : Type 0} (p : A → Bool) where
       go false false = Permᴰ·refl (keep p l)
   keep-permuted (List·Permᴰ·trans π ρ) = List·Permᴰ·trans (keep-permuted π) (keep-permuted ρ)
 
+module _ {A : Type 0} where
   pub sumOf-permuted : (f : A → ℕ) {xs ys : List A} → List·Permᴰ xs ys → sumOf f xs ≡ sumOf f ys
   unfolding sumOf
   sumOf-permuted f List·Permᴰ·nil = refl

@@ -1,7 +1,7 @@
 -- Two files of one network are answered alike: the order of the calls goes into no answer, since each is the same for the network with its calls in
 -- order, and that is one for both. Assumes nothing.
 use Prim.Native.Nat.{ℕ, suc, _+_}
-use mathlib.Core.Path.{_≡_, refl, sym, ap, ap₂, fun-ext, _∙_}
+use mathlib.Core.Path.{_≡_, refl, sym, ap, ap₂, subst, fun-ext, _∙_}
 use mathlib.Core.Bool.{Bool, _&&_}
 use mathlib.Core.List.{List, [], _∷_, Permᴰ·symm}
 use lib.Dec.{eqb}
@@ -29,10 +29,6 @@ use Rattle.network.proofs.Laws.Tidy.{length-tidy, tidy-is-permutation, 
 pub tidied-same : {m n : Net} → SameNetwork m n → tidied m ≡ tidied n
 unfolding tidied
 tidied-same {m} {n} same = ap₂ netWith (same .same-periods) (tidy-of-howOften (m .calls) (n .calls) (same .same-calls))
-
--- What is the same with the calls in order is the same for two that are one network
-pub same-of-tidied : {A : Type 0} (f : Net → A) → {m n : Net} → f (tidied m) ≡ f m → f (tidied n) ≡ f n → SameNetwork m n → f m ≡ f n
-same-of-tidied f d e same = sym d ∙ ap f (tidied-same same) ∙ e
 
 -- ---- served stops, the read call
 
@@ -123,7 +119,7 @@ pub record AnswersAlike (one other : Reading) : Type 0 where
   pub class-row-alike : (classes weights : List ℕ) → classRowAfter one classes weights ≡ classRowAfter other classes weights
   pub weight-row-alike : (classes weights : List ℕ) → weightRowAfter one classes weights ≡ weightRowAfter other classes weights
 
-pub tidied-answers-alike : {n : Net} → Valid n → AnswersAlike (accepted (tidied n)) (accepted n)
+tidied-answers-alike : {n : Net} → Valid n → AnswersAlike (accepted (tidied n)) (accepted n)
 unfolding rateOutcome weightedOutcome classOutcome classRowAfter weightRowAfter
 tidied-answers-alike {n} v =
     record {
@@ -133,4 +129,18 @@ tidied-answers-alike {n} v =
       classes-alike = λ classes weights. ap (λ (k : ℕ). pick (rowsFit classes weights) (values (k ∷ [])) (refusal 17 0)) (classCount-tidied n);
       class-row-alike = λ classes weights. ap (λ (l : List ℕ). pick (rowsFit (length classes) (length weights)) l classes) (classRow-tidied n);
       weight-row-alike = λ classes weights. ap (λ (l : List ℕ). pick (rowsFit (length classes) (length weights)) l weights) (weightRow-tidied n);
+    }
+
+pub same-answers-alike : {m n : Net} → Valid m → Valid n → SameNetwork m n → AnswersAlike (accepted m) (accepted n)
+same-answers-alike {m} {n} v w same =
+    let a : AnswersAlike (accepted (tidied n)) (accepted m) =
+    subst (λ (k : Net). AnswersAlike (accepted k) (accepted m)) (tidied-same same) (tidied-answers-alike v) in
+    let b = tidied-answers-alike w in
+    record {
+      read-alike = sym (a .read-alike) ∙ b .read-alike;
+      rate-alike = λ sheet. sym (a .rate-alike sheet) ∙ b .rate-alike sheet;
+      weighted-alike = λ sheet. sym (a .weighted-alike sheet) ∙ b .weighted-alike sheet;
+      classes-alike = λ classes weights. sym (a .classes-alike classes weights) ∙ b .classes-alike classes weights;
+      class-row-alike = λ classes weights. sym (a .class-row-alike classes weights) ∙ b .class-row-alike classes weights;
+      weight-row-alike = λ classes weights. sym (a .weight-row-alike classes weights) ∙ b .weight-row-alike classes weights;
     }

@@ -27,7 +27,7 @@ use Rattle.search.proofs.Laws.Bounds.{not-above-of-le, IsUpper, BoundsE
 -- ---- the least of a number and the gaps of all pairs
 
 module _ (n : Net) (starts : List ℤ) (v : ℕ) where
-  leastFrom-pairs : (c d : Call) (rest : List Call)
+  pub leastFrom-pairs : (c d : Call) (rest : List Call)
       → leastFrom v (pairGaps n starts (c ∷ d ∷ rest)) ≡ min v (gapOfStop n starts (c ∷ d ∷ rest))
   unfolding gapOfStop pairGaps pairsOf
   leastFrom-pairs c d rest = sym (leastOf-leastFrom v _) ∙ leastOf-cons v (pairGaps n starts (c ∷ d ∷ rest)) (zero-lt-suc _)

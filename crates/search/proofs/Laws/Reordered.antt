@@ -1,0 +1,147 @@
+-- The walk is the same whatever order a file lists its calls in: caps and upper values depend on a stop's calls and not on their order, since halves
+-- of g and gaps are those of a pair whichever comes first, and a sum is that of its terms. Assumes nothing.
+use Prim.Native.Nat.{ℕ, zero, suc, _/_, _<_, min}
+use mathlib.Core.Path.{_≡_, refl, sym, ap, ap₂, fun-ext, _∙_}
+use mathlib.Core.Bool.{Bool, _&&_}
+use mathlib.Core.List.{List, [], _∷_, List·Permᴰ, Permᴰ·symm}
+use native.Mathlib.Omega.{arith}
+use lib.Dec.{eqb, ltb}
+use lib.IntN.{ℤ}
+use lib.ListN.{length}
+use Rattle.network.specs.declared.Call.{Call}
+use Rattle.network.specs.declared.Rating.{Rating}
+use Rattle.network.specs.Archive.{tidied, SameNetwork}
+use Rattle.network.specs.Divisor.{gcd}
+use Rattle.network.specs.Lists.{pick, keep, leastOf, pairsOf, sumOf}
+use Rattle.network.specs.Network.{Net, cycle}
+use Rattle.network.specs.Rating.{periodOf, gapOfCalls, gapOfStop, pairGaps, callsOfStop, counted, ratingBy}
+use Rattle.network.specs.Reading.{accepted}
+use Rattle.network.specs.Scan.{leastFrom}
+use Rattle.network.specs.Tidy.{tidy}
+use Rattle.network.specs.Valid.{noCall, Valid}
+use Rattle.network.proofs.Laws.Divisor.{gcd-comm}
+use Rattle.network.proofs.Laws.Gaps.{counted-permuted, gapOfStop-permuted, callsOfStop-period-pos}
+use Rattle.network.proofs.Laws.Members.{All, keep-all}
+use Rattle.network.proofs.Laws.Permuted.{length-permuted, keep-permuted, sumOf-permuted, pairsOf-permuted, leastOf-permuted}
+use Rattle.network.proofs.Laws.SameNetwork.{tidied-same}
+use Rattle.network.proofs.Laws.Tidy.{tidy-is-permutation}
+use Rattle.search.specs.Caps.{halves, evenSpacing, capOfCalls, cap, placedCalls, upperValue, upperRating}
+use Rattle.search.specs.Search.{aboveBest, startCounts, searched, outcomeOf, SearchOutcome, refusal, searchOutcome, startRowAfter}
+use Rattle.search.specs.Walk.{State, atFirst, walk}
+use Rattle.search.proofs.Laws.Upper.{leastFrom-pairs}
+
+-- ---- caps
+
+module _ (n : Net) where
+  halves-permuted : {cs ds : List Call} → List·Permᴰ cs ds → leastOf (halves n cs) ≡ leastOf (halves n ds)
+  unfolding halves
+  halves-permuted π =
+      leastOf-permuted
+      (pairsOf-permuted (λ (c d : Call). gcd (periodOf n c) (periodOf n d) / 2) (λ c d. ap (λ (g : ℕ). g / 2) (gcd-comm (periodOf n c) (periodOf n d))) π)
+
+  evenSpacing-permuted : {cs ds : List Call} → List·Permᴰ cs ds → evenSpacing n cs ≡ evenSpacing n ds
+  unfolding evenSpacing
+  evenSpacing-permuted π = ap (λ (k : ℕ). cycle n / k) (sumOf-permuted (λ (c : Call). cycle n / periodOf n c) π)
+
+  -- by how many calls there are
+  capBy : ℕ → List Call → ℕ
+  capBy zero cs = 0
+  capBy (suc zero) cs = sumOf (periodOf n) cs
+  capBy (suc (suc k)) cs = min (leastOf (halves n cs)) (evenSpacing n cs)
+
+  capBy-is : (cs : List Call) → capOfCalls n cs ≡ capBy (length cs) cs
+  unfolding capOfCalls capBy sumOf
+  capBy-is [] = refl
+  capBy-is (c ∷ []) = omega arith
+  capBy-is (c ∷ d ∷ cs) = refl
+
+  capBy-permuted : (k : ℕ) {cs ds : List Call} → List·Permᴰ cs ds → capBy k cs ≡ capBy k ds
+  unfolding capBy
+  capBy-permuted zero π = refl
+  capBy-permuted (suc zero) π = sumOf-permuted (periodOf n) π
+  capBy-permuted (suc (suc k)) π = ap₂ min (halves-permuted π) (evenSpacing-permuted π)
+
+  capOfCalls-permuted : {cs ds : List Call} → List·Permᴰ cs ds → capOfCalls n cs ≡ capOfCalls n ds
+  capOfCalls-permuted {cs} {ds} π =
+      capBy-is cs ∙ ap (λ (k : ℕ). capBy k cs) (length-permuted π) ∙ capBy-permuted (length ds) π ∙ sym (capBy-is ds)
+
+-- ---- upper values
+
+module _ (n : Net) (starts : List ℤ) (v : ℕ) where
+  leastBy : ℕ → List Call → ℕ
+  leastBy zero cs = v
+  leastBy (suc zero) cs = v
+  leastBy (suc (suc k)) cs = min v (gapOfStop n starts cs)
+
+  leastBy-is : (cs : List Call) → leastFrom v (pairGaps n starts cs) ≡ leastBy (length cs) cs
+  unfolding leastBy leastFrom pairGaps pairsOf
+  leastBy-is [] = refl
+  leastBy-is (c ∷ []) = refl
+  leastBy-is (c ∷ d ∷ cs) = leastFrom-pairs n starts v c d cs
+
+  leastBy-permuted : (k : ℕ) {cs ds : List Call} → List·Permᴰ cs ds → All noCall (λ c. 0 < periodOf n c) cs → leastBy k cs ≡ leastBy k ds
+  unfolding leastBy
+  leastBy-permuted zero π positive = refl
+  leastBy-permuted (suc zero) π positive = refl
+  leastBy-permuted (suc (suc k)) π positive = ap (min v) (gapOfStop-permuted n starts π positive)
+
+  leastFrom-permuted : {cs ds : List Call} → List·Permᴰ cs ds → All noCall (λ c. 0 < periodOf n c) cs
+      → leastFrom v (pairGaps n starts cs) ≡ leastFrom v (pairGaps n starts ds)
+  leastFrom-permuted {cs} {ds} π positive =
+      leastBy-is cs ∙ ap (λ (k : ℕ). leastBy k cs) (length-permuted π) ∙ leastBy-permuted (length ds) π positive ∙ sym (leastBy-is ds)
+
+-- ---- a network with its calls in order
+
+module _ {n : Net} (valid : Valid n) where
+  at-stop : (stop : ℕ) → List·Permᴰ (callsOfStop n stop) (callsOfStop (tidied n) stop)
+  unfolding callsOfStop tidied
+  at-stop stop = keep-permuted (λ (c : Call). eqb (c .stop) stop) (Permᴰ·symm (tidy-is-permutation (n .calls)))
+
+  -- only the periods of a network count for given calls
+  capOfCalls-tidied : (cs : List Call) → capOfCalls (tidied n) cs ≡ capOfCalls n cs
+  unfolding capOfCalls halves evenSpacing cycle periodOf tidied
+  capOfCalls-tidied [] = refl
+  capOfCalls-tidied (c ∷ []) = refl
+  capOfCalls-tidied (c ∷ d ∷ cs) = refl
+
+  pairGaps-tidied : (starts : List ℤ) (cs : List Call) → pairGaps (tidied n) starts cs ≡ pairGaps n starts cs
+  unfolding pairGaps gapOfCalls periodOf tidied
+  pairGaps-tidied starts cs = refl
+
+  cap-tidied : (stop : ℕ) → cap (tidied n) stop ≡ cap n stop
+  unfolding cap
+  cap-tidied stop = capOfCalls-tidied (callsOfStop (tidied n) stop) ∙ sym (capOfCalls-permuted n (at-stop stop))
+
+  upperValue-tidied : (starts : List ℤ) (stop : ℕ) → upperValue (tidied n) (cap (tidied n)) starts stop ≡ upperValue n (cap n) starts stop
+  unfolding upperValue placedCalls
+  upperValue-tidied starts stop =
+      ap₂ leastFrom (cap-tidied stop) (pairGaps-tidied starts (placedCalls starts (callsOfStop (tidied n) stop)))
+      ∙ sym
+      (leastFrom-permuted n starts (cap n stop) (keep-permuted (λ (c : Call). ltb (c .line) (length starts)) (at-stop stop))
+      (keep-all noCall (λ (c : Call). ltb (c .line) (length starts)) (λ c. 0 < periodOf n c) (callsOfStop n stop)
+      (λ i h _. callsOfStop-period-pos valid stop i h)))
+
+  upperRating-tidied : upperRating (tidied n) (cap (tidied n)) ≡ upperRating n (cap n)
+  unfolding upperRating tidied
+  upperRating-tidied =
+      fun-ext (λ starts.
+      ap₂ ratingBy (fun-ext (upperValue-tidied starts)) (sym (counted-permuted n (tidied n) valid refl (Permᴰ·symm (tidy-is-permutation (n .calls))))))
+
+  searched-tidied : (budget : ℕ) → searched (tidied n) budget ≡ searched n budget
+  unfolding searched tidied
+  searched-tidied budget = ap (λ (upper : List ℤ → Rating). walk upper aboveBest budget (startCounts (n .periods)) [] atFirst) upperRating-tidied
+
+-- Two files of one network: answer, tries and start row
+module _ {m n : Net} (v : Valid m) (w : Valid n) (same : SameNetwork m n) where
+  searched-same : (budget : ℕ) → searched m budget ≡ searched n budget
+  searched-same budget = sym (searched-tidied v budget) ∙ ap (λ (k : Net). searched k budget) (tidied-same same) ∙ searched-tidied w budget
+
+  pub searchOutcome-same : (row budget : ℕ) → searchOutcome (accepted m) row budget ≡ searchOutcome (accepted n) row budget
+  unfolding searchOutcome
+  searchOutcome-same row budget =
+      ap₂ (λ (lines : ℕ) (s : State). pick (eqb row lines) (outcomeOf s) (refusal 16 0)) (ap length (same .same-periods)) (searched-same budget)
+
+  pub startRowAfter-same : (budget : ℕ) (row : List ℤ) → startRowAfter (accepted m) budget row ≡ startRowAfter (accepted n) budget row
+  unfolding startRowAfter
+  startRowAfter-same budget row =
+      ap₂ (λ (lines : ℕ) (s : State). pick (eqb (length row) lines && s .best .some) (s .starts) row) (ap length (same .same-periods)) (searched-same budget)
