@@ -2,13 +2,14 @@
 -- 65,536, and every other return value is below 65,536. Assumes nothing.
 use Prim.Native.Nat.{ℕ, _<_, _≤_}
 use mathlib.Core.Path.{_≡_, refl, sym, _∙_, subst}
+use mathlib.Core.List.{List, [], _∷_}
 use mathlib.Core.Logic.{_⊎_, inl, inr}
 use native.Mathlib.Omega.{arith}
 use Rattle.network.specs.Reading.{Outcome, values, refusal}
 use Rattle.network.specs.Refusals.{Demand1}
 use Rattle.search.specs.Search.{SearchOutcome, finished, stopped, stoppedWithNone}
 use Rattle.search.specs.Search as search
-use Rattle.examination.specs.Exports.{placeLimit, refusalCode, TellsRefusal, status, searchStatus, markStatus}
+use Rattle.examination.specs.Exports.{placeLimit, refusalCode, TellsRefusal, status, archiveStatus, searchStatus, markStatus}
 use Rattle.examination.specs.Sheets.{MarkOutcome, decided, undecided}
 use Rattle.examination.specs.Sheets as sheets
 
@@ -52,6 +53,19 @@ status-tells (refusal number place) e = inl (number, place, refl)
 pub status-code : {o : Outcome} {returned : ℕ} → returned ≡ status o → (number place : ℕ) → o ≡ refusal number place → returned ≡ refusalCode number place
 unfolding status
 status-code e number place f = e ∙ rw f refl
+
+-- the archive call's is its length
+pub archive-status-tells : (o : Outcome) {returned : ℕ} → returned ≡ archiveStatus o → ((bytes : ℕ) (others : List ℕ) → o ≡ values (bytes ∷ others) → bytes ≤ 1329)
+    → ((number : ℕ) × (place : ℕ) × (o ≡ refusal number place)) ⊎ (returned < placeLimit)
+unfolding archiveStatus
+archive-status-tells (values []) e low = inr (omega (arith, e))
+archive-status-tells (values (bytes ∷ others)) e low = inr (omega (arith, e, low bytes others refl))
+archive-status-tells (refusal number place) e low = inl (number, place, refl)
+
+pub archive-status-code : {o : Outcome} {returned : ℕ} → returned ≡ archiveStatus o → (number place : ℕ) → o ≡ refusal number place
+    → returned ≡ refusalCode number place
+unfolding archiveStatus
+archive-status-code e number place f = e ∙ rw f refl
 
 pub search-status-tells : (o : SearchOutcome) {returned : ℕ} → returned ≡ searchStatus o
     → ((number : ℕ) × (place : ℕ) × (o ≡ search.refusal number place)) ⊎ (returned < placeLimit)

@@ -4,7 +4,7 @@
 use Prim.Native.Nat.{ℕ, _*_, _<_, _≤_}
 use mathlib.Core.Path.{_≡_, refl, sym, ap, ap₂, _∙_}
 use mathlib.Core.Bool.{Bool, true, false}
-use mathlib.Core.List.{List}
+use mathlib.Core.List.{List, [], _∷_}
 use mathlib.Core.Logic.{_⊎_, inl, inr}
 use native.Mathlib.Omega.{arith}
 use borrow.Author.Tests.{eq-eqb, ne-eqb}
@@ -18,12 +18,14 @@ use Rattle.network.specs.declared.Rating.{Rating}
 use Rattle.network.specs.Network.{Net, maxPeriod, stopCount}
 use Rattle.network.specs.Gives.{Gives}
 use Rattle.network.specs.Reading.{Reading, Outcome, values, refusal, accepted, refused, readFile, readOutcome}
-use Rattle.network.specs.Refusals.{Refuses, by-file, after-file, Unfit, Not64, Demand1}
+use Rattle.network.specs.Archive.{archiveLength}
+use Rattle.network.specs.Refusals.{Refuses, by-file, after-file, Unfit, Not64, TooShort, Demand1}
 use Rattle.network.specs.Rating.{IsRating, rating}
 use Rattle.network.specs.Rate.{ratedOnSheet, rateOutcome}
 use Rattle.network.specs.ClassCall.{weightedRating, weightedOutcome}
 use Rattle.network.specs.Valid.{IsBytes}
-use Rattle.network.proofs.Demands.{ReadValues, read-values-of, RatedAs, rated-as, Classified, classified}
+use Rattle.network.proofs.Demands.{ReadValues, read-values-of, RatedAs, rated-as, Classified, classified, Archives, archives}
+use Rattle.network.proofs.Laws.ArchiveCall.{archive-refuses, archive-refuses-only, archive-row-as-found, archive-answers, archive-answer-le}
 use Rattle.network.proofs.Laws.Gaps.{accepted-valid}
 use Rattle.network.proofs.Laws.Lists.{zero-ne-one}
 use Rattle.network.proofs.Laws.Reading.{gives-what-is-read, refused-number, refused-place}
@@ -34,11 +36,11 @@ use Rattle.search.specs.Search.{SearchOutcome, finished, stopped, stoppedWithNo
 use Rattle.search.specs.Search as search
 use Rattle.search.proofs.Demands.{Searches, demandedBound, Demand3, Answers, demand-1, demand-3, answers}
 use Rattle.examination.specs.Bytes.{starts, bytesFit, byBytes, betterBytes, BytesUnfit}
-use Rattle.examination.specs.Exports.{placeLimit, TellsRefusal, status, rowAfter, searchStatus, searchRow, betterStatus, oneIf, markStatus, markRow}
+use Rattle.examination.specs.Exports.{placeLimit, TellsRefusal, status, rowAfter, archiveStatus, searchStatus, searchRow, betterStatus, oneIf, markStatus, markRow}
 use Rattle.examination.specs.Sheets.{Better, first, second, fits, betterBy, betterOf, MarkOutcome, decided, undecided, markOutcome}
 use Rattle.examination.specs.Sheets as sheets
 use Rattle.examination.proofs.BetterSheet.{Chosen, first-not-below, second-above, both-fit}
-use Rattle.examination.proofs.Codes.{export-demand-1, status-tells, status-code, search-status-tells, search-status-code, mark-status-tells, mark-status-code}
+use Rattle.examination.proofs.Codes.{export-demand-1, status-tells, status-code, archive-status-tells, archive-status-code, search-status-tells, search-status-code, mark-status-tells, mark-status-code}
 use Rattle.examination.proofs.Laws.Bytes.{rated-on-bytes}
 use Rattle.examination.proofs.Laws.Refusals.{refuses-range, sheet-bytes-refuse, sheet-bytes-refuse-only, mark-bytes-refuse, mark-bytes-refuse-only, mark-refuses-only}
 use Rattle.examination.proofs.Mark.{MarkMeans, mark-means}
@@ -55,6 +57,9 @@ use Rattle.examination.proofs.exports.examination_weighted.Reads as wei
 use Rattle.examination.proofs.exports.examination_classes as classes
 use Rattle.examination.proofs.exports.examination_classes.Kinds as classes-kinds
 use Rattle.examination.proofs.exports.examination_classes.Reads as classes-contract
+use Rattle.examination.proofs.exports.examination_archive as archiving
+use Rattle.examination.proofs.exports.examination_archive.Kinds as archive-kinds
+use Rattle.examination.proofs.exports.examination_archive.Reads as archive-contract
 use Rattle.examination.proofs.exports.examination_search as searching
 use Rattle.examination.proofs.exports.examination_search.Kinds as search-kinds
 use Rattle.examination.proofs.exports.examination_search.Reads as search-contract
@@ -78,6 +83,9 @@ weighted-export-asks-nothing κs a = tt
 
 pub classes-export-asks-nothing : (κs : Lfts 4) (a : ArgsD classes.signature κs) → classes-contract.Pre κs a
 classes-export-asks-nothing κs a = tt
+
+pub archive-export-asks-nothing : (κs : Lfts 2) (a : ArgsD archiving.signature κs) → archive-contract.Pre κs a
+archive-export-asks-nothing κs a = tt
 
 pub search-export-asks-nothing : (κs : Lfts 3) (a : ArgsD searching.signature κs) → search-contract.Pre κs a
 search-export-asks-nothing κs a = tt
@@ -104,7 +112,7 @@ file-range : (file : List ℕ) (number place : ℕ) → Gives file (refused numb
 file-range file number place g =
     let e = gives-what-is-read g in omega (arith, refused-number file number place e, refused-place file number place e)
 
-range : {file : List ℕ} {ground : ℕ} {unfit : Net → Type 0} → 15 ≤ ground → ground ≤ 17 → (number place : ℕ) → Refuses file ground unfit number place
+range : {file : List ℕ} {ground : ℕ} {unfit : Net → Type 0} → 15 ≤ ground → ground ≤ 18 → (number place : ℕ) → Refuses file ground unfit number place
     → (1 ≤ number) × (place < placeLimit)
 range low high number place f = omega (arith, refuses-range f low high)
 
@@ -217,6 +225,30 @@ module _ (κs : Lfts 4) (a : ArgsD classes.signature κs) (r : ResD classes.sign
         q .0,
         rw (q .1 ∙ e .0, kept .1 .1 .0 ∙ e .1, kept .1 .1 .1 .0 ∙ e .2) (classified (accepted-valid (a .0 .now) n (kept .1 .1 .1 .1) reads)),
       )
+
+-- ---- The archive call
+
+module _ (κs : Lfts 2) (a : ArgsD archiving.signature κs) (r : ResD archiving.signature κs)
+    (s : AtExit (endedOf 2 archive-kinds.ps archive-kinds.r) κs) (kept : archive-contract.Post κs a r s) where
+  pub archive-export-demand-1 : Demand1 (TellsRefusal r) (Refuses (a .0 .now) 18 (TooShort (a .1 .0 .now))) (s .1 .0 .now ≡ a .1 .0 .now)
+  archive-export-demand-1 =
+      export-demand-1
+      (record {
+        faulty-is-refused = λ number place f. archive-refuses (a .0 .now) (a .1 .0 .now) f;
+        no-other-is-refused = λ number place e. archive-refuses-only (a .0 .now) (a .1 .0 .now) e;
+        rows-as-found = λ number place e. kept .1 .0 ∙ archive-row-as-found (a .0 .now) (a .1 .0 .now) e;
+      })
+      (range (omega arith) (omega arith)) (archive-status-code (kept .0))
+      (archive-status-tells _ (kept .0) (archive-answer-le (a .0 .now) (a .1 .0 .now) (kept .1 .1)))
+
+  -- A row that is long enough: the return value is the length of the archive form, which stands at the row's beginning
+  pub archive-export-writes : {n : Net} → readFile (a .0 .now) ≡ accepted n → archiveLength n ≤ length (a .1 .0 .now)
+      → Archives n (values (r ∷ [])) (a .1 .0 .now) (s .1 .0 .now)
+  unfolding archiveStatus
+  archive-export-writes {n} reads room =
+      let e = archive-answers (a .0 .now) (a .1 .0 .now) reads room in
+      let is : r ≡ archiveLength n = kept .0 ∙ ap archiveStatus (e .0) in
+      rw (is, kept .1 .0 ∙ e .1) (archives (accepted-valid (a .0 .now) n (kept .1 .1) reads) (a .1 .0 .now))
 
 -- ---- The search
 

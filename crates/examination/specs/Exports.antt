@@ -30,6 +30,12 @@ unfoldable pub rowAfter : Outcome → List ℕ → List ℕ
 rowAfter (values vs) row = vs
 rowAfter (refusal number place) row = row
 
+-- The archive call: the length of the archive form, which is its answer's one value
+unfoldable pub archiveStatus : Outcome → ℕ
+archiveStatus (values []) = 0
+archiveStatus (values (bytes ∷ others)) = bytes
+archiveStatus (refusal number place) = refusalCode number place
+
 -- The search: 0 finished, 1 stopped with a best, 2 stopped with none; the best rating, 0 and 0 where there is none, and the tries
 unfoldable pub searchStatus : SearchOutcome → ℕ
 searchStatus (search.finished least sum tries) = 0

@@ -4,9 +4,11 @@ use crate::MarkAnswer;
 use crate::better::choose;
 use crate::bytes::sheet_of;
 use crate::marking::mark;
+use network::ArchiveAnswer;
 use network::ClassAnswer;
 use network::RateAnswer;
 use network::ReadAnswer;
+use network::archive::archive;
 use network::classes::classes;
 use network::classes::weighted;
 use network::rate::rate;
@@ -18,6 +20,7 @@ ghost use mathlib.Core.List.{List};
 ghost use Prim.Native.Nat.{ℕ, _<_};
 ghost use lib.IntN.{ℤ};
 ghost use lib.ListN.{length};
+ghost use Rattle.network.specs.Archive as form;
 ghost use Rattle.network.specs.ClassCall as call;
 ghost use Rattle.network.specs.Rate.{rateAnswer, rateOutcome};
 ghost use Rattle.network.specs.Reading.{Reading, readFile, readOutcome, refusal};
@@ -131,6 +134,20 @@ pub extern "C" fn examination_classes(
             *answer = [count];
             0
         }
+    }
+}
+
+// The archive call: returns the length of the archive form.
+#[no_mangle]
+pub extern "C" fn examination_archive(file: &[u8], row: &mut [u8]) -> u32
+    ensures returned { λ r. ⌜ r ≡ export.archiveStatus (form.archiveOutcome (readFile (now (file .entry))) (length (now (row .entry)))) ⌝ }
+    ensures row { λ _. ⌜ now (row .exit) ≡ form.archiveRowAfter (readFile (now (file .entry))) (now (row .entry)) ⌝ }
+    ensures bytes { λ _. ⌜ IsBytes (now (file .entry)) ⌝ }
+{
+    let told = archive(file, row);
+    match told {
+        ArchiveAnswer::Refused { number, place } => refusal_code(number, place),
+        ArchiveAnswer::Archived { bytes } => bytes,
     }
 }
 

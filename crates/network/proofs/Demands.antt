@@ -300,6 +300,15 @@ pub record Archives (n : Net) (answer : Outcome) (row after : List ℕ) : Type 0
   -- bytes behind it stay
   pub written : after ≡ form ++ drop (length form) row
 
+pub archives : {n : Net} → Valid n → (row : List ℕ) → Archives n (values (archiveLength n ∷ [])) row (archive n ++ drop (archiveLength n) row)
+archives {n} valid row =
+    record {
+      form = archive n;
+      is-form = is-archive valid;
+      answered = ap (λ (k : ℕ). values (k ∷ [])) (sym (length-archive n));
+      written = ap (λ (k : ℕ). archive n ++ drop k row) (sym (length-archive n));
+    }
+
 module _ (κs : Lfts 2) (a : ArgsD archive-call.signature κs) (r : ResD archive-call.signature κs)
     (s : AtExit (endedOf 2 archive-kinds.ps archive-kinds.r) κs) (kept : archive-contract.Post κs a r s) where
   pub archive-demand-1 : Demand1 (λ number place. archiveAnswer r ≡ refusal number place) (Refuses (a .0 .now) 18 (TooShort (a .1 .0 .now)))
@@ -315,13 +324,7 @@ module _ (κs : Lfts 2) (a : ArgsD archive-call.signature κs) (r : ResD archive
       → Archives n (archiveAnswer r) (a .1 .0 .now) (s .1 .0 .now)
   archive-writes {n} reads room =
       let e = archive-answers (a .0 .now) (a .1 .0 .now) reads room in
-      let long = sym (length-archive n) in
-      record {
-        form = archive n;
-        is-form = is-archive (accepted-valid (a .0 .now) n (kept .1 .1) reads);
-        answered = kept .0 ∙ e .0 ∙ ap (λ (k : ℕ). values (k ∷ [])) long;
-        written = kept .1 .0 ∙ e .1 ∙ ap (λ (k : ℕ). archive n ++ drop k (a .1 .0 .now)) long;
-      }
+      rw (kept .0 ∙ e .0, kept .1 .0 ∙ e .1) (archives (accepted-valid (a .0 .now) n (kept .1 .1) reads) (a .1 .0 .now))
 
 -- ---- Two files, by two calls
 

@@ -9,6 +9,7 @@ use borrow.Author.Tests.{eqb-true, eq-eqb}
 use lib.IntN.{ℤ}
 use lib.ListN.{length}
 use Rattle.network.specs.declared.Rating.{Rating}
+use Rattle.network.specs.Archive.{archiveOutcome}
 use Rattle.network.specs.ClassCall.{classOutcome}
 use Rattle.network.specs.Network.{Net}
 use Rattle.network.specs.Rate.{ratedOnSheet}
@@ -18,6 +19,7 @@ use Rattle.network.specs.Valid.{IsBytes}
 use Rattle.network.proofs.Laws.Lists.{zero-ne-one}
 use Rattle.network.proofs.Laws.Reading.{refused-number, refused-place}
 use Rattle.network.proofs.Laws.Refusals.{on-sheet-refuses, on-sheet-refuses-only, read-refused-as, sheet-refuses, sheet-refuses-only, class-refuses-only}
+use Rattle.network.proofs.Laws.ArchiveCall.{archive-refuses-only}
 use Rattle.network.proofs.Laws.Gaps.{accepted-valid}
 use Rattle.search.specs.Search.{SearchOutcome, finished, stopped, stoppedWithNone, searchOutcome, startRowAfter}
 use Rattle.search.specs.Search as search
@@ -33,7 +35,7 @@ use Rattle.examination.proofs.Laws.Bytes.{sheetOf-fits, rated-on-bytes,
 
 -- A file's own refusal has number 1 to 14 and a place up to 1,329; a call's own ground stands at place 0
 pub refuses-range : {file : List ℕ} {ground : ℕ} {unfit : Net → Type 0} {number place : ℕ} → Refuses file ground unfit number place
-    → 15 ≤ ground → ground ≤ 17 → (1 ≤ number) × (number ≤ 17) × (place ≤ 1329)
+    → 15 ≤ ground → ground ≤ 18 → (1 ≤ number) × (number ≤ 18) × (place ≤ 1329)
 refuses-range {file} (by-file e) l h = omega (arith, refused-number file _ _ e, refused-place file _ _ e)
 refuses-range (after-file e unfit) l h = omega arith
 
@@ -78,7 +80,7 @@ module _ (file : List ℕ) (sheet : List ℤ) (budget : ℕ) where
 -- ---- so an export's refusal has a place below 65,536
 
 low : {file : List ℕ} {ground : ℕ} {unfit : Net → Type 0} {number place : ℕ} → Refuses file ground unfit number place
-    → 15 ≤ ground → ground ≤ 17 → place < placeLimit
+    → 15 ≤ ground → ground ≤ 18 → place < placeLimit
 low f l h = omega (arith, refuses-range f l h)
 
 module _ (file : List ℕ) {number place : ℕ} where
@@ -90,6 +92,9 @@ module _ (file : List ℕ) {number place : ℕ} where
 
   pub class-low : (classes weights : List ℕ) → classOutcome (readFile file) (length classes) (length weights) ≡ refusal number place → place < placeLimit
   class-low classes weights e = low (class-refuses-only file classes weights e) (omega arith) (omega arith)
+
+  pub archive-low : (row : List ℕ) → archiveOutcome (readFile file) (length row) ≡ refusal number place → place < placeLimit
+  archive-low row e = low (archive-refuses-only file row e) (omega arith) (omega arith)
 
   pub search-low : IsBytes file → (row : List ℤ) (budget : ℕ) → searchOutcome (readFile file) (length row) budget ≡ search.refusal number place
       → place < placeLimit

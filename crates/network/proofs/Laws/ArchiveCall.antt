@@ -4,6 +4,7 @@ use Prim.Native.Nat.{ℕ, _≤_, _<_}
 use mathlib.Core.Path.{_≡_, refl, ap, ap₂, _∙_}
 use mathlib.Core.Bool.{Bool, true, false}
 use mathlib.Core.List.{List, [], _∷_, _++_}
+use native.Mathlib.Omega.{arith}
 use borrow.Author.Tests.{le-leb, lt-leb, leb-false}
 use lib.Dec.{leb}
 use lib.ListN.{length, drop}
@@ -12,8 +13,15 @@ use Rattle.network.specs.Lists.{pick}
 use Rattle.network.specs.Network.{Net}
 use Rattle.network.specs.Reading.{Reading, accepted, refused, Outcome, values, refusal, readFile}
 use Rattle.network.specs.Refusals.{Refuses, by-file, after-file, TooShort}
+use Rattle.network.specs.Valid.{IsBytes, Valid}
 use Rattle.network.proofs.Laws.Lists.{zero-ne-one}
 use Rattle.network.proofs.Laws.Refusals.{same-refusal}
+use Rattle.network.proofs.Laws.Valid.{accepted-valid}
+
+-- 16 lines and 256 calls at most
+pub archiveLength-le : {n : Net} → Valid n → archiveLength n ≤ 1329
+unfolding archiveLength
+archiveLength-le v = omega (arith, v .lines, v .calls)
 
 -- The answer and the row afterwards
 abbrev pub Archived : Reading → List ℕ → Outcome → List ℕ → Type 0
@@ -66,6 +74,22 @@ module _ (file row : List ℕ) where
 
     pub archive-row-as-found : archiveRowAfter (readFile file) row ≡ row
     archive-row-as-found = archive-refused (readFile file) refl h .1
+
+  -- An answer is at most 1,329 bytes long
+  pub archive-answer-le : IsBytes file → (bytes : ℕ) (others : List ℕ) → archiveOutcome (readFile file) (length row) ≡ values (bytes ∷ others) → bytes ≤ 1329
+  unfolding archiveOutcome
+  archive-answer-le is-bytes bytes others = go (readFile file) refl
+    where
+      longest : (n : Net) → readFile file ≡ accepted n → archiveLength n ≤ 1329
+      longest n e = archiveLength-le (accepted-valid file n is-bytes e)
+
+      at : (n : Net) → readFile file ≡ accepted n → (b : Bool) → pick b (values (archiveLength n ∷ [])) (refusal 18 0) ≡ values (bytes ∷ others) → bytes ≤ 1329
+      at n e true f = let is : archiveLength n ≡ bytes = cc in rw (← is) (longest n e)
+      at n e false f = absurd (zero-ne-one (cc))
+
+      go : (read : Reading) → readFile file ≡ read → archiveOutcome read (length row) ≡ values (bytes ∷ others) → bytes ≤ 1329
+      go (refused number place) e f = absurd (zero-ne-one (cc))
+      go (accepted n) e f = at n e (leb (archiveLength n) (length row)) f
 
   -- A row that is long enough is written
   pub archive-answers : {n : Net} → readFile file ≡ accepted n → archiveLength n ≤ length row
