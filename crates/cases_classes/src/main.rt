@@ -2,7 +2,6 @@
 // afterwards. The file `stdout` beside src/ has the lines that the paper gives, worked out by hand from its sections on classes of stops,
 // sheets and the grounds.
 mod cases;
-mod large;
 mod networks;
 mod rows;
 mod sheets;

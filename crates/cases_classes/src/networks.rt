@@ -1,6 +1,8 @@
 // Which stops are alike, and the rows that say so.
 use crate::cases::case;
-use crate::large::large_case;
+use crate::cases::large_case;
+use crate::cases::named;
+use cases_typed::papers::P9;
 
 pub fn all() {
     paper();
@@ -13,10 +15,7 @@ pub fn all() {
 }
 
 fn paper() {
-    case(
-        b"P9: 4C0014 4C001E 4300000000 4301000000 4300010007 4301010011 4300020005 4301020008 45",
-        4,
-    );
+    named(b"P9", &P9, 4);
 }
 
 // Differences that agree only by their remainder. Of periods 12 and 18 it is by 6: 5, -7 and 11 leave 5, and 1 is another. By 1,440

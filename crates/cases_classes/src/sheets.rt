@@ -1,6 +1,11 @@
 // The weighted rating beside the rating, on the same file and sheet.
+use cases_typed::papers::P1;
+use cases_typed::papers::P8;
+use cases_typed::papers::P9;
 use cases_typed::put_hex;
-use cases_typed::show::show_number;
+use cases_typed::show::show_name;
+use cases_typed::show::show_rating;
+use cases_typed::show::show_refusal;
 use libc::STDOUT_FILENO;
 use network::RateAnswer;
 
@@ -15,25 +20,26 @@ pub fn all() {
 fn rated(name: &[u8], text: &[u8], sheet: &[i32]) {
     let mut file = [0u8; 128];
     let end = put_hex(text, &mut file, 0);
-    io::write_all(STDOUT_FILENO, name);
-    io::write_all(STDOUT_FILENO, b": rate");
-    show_rating(network::rate::rate(&file[..end], sheet));
+    show(name, &file[..end], sheet);
+}
+
+// What both answer for a file and a sheet, on a line of its own.
+fn show(name: &[u8], file: &[u8], sheet: &[i32]) {
+    show_name(name);
+    io::write_all(STDOUT_FILENO, b" rate");
+    show_answer(network::rate::rate(file, sheet));
     io::write_all(STDOUT_FILENO, b", weighted");
-    show_rating(network::classes::weighted(&file[..end], sheet));
+    show_answer(network::classes::weighted(file, sheet));
     io::write_all(STDOUT_FILENO, b"\n");
 }
 
-fn show_rating(answer: RateAnswer) {
+fn show_answer(answer: RateAnswer) {
     match answer {
         RateAnswer::Rated { least, sum } => {
-            show_number(least as u64);
-            show_number(sum as u64);
+            show_rating(least, sum);
         }
         RateAnswer::Refused { number, place } => {
-            io::write_all(STDOUT_FILENO, b" refused");
-            show_number(number as u64);
-            io::write_all(STDOUT_FILENO, b" at");
-            show_number(place as u64);
+            show_refusal(number, place);
         }
     }
 }
@@ -41,17 +47,13 @@ fn show_rating(answer: RateAnswer) {
 // The file of P1.
 fn p1(name: &[u8], first: i32, second: i32) {
     let sheet = [first, second];
-    rated(name, b"4C000F 4C0014 4300000008 4301000011 45", &sheet);
+    rated(name, &P1, &sheet);
 }
 
 // The file of P9: by 10 the differences leave 0 at stops 0 and 1, and 7 at stop 2.
 fn p9(name: &[u8], first: i32, second: i32) {
     let sheet = [first, second];
-    rated(
-        name,
-        b"4C0014 4C001E 4300000000 4301000000 4300010007 4301010011 4300020005 4301020008 45",
-        &sheet,
-    );
+    rated(name, &P9, &sheet);
 }
 
 // P1 and P2; the timetable that P8 ends with; that of P9, and the one that only has the same least gap.
@@ -59,11 +61,7 @@ fn paper() {
     p1(b"P1", 0, 0);
     p1(b"P2", 0, -17);
     let sheet = [0, 30, 0];
-    rated(
-        b"P8",
-        b"4C003C 4C003C 4C000C 4300000000 4301000000 4302010000 45",
-        &sheet,
-    );
+    rated(b"P8", &P8, &sheet);
     p9(b"P9 on 0 3", 0, 3);
     p9(b"P9 on 0 4", 0, 4);
 }
@@ -96,21 +94,17 @@ fn single_lines() {
 // Ground 15, and the file's ground before it.
 fn refused() {
     let one = [0];
-    rated(
-        b"one start for two lines",
-        b"4C000F 4C0014 4300000008 4301000011 45",
-        &one,
-    );
+    rated(b"one start for two lines", &P1, &one);
     let three = [0, 0, 0];
-    rated(
-        b"three starts for two lines",
-        b"4C000F 4C0014 4300000008 4301000011 45",
-        &three,
-    );
-    rated(
-        b"three starts and a file refused",
-        b"4C000F 4C0014 4300000008 4301000011 45 45",
-        &three,
-    );
+    rated(b"three starts for two lines", &P1, &three);
+    byte_behind(b"three starts and a file refused", &three);
     p1(b"both starts at the lowest", -2147483648, -2147483648);
+}
+
+// The file of P1 and one byte behind its end.
+fn byte_behind(name: &[u8], sheet: &[i32]) {
+    let mut file = [0u8; 128];
+    let last = put_hex(&P1, &mut file, 0);
+    let end = put_hex(b"45", &mut file, last);
+    show(name, &file[..end], sheet);
 }

@@ -1,7 +1,8 @@
 // One case: a file and a sheet are given to the rate call, and a line says what it answers.
 use cases_typed::large::large_file;
 use cases_typed::put_hex;
-use cases_typed::show::show_number;
+use cases_typed::show::show_name;
+use cases_typed::show::show_rating;
 use cases_typed::show::show_refusal;
 use libc::STDOUT_FILENO;
 use network::RateAnswer;
@@ -18,20 +19,19 @@ pub fn case(name: &[u8], text: &[u8], sheet: &[i32]) {
 pub fn large_case(name: &[u8], lines: usize, period: u16, calls: usize, sheet: &[i32])
     requires { ⌜ (0 < lines) × (lines ≤ 16) × (calls ≤ 256) ⌝ }
 {
-    let mut file = large_file(lines, lines, period);
+    let mut file = large_file(lines, lines, period, false);
     let end = put_hex(b"45", &mut file, 3 * lines + 5 * calls);
     show(name, &file[..end], sheet);
 }
 
 // The rate call's answer for a file and a sheet, on a line of its own.
 fn show(name: &[u8], file: &[u8], sheet: &[i32]) {
-    io::write_all(STDOUT_FILENO, name);
+    show_name(name);
     let answer = network::rate::rate(file, sheet);
     match answer {
         RateAnswer::Rated { least, sum } => {
-            io::write_all(STDOUT_FILENO, b": rated");
-            show_number(least as u64);
-            show_number(sum as u64);
+            io::write_all(STDOUT_FILENO, b" rated");
+            show_rating(least, sum);
         }
         RateAnswer::Refused { number, place } => {
             show_refusal(number, place);

@@ -1,6 +1,7 @@
 // Starts at the ends of 32 signed bits. Their difference, 4,294,967,295, has no 32 bits with a sign, and neither has the highest
 // start with an offset.
 use crate::cases::case;
+use cases_typed::papers::ONE_LINE;
 
 const LOW: i32 = -2147483648;
 
@@ -23,7 +24,7 @@ fn lone_line() {
 }
 
 fn lone(name: &[u8], sheet: &[i32]) {
-    case(name, b"4C000F 4300000008 45", sheet);
+    case(name, &ONE_LINE, sheet);
 }
 
 // Periods 720 and 1,440, offsets 0 and 100. g is 720, of which 4,294,967,295 is 5,965,232 times and 255 more: d is that of -100,

@@ -1,6 +1,7 @@
 // Mistakes near at hand: of each the comment says what it would print.
 use crate::cases::case;
 use crate::paper::p1;
+use cases_typed::papers::P8;
 
 pub fn all() {
     lone_stops();
@@ -18,11 +19,7 @@ pub fn all() {
 // has lines of 10 and 20 that are 5 apart at stop 0, and the first of them alone at stop 1: (5, 5) instead of (5, 15). In the third the
 // lone line's period isn't the least: 30 and 1,440.
 fn lone_stops() {
-    case(
-        b"P8",
-        b"4C003C 4C003C 4C000C 4300000000 4301000000 4302010000 45",
-        &[0, 30, 0],
-    );
+    case(b"P8", &P8, &[0, 30, 0]);
     case(
         b"alone at a second stop",
         b"4C000A 4C0014 4300000000 4300010000 4301000000 45",

@@ -1,5 +1,8 @@
 // The paper's own timetables, and the one that source 000 writes out.
 use crate::cases::case;
+use cases_typed::papers::P1;
+use cases_typed::papers::P7;
+use cases_typed::papers::P9;
 
 pub fn all() {
     two_lines();
@@ -10,7 +13,7 @@ pub fn all() {
 
 // P1's network. g is 5.
 pub fn p1(name: &[u8], sheet: &[i32]) {
-    case(name, b"4C000F 4C0014 4300000008 4301000011 45", sheet);
+    case(name, &P1, sheet);
 }
 
 // P1, P2 and the starts that P3 ends with. The arrivals are 8 and 17, then 8 and 0, then 8 and 20.
@@ -22,26 +25,14 @@ fn two_lines() {
 
 // P7's starts: the pairs are 3, 3 and 4 apart.
 fn three_lines() {
-    case(
-        b"P7",
-        b"4C000A 4C000A 4C000A 4300000000 4301000000 4302000000 45",
-        &[0, 3, 6],
-    );
+    case(b"P7", &P7, &[0, 3, 6]);
 }
 
-// P9's network. g is 10.
-fn p9(name: &[u8], sheet: &[i32]) {
-    case(
-        name,
-        b"4C0014 4C001E 4300000000 4301000000 4300010007 4301010011 4300020005 4301020008 45",
-        sheet,
-    );
-}
-
-// P9's starts, and those before them with the same least gap. From 0, 4 the gaps are 4, 4 and 3; from 0, 3 they are 3, 3 and 4.
+// P9's network, where g is 10: P9's starts, and those before them with the same least gap. From 0, 4 the gaps are 4, 4 and 3; from 0, 3
+// they are 3, 3 and 4.
 fn three_stops() {
-    p9(b"P9", &[0, 4]);
-    p9(b"P9 from 0, 3", &[0, 3]);
+    case(b"P9", &P9, &[0, 4]);
+    case(b"P9 from 0, 3", &P9, &[0, 3]);
 }
 
 // Source 000, section 2.3. Table 2.1 has the arrivals for the starts 2, 5, 1: at station 1 line 2 at 5 and line 3 at 1, so with

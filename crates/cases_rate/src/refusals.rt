@@ -2,6 +2,7 @@
 use crate::cases::case;
 use crate::cases::large_case;
 use crate::paper::p1;
+use cases_typed::papers::ONE_LINE;
 
 pub fn all() {
     wrong_length();
@@ -14,8 +15,8 @@ fn wrong_length() {
     p1(b"15 too short", &[0]);
     p1(b"15 too long", &[0, 0, 0]);
     p1(b"15 empty", &[]);
-    case(b"15 empty, one line", b"4C000F 4300000008 45", &[]);
-    case(b"15 two starts, one line", b"4C000F 4300000008 45", &[0, 0]);
+    case(b"15 empty, one line", &ONE_LINE, &[]);
+    case(b"15 two starts, one line", &ONE_LINE, &[0, 0]);
     large_case(b"15 one start, 16 lines", 16, 60, 256, &[0]);
 }
 

@@ -1,5 +1,9 @@
 // The edges that the paper names, and how a file is read on from command to command.
 use crate::cases::case;
+use crate::cases::named;
+use cases_typed::papers::ONE_LINE;
+use cases_typed::papers::P1;
+use cases_typed::papers::P9;
 
 pub fn all() {
     periods();
@@ -18,7 +22,7 @@ fn periods() {
 }
 
 fn nine_bytes() {
-    case(b"nine bytes: 4C000F 4300000008 45");
+    named(b"nine bytes", &ONE_LINE);
     case(b"nine bytes without the last: 4C000F 4300000008");
     case(b"nine bytes and one more: 4C000F 4300000008 45 00");
     case(b"empty file:");
@@ -26,8 +30,8 @@ fn nine_bytes() {
 
 // The files of P1 and P9.
 fn networks() {
-    case(b"P1: 4C000F 4C0014 4300000008 4301000011 45");
-    case(b"P9: 4C0014 4C001E 4300000000 4301000000 4300010007 4301010011 4300020005 4301020008 45");
+    named(b"P1", &P1);
+    named(b"P9", &P9);
 }
 
 // Operands are read by their width, whatever bytes they hold.

@@ -1,5 +1,6 @@
 // Long files.
 use crate::cases::show;
+use cases_typed::papers::ONE_LINE;
 use cases_typed::put_hex;
 
 pub fn all() {
@@ -10,10 +11,10 @@ pub fn all() {
 // An accepted file with many bytes behind it.
 fn behind_the_end() {
     let mut zeros = [0u8; 4096];
-    put_hex(b"4C000F 4300000008 45", &mut zeros, 0);
+    put_hex(&ONE_LINE, &mut zeros, 0);
     show(b"nine bytes and 4087 of 00", &zeros);
     let mut lines = [0x4Cu8; 4096];
-    put_hex(b"4C000F 4300000008 45", &mut lines, 0);
+    put_hex(&ONE_LINE, &mut lines, 0);
     show(b"nine bytes and 4087 of 4C", &lines);
 }
 

@@ -1,6 +1,8 @@
 // One case: a file, a start row and a budget are given to the search call, and a line says what it answers.
 use cases_typed::put_hex;
+use cases_typed::show::show_name;
 use cases_typed::show::show_number;
+use cases_typed::show::show_rating;
 use cases_typed::show::show_refusal;
 use cases_typed::show::show_row;
 use libc::STDOUT_FILENO;
@@ -11,7 +13,7 @@ use search::SearchAnswer;
 pub fn case(name: &[u8], text: &[u8], row: &mut [i32], budget: u32) {
     let mut file = [0u8; 64];
     let end = put_hex(text, &mut file, 0);
-    io::write_all(STDOUT_FILENO, name);
+    show_name(name);
     let answer = search::call::search(&file[..end], row, budget);
     show(answer);
     io::write_all(STDOUT_FILENO, b", row");
@@ -23,15 +25,15 @@ pub fn case(name: &[u8], text: &[u8], row: &mut [i32], budget: u32) {
 fn show(answer: SearchAnswer) {
     match answer {
         SearchAnswer::Finished { least, sum, tries } => {
-            io::write_all(STDOUT_FILENO, b": finished");
+            io::write_all(STDOUT_FILENO, b" finished");
             show_best(least, sum, tries);
         }
         SearchAnswer::Stopped { least, sum, tries } => {
-            io::write_all(STDOUT_FILENO, b": stopped");
+            io::write_all(STDOUT_FILENO, b" stopped");
             show_best(least, sum, tries);
         }
         SearchAnswer::StoppedWithNone { tries } => {
-            io::write_all(STDOUT_FILENO, b": stopped with none, tries");
+            io::write_all(STDOUT_FILENO, b" stopped with none, tries");
             show_number(tries as u64);
         }
         SearchAnswer::Refused { number, place } => {
@@ -41,8 +43,7 @@ fn show(answer: SearchAnswer) {
 }
 
 fn show_best(least: u32, sum: u32, tries: u32) {
-    show_number(least as u64);
-    show_number(sum as u64);
+    show_rating(least, sum);
     io::write_all(STDOUT_FILENO, b", tries");
     show_number(tries as u64);
 }

@@ -1,5 +1,10 @@
 // The paper's own searches, and their budgets just at and below what they take.
 use crate::cases::case;
+use cases_typed::papers::ONE_LINE;
+use cases_typed::papers::P1;
+use cases_typed::papers::P7;
+use cases_typed::papers::P8;
+use cases_typed::papers::P9;
 
 pub fn all() {
     two_lines();
@@ -12,12 +17,7 @@ pub fn all() {
 // P1's network. It takes 21 tries: line 0 at 0, then line 1 at 0 to 19.
 fn p1(name: &[u8], budget: u32) {
     let mut row = [7, 7];
-    case(
-        name,
-        b"4C000F 4C0014 4300000008 4301000011 45",
-        &mut row,
-        budget,
-    );
+    case(name, &P1, &mut row, budget);
 }
 
 fn two_lines() {
@@ -33,12 +33,7 @@ fn two_lines() {
 // P7's network, which takes 51 tries.
 fn p7(name: &[u8], budget: u32) {
     let mut row = [7, 7, 7];
-    case(
-        name,
-        b"4C000A 4C000A 4C000A 4300000000 4301000000 4302000000 45",
-        &mut row,
-        budget,
-    );
+    case(name, &P7, &mut row, budget);
 }
 
 // A search that ends just at its budget is finished; with one try less it is stopped, though its best is the same.
@@ -52,19 +47,9 @@ fn three_lines() {
 
 fn other_networks() {
     let mut row = [7, 7, 7];
-    case(
-        b"P8",
-        b"4C003C 4C003C 4C000C 4300000000 4301000000 4302010000 45",
-        &mut row,
-        1000000,
-    );
+    case(b"P8", &P8, &mut row, 1000000);
     let mut pair = [7, 7];
-    case(
-        b"P9",
-        b"4C0014 4C001E 4300000000 4301000000 4300010007 4301010011 4300020005 4301020008 45",
-        &mut pair,
-        1000000,
-    );
+    case(b"P9", &P9, &mut pair, 1000000);
 }
 
 // Periods 15, 20 and 4 at one stop: 15 and 4 have no common divisor but 1, so that the cap is 0, the half of 1 rounded down, and every try
@@ -82,7 +67,7 @@ fn caps_by_half_divisors() {
 // One line: it is tried at 0 only.
 fn lone(name: &[u8], budget: u32) {
     let mut row = [7];
-    case(name, b"4C000F 4300000008 45", &mut row, budget);
+    case(name, &ONE_LINE, &mut row, budget);
 }
 
 fn one_line() {

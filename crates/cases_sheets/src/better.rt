@@ -1,8 +1,10 @@
 // Better-of-two, every branch. On P1 starts 0 0 and 0 2 rate (1, 1), 0 1 rates (0, 0), 0 3 rates (2, 2). On P9 starts 0 3 rate (3, 10) and
 // 0 4 rate (3, 11).
 use crate::show::show_part;
+use cases_typed::papers::P1;
+use cases_typed::papers::P9;
 use cases_typed::put_hex;
-use libc::STDOUT_FILENO;
+use cases_typed::show::show_name;
 
 pub fn all() {
     by_rating();
@@ -16,28 +18,17 @@ pub fn all() {
 fn case<'a>(name: &[u8], text: &[u8], first: &'a [i32], second: &'a [i32]) {
     let mut file = [0u8; 64];
     let end = put_hex(text, &mut file, 0);
-    io::write_all(STDOUT_FILENO, name);
-    io::write_all(STDOUT_FILENO, b":");
+    show_name(name);
     let part = examination::better::better(&file[..end], first, second);
     show_part(part);
 }
 
 fn p1<'a>(name: &[u8], first: &'a [i32], second: &'a [i32]) {
-    case(
-        name,
-        b"4C000F 4C0014 4300000008 4301000011 45",
-        first,
-        second,
-    );
+    case(name, &P1, first, second);
 }
 
 fn p9<'a>(name: &[u8], first: &'a [i32], second: &'a [i32]) {
-    case(
-        name,
-        b"4C0014 4C001E 4300000000 4301000000 4300010007 4301010011 4300020005 4301020008 45",
-        first,
-        second,
-    );
+    case(name, &P9, first, second);
 }
 
 fn by_rating() {

@@ -1,7 +1,10 @@
 // Mark: equal, beaten and undecided.
 use crate::show::show_mark;
+use cases_typed::papers::ONE_LINE;
+use cases_typed::papers::P1;
+use cases_typed::papers::P9;
 use cases_typed::put_hex;
-use libc::STDOUT_FILENO;
+use cases_typed::show::show_name;
 
 pub fn all() {
     decided();
@@ -13,27 +16,17 @@ pub fn all() {
 pub fn case(name: &[u8], text: &[u8], sheet: &[i32], budget: u32) {
     let mut file = [0u8; 96];
     let end = put_hex(text, &mut file, 0);
-    io::write_all(STDOUT_FILENO, name);
+    show_name(name);
     let answer = examination::marking::mark(&file[..end], sheet, budget);
     show_mark(answer);
 }
 
 fn p1(name: &[u8], sheet: &[i32], budget: u32) {
-    case(
-        name,
-        b"4C000F 4C0014 4300000008 4301000011 45",
-        sheet,
-        budget,
-    );
+    case(name, &P1, sheet, budget);
 }
 
 fn p9(name: &[u8], sheet: &[i32], budget: u32) {
-    case(
-        name,
-        b"4C0014 4C001E 4300000000 4301000000 4300010007 4301010011 4300020005 4301020008 45",
-        sheet,
-        budget,
-    );
+    case(name, &P9, sheet, budget);
 }
 
 fn decided() {
@@ -55,6 +48,6 @@ fn undecided() {
 }
 
 fn one_line() {
-    case(b"one line", b"4C000F 4300000008 45", &[-1], 1);
-    case(b"one line, budget 0", b"4C000F 4300000008 45", &[-1], 0);
+    case(b"one line", &ONE_LINE, &[-1], 1);
+    case(b"one line, budget 0", &ONE_LINE, &[-1], 0);
 }

@@ -2,8 +2,9 @@
 use crate::marks::case;
 use crate::show::show_mark;
 use cases_typed::large::large_file;
+use cases_typed::papers::ONE_LINE;
 use cases_typed::put_hex;
-use libc::STDOUT_FILENO;
+use cases_typed::show::show_name;
 
 pub fn all() {
     commands();
@@ -47,23 +48,23 @@ fn ends() {
 
 // 256 calls of four lines, and one more at a stop where its line doesn't call yet, since ground 9 comes before.
 fn full() {
-    let mut file = large_file(5, 4, 60);
+    let mut file = large_file(5, 4, 60, false);
     let end = put_hex(b"4304000001 45", &mut file, 1295);
-    io::write_all(STDOUT_FILENO, b"10");
+    show_name(b"10");
     let answer = examination::marking::mark(&file[..end], &[0, 0, 0, 0, 0], 21);
     show_mark(answer);
 }
 
 // Ground 15 is the same with every budget, and comes after the file's.
 fn sheets() {
-    case(b"15 too short", b"4C000F 4300000008 45", &[], 0);
-    case(b"15 too long", b"4C000F 4300000008 45", &[0, 0], 21);
+    case(b"15 too short", &ONE_LINE, &[], 0);
+    case(b"15 too long", &ONE_LINE, &[0, 0], 21);
     case(
         b"15 as many as the engine can take",
-        b"4C000F 4300000008 45",
+        &ONE_LINE,
         &[0; 16],
         21,
     );
-    case(b"15 one more", b"4C000F 4300000008 45", &[0; 17], 21);
+    case(b"15 one more", &ONE_LINE, &[0; 17], 21);
     case(b"5 before 15", b"4C05A1 4300000008 45", &[0, 0], 21);
 }

@@ -1,5 +1,6 @@
 // What the calls hand back and answer, in words and numbers.
 use cases_typed::show::show_number;
+use cases_typed::show::show_rating;
 use cases_typed::show::show_refusal;
 use cases_typed::show::show_row;
 use examination::MarkAnswer;
@@ -25,16 +26,16 @@ pub fn show_mark(answer: MarkAnswer) {
             equal,
             tries,
         } => {
-            io::write_all(STDOUT_FILENO, b": decided");
-            show_pair(least, sum);
+            io::write_all(STDOUT_FILENO, b" decided");
+            show_rating(least, sum);
             io::write_all(STDOUT_FILENO, b" best");
-            show_pair(best_least, best_sum);
+            show_rating(best_least, best_sum);
             show_equal(equal);
             show_tries(tries);
         }
         MarkAnswer::Undecided { least, sum, tries } => {
-            io::write_all(STDOUT_FILENO, b": undecided");
-            show_pair(least, sum);
+            io::write_all(STDOUT_FILENO, b" undecided");
+            show_rating(least, sum);
             show_tries(tries);
         }
         MarkAnswer::Refused { number, place } => {
@@ -42,11 +43,6 @@ pub fn show_mark(answer: MarkAnswer) {
             io::write_all(STDOUT_FILENO, b"\n");
         }
     }
-}
-
-fn show_pair(least: u32, sum: u32) {
-    show_number(least as u64);
-    show_number(sum as u64);
 }
 
 fn show_equal(equal: bool) {

@@ -6,8 +6,8 @@ use borrow.Author.Needs.{needs}
 use Rattle.cases_classes.proofs.cases.show.Statement.{statement}
 use Rattle.cases_classes.proofs.cases.show.Tie as tie
 
-write-all-requires : tie.Need-write-all-requires
-write-all-requires c κs = search needs
+show-name-requires : tie.Need-show-name-requires
+show-name-requires c κs = search needs
 
 slice-aggregate-classes : tie.Need-slice-aggregate-classes
 slice-aggregate-classes c = search needs
@@ -24,8 +24,8 @@ show-answer-requires c κs = search needs
 slice-aggregate-write-all : tie.Need-slice-aggregate-write-all
 slice-aggregate-write-all c = search needs
 
-write-all-requires-2 : tie.Need-write-all-requires-2
-write-all-requires-2 c κs = search needs
+write-all-requires : tie.Need-write-all-requires
+write-all-requires c κs = search needs
 
 array-share-prefix-classes : tie.Need-array-share-prefix-classes
 array-share-prefix-classes c = search needs
@@ -41,8 +41,8 @@ show-classes-requires c κs = search needs
 slice-aggregate-write-all-2 : tie.Need-slice-aggregate-write-all-2
 slice-aggregate-write-all-2 c = search needs
 
-write-all-requires-3 : tie.Need-write-all-requires-3
-write-all-requires-3 c κs = search needs
+write-all-requires-2 : tie.Need-write-all-requires-2
+write-all-requires-2 c κs = search needs
 
 array-share-prefix-weights : tie.Need-array-share-prefix-weights
 array-share-prefix-weights c = search needs
@@ -71,18 +71,18 @@ pub show-spec : {M : Type 1} → statement M
 show-spec =
     tie.close
     (tie.spec
-    write-all-requires
+    show-name-requires
     slice-aggregate-classes
     slice-aggregate-classes-2
     classes-requires
     show-answer-requires
     slice-aggregate-write-all
-    write-all-requires-2
+    write-all-requires
     array-share-prefix-classes
     slice-aggregate-show-classes
     show-classes-requires
     slice-aggregate-write-all-2
-    write-all-requires-3
+    write-all-requires-2
     array-share-prefix-weights
     slice-aggregate-show-weights
     show-weights-requires

@@ -11,7 +11,7 @@ use Rattle.cases_classes.proofs.rows.lengths.Tie as tie
 -- The rows are as long as before, once the parts are back
 module _ (c : tie.After-classes2) where
   abbrev start : tie.Start
-  start = c .before .before .before .before .before .before .before .before .before .before .before .before
+  start = c .before .before .before .before .before .before .before .before .before .before
 
   classes-length : length (c .classes2 .last .1 .0 ++ drop (start .args .class-places) (replicate 4096 7)) ≡ 4096
   classes-length = length-front (replicate 4096 7) (c .classes2 .last .1 .0) (start .args .class-places) (c .classes2 .kept .1 .0)
@@ -19,29 +19,14 @@ module _ (c : tie.After-classes2) where
   weights-length : length (c .classes2 .last .1 .1 .0 ++ drop (start .args .weight-places) (replicate 4096 500)) ≡ 4096
   weights-length = length-front (replicate 4096 500) (c .classes2 .last .1 .1 .0) (start .args .weight-places) (c .classes2 .kept .1 .1 .0)
 
-name-length-requires : tie.Need-name-length-requires
-name-length-requires c κs = search needs
-
-sub-put-hex : tie.Need-sub-put-hex
-sub-put-hex c = search needs
-
-part-put-hex-start : tie.Need-part-put-hex-start
-part-put-hex-start c = search needs
-
-part-put-hex-end : tie.Need-part-put-hex-end
-part-put-hex-end c = search needs
-
 slice-aggregate-put-hex : tie.Need-slice-aggregate-put-hex
 slice-aggregate-put-hex c = search needs
 
 put-hex-requires : tie.Need-put-hex-requires
 put-hex-requires c κs = search needs
 
-slice-aggregate-write-all : tie.Need-slice-aggregate-write-all
-slice-aggregate-write-all c = search needs
-
-write-all-requires : tie.Need-write-all-requires
-write-all-requires c κs = search needs
+show-name-requires : tie.Need-show-name-requires
+show-name-requires c κs = search needs
 
 array-share-prefix-file : tie.Need-array-share-prefix-file
 array-share-prefix-file c = search needs
@@ -54,14 +39,14 @@ array-borrow-prefix-classes c = search needs
 
 slice-aggregate-classes-2 : tie.Need-slice-aggregate-classes-2
 slice-aggregate-classes-2 c =
-    sym (length-take-le _ (replicate 4096 7) (c .before .before .before .before .before .before .before .before .before .before .pre .0))
+    sym (length-take-le _ (replicate 4096 7) (c .before .before .before .before .before .before .before .before .pre .0))
 
 array-borrow-prefix-weights : tie.Need-array-borrow-prefix-weights
 array-borrow-prefix-weights c = search needs
 
 slice-aggregate-classes-3 : tie.Need-slice-aggregate-classes-3
 slice-aggregate-classes-3 c =
-    sym (length-take-le _ (replicate 4096 500) (c .before .before .before .before .before .before .before .before .before .before .before .pre .1))
+    sym (length-take-le _ (replicate 4096 500) (c .before .before .before .before .before .before .before .before .before .pre .1))
 
 classes-requires : tie.Need-classes-requires
 classes-requires c κs = search needs
@@ -86,14 +71,9 @@ pub lengths-spec : {M : Type 1} → statement M
 lengths-spec =
     tie.close
     (tie.spec
-    name-length-requires
-    sub-put-hex
-    part-put-hex-start
-    part-put-hex-end
     slice-aggregate-put-hex
     put-hex-requires
-    slice-aggregate-write-all
-    write-all-requires
+    show-name-requires
     array-share-prefix-file
     slice-aggregate-classes
     array-borrow-prefix-classes
