@@ -6,8 +6,12 @@
 //! longer run. A case is made from its number alone; a failure names it.
 
 use host::engine::{self, Counts, Mark, Rating, Refusal, Searched, Sheet};
-use host::files::{any_budget, any_file, any_sheet_bytes, sheet_bytes, Dice};
+use host::files::{
+    any_budget, any_file, any_sheet_bytes, bytes_of, random_bytes, retyped, sheet_bytes,
+    valid_commands, Dice, Stated,
+};
 use host::papers;
+use host::papers::archive::archive_form;
 use host::papers::network::{read, Network};
 use host::papers::rating::rating;
 use host::papers::sheets::{better_bytes, mark_bytes, rate_bytes, weighted_bytes, Better, Marked};
@@ -113,6 +117,8 @@ struct Kind {
     very_long: bool,
     /// Fewer classes than served stops.
     alike: bool,
+    /// The archive form isn't the file itself.
+    untidy: bool,
 }
 
 /// Compares every call on the case of a number.
@@ -136,6 +142,7 @@ fn case(number: usize) -> Kind {
     compare_classes(&file, &net, &mut kind);
     compare_search(&mut dice, &file, &net, &mut kind);
     compare_sheets(&mut dice, &file, &net, &sheets, &mut kind);
+    compare_archive(&mut dice, &file, &net, &sheets[0], &mut kind);
     kind
 }
 
@@ -213,6 +220,45 @@ fn compare_mark(file: &[u8], sheet: &[u8], budget: u32, kind: &mut Kind) {
     });
 }
 
+/// The archive form beside the papers', in a row that is longer by some bytes;
+/// and every other answer is the same on the file and on its archive form.
+fn compare_archive(
+    dice: &mut Dice,
+    file: &[u8],
+    net: &Result<Network, Refusal>,
+    sheet: &[u8],
+    kind: &mut Kind,
+) {
+    let form = engine::archive(file);
+    let paper = net.as_ref().map(archive_form).map_err(|&why| why);
+    assert_eq!(form, paper);
+    let guard = random_bytes(dice, 1_340);
+    let mut row = guard.clone();
+    let length = engine::archive_into(file, &mut row);
+    let Ok(form) = form else {
+        assert_eq!((length, row), (form.map(|form| form.len()), guard));
+        return;
+    };
+    assert_eq!(length, Ok(form.len()));
+    assert_eq!(row, [&form, &guard[form.len()..]].concat());
+    kind.untidy = form != file;
+    answers_alike(file, &form, sheet, any_budget(dice));
+}
+
+/// Every call answers alike on two files of one network.
+fn answers_alike(one: &[u8], other: &[u8], sheet: &[u8], budget: u32) {
+    assert_eq!(engine::archive(one), engine::archive(other));
+    assert_eq!(engine::read(one), engine::read(other));
+    assert_eq!(engine::classes(one), engine::classes(other));
+    assert_eq!(engine::search(one, budget), engine::search(other, budget));
+    let sheet = Sheet::of_bytes(sheet.to_vec());
+    assert_eq!(engine::rate(one, &sheet), engine::rate(other, &sheet));
+    let weighted = engine::weighted(one, &sheet);
+    assert_eq!(weighted, engine::weighted(other, &sheet));
+    let marked = engine::mark(one, &sheet, budget);
+    assert_eq!(marked, engine::mark(other, &sheet, budget));
+}
+
 /// The cases on two threads, which call the engine at once.
 fn all_kinds(cases: usize) -> Vec<Kind> {
     let next = AtomicUsize::new(0);
@@ -250,6 +296,7 @@ fn seeded_files_and_sheets() {
     let long = count(&|kind| kind.very_long);
     let empty = count(&|kind| kind.empty);
     let alike = count(&|kind| kind.alike);
+    let untidy = count(&|kind| kind.untidy);
     println!(
         "{cases} cases; rated {}, refused by ground {:?}",
         grounds[0],
@@ -258,7 +305,7 @@ fn seeded_files_and_sheets() {
     println!("searches finished, stopped, stopped with none: {searches:?}");
     println!("better first, second, neither: {betters:?}");
     println!("marks equal, below, undecided: {marks:?}");
-    println!("very long {long}, empty {empty}, with alike stops {alike}");
+    println!("very long {long}, empty {empty}, with alike stops {alike}, untidy {untidy}");
     // The kinds that come least often are some twenty in 20,000.
     let least = cases / 1_000;
     let of_kinds = [
@@ -266,10 +313,63 @@ fn seeded_files_and_sheets() {
         &searches,
         &betters,
         &marks,
-        &[long, empty, alike],
+        &[long, empty, alike, untidy],
     ]
     .concat();
     assert!(of_kinds.iter().all(|&count| count >= least));
+}
+
+// ---------------------------------------------------------------------------
+// Files of one network
+// ---------------------------------------------------------------------------
+
+/// The network with at most one change: an offset moved by a whole period, which
+/// no rating sees, or two lines exchanged.
+fn varied(dice: &mut Dice, stated: &Stated) -> Stated {
+    let mut varied = stated.clone();
+    let lines = stated.periods.len();
+    match dice.below(4) {
+        0 => {
+            let at = dice.below(varied.calls.len());
+            let (line, _, offset) = &mut varied.calls[at];
+            *offset = offset.wrapping_add(stated.periods[usize::from(*line)]);
+        }
+        1 => {
+            let [one, other] = [0, 1].map(|_| dice.below(lines));
+            varied.periods.swap(one, other);
+            for (line, _, _) in &mut varied.calls {
+                *line = match usize::from(*line) {
+                    at if at == one => other as u8,
+                    at if at == other => one as u8,
+                    _ => *line,
+                };
+            }
+        }
+        _ => {}
+    }
+    varied
+}
+
+/// Two files have equal archive bytes exactly where their periods and offsets
+/// are equal, in whatever way they are typed.
+#[test]
+fn archive_bytes_tell_one_network_from_two() {
+    let mut dice = Dice::new(72);
+    let (mut same, mut different) = (0, 0);
+    for number in 0..4_000 {
+        let commands = valid_commands(&mut dice);
+        let varied = varied(&mut dice, &Stated::by(&commands));
+        let one = bytes_of(&commands);
+        let other = bytes_of(&retyped(&mut dice, &varied));
+        let equal = engine::archive(&one) == engine::archive(&other);
+        assert_eq!(equal, read(&one) == read(&other), "network {number}");
+        match equal {
+            true => same += 1,
+            false => different += 1,
+        }
+    }
+    println!("one network {same}, two networks {different}");
+    assert!(same > 1_000 && different > 1_000);
 }
 
 // ---------------------------------------------------------------------------
@@ -319,7 +419,7 @@ fn the_optimum_beside_every_timetable() {
 fn words_for_each_ground() {
     let path = concat!(env!("CARGO_MANIFEST_DIR"), "/../README.md");
     let readme = std::fs::read_to_string(path).expect("the README");
-    for number in 1..=17 {
+    for number in 1..=18 {
         let refusal = Refusal { number, place: 12 };
         assert_eq!(refusal.to_string(), format!("refused {number} at 12"));
         let words = refusal.words();
@@ -330,7 +430,7 @@ fn words_for_each_ground() {
     }
 }
 
-/// Rows of the caller: grounds 16 and 17 come through the wrapper, and the rows
+/// Rows of the caller: grounds 16 to 18 come through the wrapper, and the rows
 /// stay as they were.
 #[test]
 fn rows_of_the_caller() {
@@ -355,4 +455,17 @@ fn rows_of_the_caller() {
         })
     );
     assert_eq!((class_row, weight_row), ([9; 64], [9; 63]));
+    let mut row = [9; 8];
+    let refused = engine::archive_into(&file, &mut row);
+    assert_eq!(
+        refused,
+        Err(Refusal {
+            number: 18,
+            place: 0
+        })
+    );
+    assert_eq!(row, [9; 8]);
+    let mut row = [9; 10];
+    assert_eq!(engine::archive_into(&file, &mut row), Ok(9));
+    assert_eq!((&row[..9], row[9]), (&file[..], 9));
 }
