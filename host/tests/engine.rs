@@ -17,6 +17,7 @@ use host::papers::rating::rating;
 use host::papers::sheets::{better_bytes, mark_bytes, rate_bytes, weighted_bytes, Better, Marked};
 use host::papers::walk::{walk, Answer, Walked};
 use host::small::{every_timetable, small_file};
+use std::fmt::Debug;
 use std::panic::{catch_unwind, AssertUnwindSafe};
 use std::sync::atomic::{AtomicUsize, Ordering};
 
@@ -142,7 +143,7 @@ fn case(number: usize) -> Kind {
     compare_classes(&file, &net, &mut kind);
     compare_search(&mut dice, &file, &net, &mut kind);
     compare_sheets(&mut dice, &file, &net, &sheets, &mut kind);
-    compare_archive(&mut dice, &file, &net, &sheets[0], &mut kind);
+    compare_archive(&mut dice, &file, &net, &sheets, &mut kind);
     kind
 }
 
@@ -221,12 +222,12 @@ fn compare_mark(file: &[u8], sheet: &[u8], budget: u32, kind: &mut Kind) {
 }
 
 /// The archive form beside the papers', in a row that is longer by some bytes;
-/// and every other answer is the same on the file and on its archive form.
+/// and every call answers the same on the file and on its archive form.
 fn compare_archive(
     dice: &mut Dice,
     file: &[u8],
     net: &Result<Network, Refusal>,
-    sheet: &[u8],
+    sheets: &[Vec<u8>; 2],
     kind: &mut Kind,
 ) {
     let form = engine::archive(file);
@@ -242,21 +243,23 @@ fn compare_archive(
     assert_eq!(length, Ok(form.len()));
     assert_eq!(row, [&form, &guard[form.len()..]].concat());
     kind.untidy = form != file;
-    answers_alike(file, &form, sheet, any_budget(dice));
+    let (sheets, budget) = (sheets.clone().map(Sheet::of_bytes), any_budget(dice));
+    let on_form = answers(&form, &sheets, budget);
+    assert_eq!(answers(file, &sheets, budget), on_form);
 }
 
-/// Every call answers alike on two files of one network.
-fn answers_alike(one: &[u8], other: &[u8], sheet: &[u8], budget: u32) {
-    assert_eq!(engine::archive(one), engine::archive(other));
-    assert_eq!(engine::read(one), engine::read(other));
-    assert_eq!(engine::classes(one), engine::classes(other));
-    assert_eq!(engine::search(one, budget), engine::search(other, budget));
-    let sheet = Sheet::of_bytes(sheet.to_vec());
-    assert_eq!(engine::rate(one, &sheet), engine::rate(other, &sheet));
-    let weighted = engine::weighted(one, &sheet);
-    assert_eq!(weighted, engine::weighted(other, &sheet));
-    let marked = engine::mark(one, &sheet, budget);
-    assert_eq!(marked, engine::mark(other, &sheet, budget));
+/// What every call answers on a file.
+fn answers(file: &[u8], [first, second]: &[Sheet; 2], budget: u32) -> impl PartialEq + Debug {
+    (
+        engine::read(file),
+        engine::rate(file, first),
+        engine::weighted(file, first),
+        engine::classes(file),
+        engine::search(file, budget),
+        engine::better(file, first, second),
+        engine::mark(file, first, budget),
+        engine::archive(file),
+    )
 }
 
 /// The cases on two threads, which call the engine at once.
