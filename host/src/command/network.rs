@@ -106,6 +106,34 @@ fn digit(byte: u8) -> Option<u8> {
     char::from(byte).to_digit(16).map(|digit| digit as u8)
 }
 
+/// The commands of a file with their operands, the last one cut off if the file
+/// is.
+pub fn commands(bytes: &[u8]) -> Vec<&[u8]> {
+    let mut commands = Vec::new();
+    let mut rest = bytes;
+    while let [first, ..] = rest {
+        let (command, behind) = rest.split_at(width(*first).min(rest.len()));
+        commands.push(command);
+        rest = behind;
+    }
+    commands
+}
+
+/// The number of bytes of a command; an unknown one is shown by its one byte.
+fn width(command: u8) -> usize {
+    match command {
+        0x4C => 3,
+        0x43 | 0x46 => 5,
+        _ => 1,
+    }
+}
+
+/// Bytes in hexadecimal.
+pub fn pairs(bytes: &[u8]) -> String {
+    let pairs: Vec<String> = bytes.iter().map(|byte| format!("{byte:02X}")).collect();
+    pairs.join(" ")
+}
+
 #[cfg(test)]
 mod tests {
     use super::read_typed;

@@ -1,6 +1,6 @@
 //! What each verb asks of the engine and prints.
 
-use super::fault;
+use super::fault::{self, refused};
 use super::folder;
 use super::input::Source;
 use super::network::{self, Network};
@@ -31,14 +31,6 @@ pub fn run(request: &Request) -> Ended {
         (Verb::Better, [first, second]) => better(&network, first, second),
         _ => unreachable!("each verb has its number of sheets"),
     }
-}
-
-/// A refusal: `refused 5 at 0` and nothing else on standard output, the words
-/// on standard error.
-pub fn refused(refusal: Refusal, network: &Network) -> Ended {
-    say(&fault::explained(refusal, network));
-    put(format!("{refusal}\n"))?;
-    Ok(Status::Refused)
 }
 
 /// A refusal where a sheet was handed over: ground 15 is the sheet's.
