@@ -295,6 +295,35 @@ fn call_or_follow(dice: &mut Dice, stated: &Stated, line: u8, stop: u8, offset: 
     }
 }
 
+/// The same network typed in another way: its lines in their order, its calls in
+/// any, each after its line.
+pub fn retyped(dice: &mut Dice, stated: &Stated) -> Vec<Command> {
+    let mut waiting = stated.calls.clone();
+    dice.shuffle(&mut waiting);
+    let mut typed = Stated::default();
+    let mut commands = Vec::new();
+    loop {
+        let lines = typed.periods.len();
+        let all_lines = lines == stated.periods.len();
+        let ready = waiting.iter().position(|call| usize::from(call.0) < lines);
+        let command = match ready {
+            Some(at) if all_lines || dice.once_in(2) => {
+                let (line, stop, offset) = waiting.remove(at);
+                call_or_follow(dice, &typed, line, stop, offset)
+            }
+            _ if all_lines => {
+                commands.push(Command::End);
+                return commands;
+            }
+            _ => Command::Line {
+                period: stated.periods[lines],
+            },
+        };
+        typed.add(command);
+        commands.push(command);
+    }
+}
+
 /// Minutes of 0..=most, mostly few.
 fn any_minutes(dice: &mut Dice, most: u16) -> u16 {
     let most = usize::from(most);

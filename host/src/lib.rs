@@ -1,10 +1,10 @@
 //! The host of the proved engine, and the papers written out in plain Rust
-//! from document 01 and source 000 alone, to be compared with it.
+//! from documents 01 and 02 and source 000 alone, to be compared with it.
 //!
 //! * [`engine`] is the proved engine behind a safe wrapper.
 //! * [`command`] is the command `exam`.
 //! * [`papers`] is the independent implementation, one file for each section of
-//!   document 01.
+//!   document 01 and for each request of document 02.
 //! * [`files`] makes network files and sheets, good and bad, from a seed.
 //! * [`plain`] is rate in quick Rust by hand, [`strong`] the walk, and [`measure`]
 //!   measures the engine's rate call beside the one.

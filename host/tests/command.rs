@@ -5,7 +5,10 @@ mod common;
 
 use common::{command, ended, exam, exam_with, Folder};
 use host::engine::WORDS;
-use host::files::{any_file, dense_file, faulty_file, Dice};
+use host::files::{
+    any_file, bytes_of, dense_file, faulty_file, retyped, valid_commands, Dice, Stated,
+};
+use host::papers::archive::archive_form;
 use host::papers::best::best;
 use host::papers::network::read;
 use host::papers::walk::{walk, Answer};
@@ -139,6 +142,167 @@ fn mark_prints_both_ratings() {
     exam(&["mark", HEX, &zeros, "--budget", "20"]).told(line, 3, &["the budget"]);
 }
 
+/// What a run wrote, bytes as they are.
+fn written(words: &[&str]) -> Vec<u8> {
+    let output = command(words).output().expect("exam runs");
+    assert_eq!((output.status.code(), output.stderr), (Some(0), vec![]));
+    output.stdout
+}
+
+#[test]
+fn archive_prints_a_line_for_each_command() {
+    let tidy = "4C 000F\n4C 0014\n43 00 00 0008\n43 01 00 0011\n45\n";
+    exam(&["archive", HEX]).printed(tidy, 0);
+    exam(&["archive", NET]).printed(tidy, 0);
+    exam_with(&["archive", "-", "--typed"], tidy.as_bytes()).printed(tidy, 0);
+    let behind = "4C000F 4300000008 4C0014 4301000011 45";
+    exam_with(&["archive", "--typed", "-"], behind.as_bytes()).printed(tidy, 0);
+    let rides = "4C003C 4300090064 4600010001 4300040007 460000FFF8 45";
+    let form = "4C 003C\n43 00 00 FFFF\n43 00 01 0065\n43 00 04 0007\n43 00 09 0064\n45\n";
+    exam_with(&["archive", "--typed", "-"], rides.as_bytes()).printed(form, 0);
+    exam_with(&["archive", "--typed", "-"], form.as_bytes()).printed(form, 0);
+}
+
+/// Of every sample the archive form, typed and as bytes, is the same network,
+/// and its search ends with the same line.
+#[test]
+fn archive_of_the_samples() {
+    let folder = Folder::new();
+    for name in ["one_line", "two_lines", "village", "town"] {
+        let network = format!("samples/{name}.hex");
+        let typed = folder.file("tidy.hex", exam(&["archive", &network]).out);
+        let raw = folder.file("tidy.net", written(&["archive", &network, "--raw"]));
+        for tidy in [&typed, &raw] {
+            exam(&["same", &network, tidy]).printed("same\n", 0);
+            let answer = exam(&["best", &network, "--quiet", "--budget", "20000"]);
+            let on_tidy = exam(&["best", tidy, "--quiet", "--budget", "20000"]);
+            assert_eq!((on_tidy.out, on_tidy.status), (answer.out, answer.status));
+        }
+        let again = exam(&["archive", &raw]).out;
+        assert_eq!(again, exam(&["archive", &typed]).out);
+    }
+    assert_eq!(
+        written(&["archive", HEX, "--raw"]),
+        std::fs::read(format!("{}/{NET}", common::ROOT)).expect("a sample")
+    );
+}
+
+/// Seeded files: the papers' bytes, and every way of typing a network is the
+/// same network.
+#[test]
+fn archive_and_same_on_seeded_files() {
+    let mut dice = Dice::new(94);
+    let folder = Folder::new();
+    for _ in 0..60 {
+        let commands = valid_commands(&mut dice);
+        let again = bytes_of(&retyped(&mut dice, &Stated::by(&commands)));
+        let file = bytes_of(&commands);
+        let form = archive_form(&read(&file).expect("an accepted file"));
+        let network = folder.file("one.net", &file);
+        assert_eq!(written(&["archive", &network, "--raw"]), form);
+        let other = folder.file("other.hex", typed(&again));
+        exam(&["same", &network, &other]).printed("same\n", 0);
+    }
+}
+
+/// Networks beside that of `two_lines.hex`, and in what they differ from it.
+const OTHERS: [(&str, &str); 8] = [
+    // Lines exchanged.
+    (
+        "4C0014 4C000F 4300000011 4301000008 45",
+        "line 0 has period 15 in a.hex and 20 in b.hex",
+    ),
+    // 23 leaves 8 by 15.
+    (
+        "4C000F 4C0014 4300000017 4301000011 45",
+        "line 0 reaches stop 0 after 8 minutes in a.hex and 23 in b.hex",
+    ),
+    (
+        "4C000F 4C001E 4300000008 4301000011 45",
+        "line 1 has period 20 in a.hex and 30 in b.hex",
+    ),
+    ("4C000F 4300000008 45", "line 1 is in a.hex alone"),
+    (
+        "4C000F 4C0014 4C0001 4300000008 4301000011 4302000000 45",
+        "line 2 is in b.hex alone",
+    ),
+    (
+        "4C000F 4C0014 4300000008 4301000011 43013F0000 45",
+        "line 1 calls at stop 63 in b.hex alone",
+    ),
+    (
+        "4C000F 4C0014 4300000008 4301010011 45",
+        "line 1 calls at stop 0 in a.hex alone",
+    ),
+    (
+        "4C000F 4C0014 4300000008 4300010008 4301000011 45",
+        "line 0 calls at stop 1 in b.hex alone",
+    ),
+];
+
+#[test]
+fn same_says_in_what_two_networks_differ() {
+    let folder = Folder::new();
+    let a = folder.file("a.hex", "4C000F 4C0014 4300000008 4301000011 45");
+    let again = folder.file("again.txt", "4C000F 4300000008 4C0014\n4301000011 45");
+    exam(&["same", &a, &again]).printed("same\n", 0);
+    exam(&["same", HEX, &a]).printed("same\n", 0);
+    for (text, words) in OTHERS {
+        let b = folder.file("b.hex", text);
+        let ran = exam(&["same", &a, &b]);
+        ran.told("different\n", 1, &[]);
+        let said = ran.err.replace(&format!("{}/", folder.name()), "");
+        assert_eq!(said, format!("exam: another network: {words}\n"));
+        // What is in one alone is so whichever comes first.
+        let pieces = match words.ends_with("alone") {
+            true => vec![ran.err.as_str()],
+            false => vec!["exam: another network: line "],
+        };
+        exam(&["same", &b, &a]).told("different\n", 1, &pieces);
+    }
+}
+
+/// A refused file is no network: its refusal, with its name, and the first one's
+/// where both are refused.
+#[test]
+fn same_with_a_refused_file() {
+    let folder = Folder::new();
+    let bad = folder.file("bad.hex", "4C05A1 4300000008 45");
+    let cut = folder.file("cut.net", [0x4C, 0, 15]);
+    let of_bad = [
+        "refused 5 at 0: the period isn't 1 to 1,440",
+        "bad.hex, byte 0",
+    ];
+    let of_cut = ["refused 1 at 3", "cut.net, nothing behind its 3 bytes"];
+    exam(&["same", &bad, HEX]).told("refused 5 at 0\n", 1, &of_bad);
+    exam(&["same", HEX, &bad]).told("refused 5 at 0\n", 1, &of_bad);
+    exam(&["same", NET, &cut]).told("refused 1 at 3\n", 1, &of_cut);
+    exam(&["same", &bad, &cut]).told("refused 5 at 0\n", 1, &of_bad);
+    exam(&["same", &cut, &bad]).told("refused 1 at 3\n", 1, &of_cut);
+    exam(&["same", &bad, &bad]).told("refused 5 at 0\n", 1, &of_bad);
+}
+
+/// Each network is typed or bytes by its own name; a flag counts for both.
+#[test]
+fn same_of_typed_text_and_bytes() {
+    let folder = Folder::new();
+    let bytes = std::fs::read(format!("{}/{NET}", common::ROOT)).expect("a sample");
+    let text = typed(&bytes);
+    exam(&["same", HEX, NET]).printed("same\n", 0);
+    let named = [folder.file("a.net", &text), folder.file("b", &text)];
+    exam(&["same", "--typed", &named[0], &named[1]]).printed("same\n", 0);
+    exam_with(&["same", "-", HEX, "--typed"], text.as_bytes()).printed("same\n", 0);
+    exam_with(&["same", NET, "-", "--bytes"], &bytes).printed("same\n", 0);
+    let hint = ["--typed or --bytes"];
+    exam(&["same", HEX, &named[1]]).told("", 2, &hint);
+    exam_with(&["same", HEX, "-"], text.as_bytes()).told("", 2, &hint);
+    exam(&["same", "no.hex", HEX]).told("", 2, &["no.hex: there is no such file"]);
+    exam(&["same", HEX, "no.hex"]).told("", 2, &["no.hex: there is no such file"]);
+    // What can't be read comes before what is refused.
+    let bad = folder.file("bad.hex", "4C05A1 45");
+    exam(&["same", &bad, "no.hex"]).told("", 2, &["no.hex: there is no such file"]);
+}
+
 // ---------------------------------------------------------------------------
 // Refusals
 // ---------------------------------------------------------------------------
@@ -165,7 +329,7 @@ fn words_for_each_ground_of_the_file() {
         };
         let pieces = [line.trim(), words, &place];
         let text = typed(&faulty.bytes);
-        for verb in ["read", "classes", "best"] {
+        for verb in ["read", "classes", "best", "archive"] {
             let bytes = &faulty.bytes;
             exam_with(&[verb, "-", "--bytes"], bytes).told(&line, 1, &pieces);
             exam_with(&[verb, "-", "--typed"], text.as_bytes()).told(&line, 1, &pieces);
@@ -176,6 +340,8 @@ fn words_for_each_ground_of_the_file() {
         for verb in ["rate", "mark"] {
             exam(&[verb, &network, &sheet]).told(&line, 1, &pieces);
         }
+        exam(&["archive", "--raw", &network]).told(&line, 1, &pieces);
+        exam(&["same", HEX, &network]).told(&line, 1, &pieces);
     }
 }
 
@@ -317,6 +483,24 @@ fn bad_usage() {
 }
 
 #[test]
+fn bad_usage_of_archive_and_same() {
+    let cases: [(&[&str], &str); 9] = [
+        (&["archive"], "'archive' wants NETWORK"),
+        (&["archive", NET, NET], "'archive' wants NETWORK"),
+        (&["archive", NET, "--budget=1"], "has no budget"),
+        (&["archive", NET, "--rows"], "no option '--rows'"),
+        (&["read", NET, "--raw"], "no option '--raw'"),
+        (&["same", NET], "'same' wants NETWORK NETWORK"),
+        (&["same", NET, NET, NET], "'same' wants NETWORK NETWORK"),
+        (&["same", NET, NET, "--raw"], "no option '--raw'"),
+        (&["same", "-", "-", "--typed"], "one file only"),
+    ];
+    for (words, message) in cases {
+        exam(words).told("", 2, &[message, "try: exam"]);
+    }
+}
+
+#[test]
 fn input_that_cannot_be_read() {
     let folder = Folder::new();
     let sheet = |text: &str| folder.file("bad.sheet", text);
@@ -385,7 +569,10 @@ fn help_for_each_verb() {
     for words in [&["help"][..], &["-h"], &["--help"]] {
         exam(words).printed(&overview.out, 0);
     }
-    for verb in ["read", "rate", "classes", "best", "better", "mark"] {
+    let verbs = [
+        "read", "rate", "classes", "best", "better", "mark", "archive", "same",
+    ];
+    for verb in verbs {
         assert!(overview.out.contains(&format!("  exam {verb} NETWORK")));
         let help = exam(&[verb, "--help"]);
         assert_eq!((help.status, help.err.as_str()), (0, ""));
@@ -393,6 +580,7 @@ fn help_for_each_verb() {
         assert!(help.out.contains("Exit status: 0 done; 1 refused"));
         let searches = ["best", "mark"].contains(&verb);
         assert_eq!(help.out.contains("--budget N"), searches);
+        assert_eq!(help.out.contains("  --raw "), verb == "archive");
         // Help comes also where operands are there.
         exam(&[verb, NET, "-h"]).printed(&help.out, 0);
         exam(&["help", verb]).printed(&help.out, 0);

@@ -6,13 +6,18 @@
 //! longer run. A case is made from its number alone; a failure names it.
 
 use host::engine::{self, Counts, Mark, Rating, Refusal, Searched, Sheet};
-use host::files::{any_budget, any_file, any_sheet_bytes, sheet_bytes, Dice};
+use host::files::{
+    any_budget, any_file, any_sheet_bytes, bytes_of, random_bytes, retyped, sheet_bytes,
+    valid_commands, Dice, Stated,
+};
 use host::papers;
+use host::papers::archive::archive_form;
 use host::papers::network::{read, Network};
 use host::papers::rating::rating;
 use host::papers::sheets::{better_bytes, mark_bytes, rate_bytes, weighted_bytes, Better, Marked};
 use host::papers::walk::{walk, Answer, Walked};
 use host::small::{every_timetable, small_file};
+use std::fmt::Debug;
 use std::panic::{catch_unwind, AssertUnwindSafe};
 use std::sync::atomic::{AtomicUsize, Ordering};
 
@@ -113,6 +118,8 @@ struct Kind {
     very_long: bool,
     /// Fewer classes than served stops.
     alike: bool,
+    /// The archive form isn't the file itself.
+    untidy: bool,
 }
 
 /// Compares every call on the case of a number.
@@ -136,6 +143,7 @@ fn case(number: usize) -> Kind {
     compare_classes(&file, &net, &mut kind);
     compare_search(&mut dice, &file, &net, &mut kind);
     compare_sheets(&mut dice, &file, &net, &sheets, &mut kind);
+    compare_archive(&mut dice, &file, &net, &sheets, &mut kind);
     kind
 }
 
@@ -213,6 +221,47 @@ fn compare_mark(file: &[u8], sheet: &[u8], budget: u32, kind: &mut Kind) {
     });
 }
 
+/// The archive form beside the papers', in a row that is longer by some bytes;
+/// and every call answers the same on the file and on its archive form.
+fn compare_archive(
+    dice: &mut Dice,
+    file: &[u8],
+    net: &Result<Network, Refusal>,
+    sheets: &[Vec<u8>; 2],
+    kind: &mut Kind,
+) {
+    let form = engine::archive(file);
+    let paper = net.as_ref().map(archive_form).map_err(|&why| why);
+    assert_eq!(form, paper);
+    let guard = random_bytes(dice, 1_340);
+    let mut row = guard.clone();
+    let length = engine::archive_into(file, &mut row);
+    let Ok(form) = form else {
+        assert_eq!((length, row), (form.map(|form| form.len()), guard));
+        return;
+    };
+    assert_eq!(length, Ok(form.len()));
+    assert_eq!(row, [&form, &guard[form.len()..]].concat());
+    kind.untidy = form != file;
+    let (sheets, budget) = (sheets.clone().map(Sheet::of_bytes), any_budget(dice));
+    let on_form = answers(&form, &sheets, budget);
+    assert_eq!(answers(file, &sheets, budget), on_form);
+}
+
+/// What every call answers on a file.
+fn answers(file: &[u8], [first, second]: &[Sheet; 2], budget: u32) -> impl PartialEq + Debug {
+    (
+        engine::read(file),
+        engine::rate(file, first),
+        engine::weighted(file, first),
+        engine::classes(file),
+        engine::search(file, budget),
+        engine::better(file, first, second),
+        engine::mark(file, first, budget),
+        engine::archive(file),
+    )
+}
+
 /// The cases on two threads, which call the engine at once.
 fn all_kinds(cases: usize) -> Vec<Kind> {
     let next = AtomicUsize::new(0);
@@ -250,6 +299,7 @@ fn seeded_files_and_sheets() {
     let long = count(&|kind| kind.very_long);
     let empty = count(&|kind| kind.empty);
     let alike = count(&|kind| kind.alike);
+    let untidy = count(&|kind| kind.untidy);
     println!(
         "{cases} cases; rated {}, refused by ground {:?}",
         grounds[0],
@@ -258,7 +308,7 @@ fn seeded_files_and_sheets() {
     println!("searches finished, stopped, stopped with none: {searches:?}");
     println!("better first, second, neither: {betters:?}");
     println!("marks equal, below, undecided: {marks:?}");
-    println!("very long {long}, empty {empty}, with alike stops {alike}");
+    println!("very long {long}, empty {empty}, with alike stops {alike}, untidy {untidy}");
     // The kinds that come least often are some twenty in 20,000.
     let least = cases / 1_000;
     let of_kinds = [
@@ -266,10 +316,63 @@ fn seeded_files_and_sheets() {
         &searches,
         &betters,
         &marks,
-        &[long, empty, alike],
+        &[long, empty, alike, untidy],
     ]
     .concat();
     assert!(of_kinds.iter().all(|&count| count >= least));
+}
+
+// ---------------------------------------------------------------------------
+// Files of one network
+// ---------------------------------------------------------------------------
+
+/// The network with at most one change: an offset moved by a whole period, which
+/// no rating sees, or two lines exchanged.
+fn varied(dice: &mut Dice, stated: &Stated) -> Stated {
+    let mut varied = stated.clone();
+    let lines = stated.periods.len();
+    match dice.below(4) {
+        0 => {
+            let at = dice.below(varied.calls.len());
+            let (line, _, offset) = &mut varied.calls[at];
+            *offset = offset.wrapping_add(stated.periods[usize::from(*line)]);
+        }
+        1 => {
+            let [one, other] = [0, 1].map(|_| dice.below(lines));
+            varied.periods.swap(one, other);
+            for (line, _, _) in &mut varied.calls {
+                *line = match usize::from(*line) {
+                    at if at == one => other as u8,
+                    at if at == other => one as u8,
+                    _ => *line,
+                };
+            }
+        }
+        _ => {}
+    }
+    varied
+}
+
+/// Two files have equal archive bytes exactly where their periods and offsets
+/// are equal, in whatever way they are typed.
+#[test]
+fn archive_bytes_tell_one_network_from_two() {
+    let mut dice = Dice::new(72);
+    let (mut same, mut different) = (0, 0);
+    for number in 0..4_000 {
+        let commands = valid_commands(&mut dice);
+        let varied = varied(&mut dice, &Stated::by(&commands));
+        let one = bytes_of(&commands);
+        let other = bytes_of(&retyped(&mut dice, &varied));
+        let equal = engine::archive(&one) == engine::archive(&other);
+        assert_eq!(equal, read(&one) == read(&other), "network {number}");
+        match equal {
+            true => same += 1,
+            false => different += 1,
+        }
+    }
+    println!("one network {same}, two networks {different}");
+    assert!(same > 1_000 && different > 1_000);
 }
 
 // ---------------------------------------------------------------------------
@@ -319,7 +422,7 @@ fn the_optimum_beside_every_timetable() {
 fn words_for_each_ground() {
     let path = concat!(env!("CARGO_MANIFEST_DIR"), "/../README.md");
     let readme = std::fs::read_to_string(path).expect("the README");
-    for number in 1..=17 {
+    for number in 1..=18 {
         let refusal = Refusal { number, place: 12 };
         assert_eq!(refusal.to_string(), format!("refused {number} at 12"));
         let words = refusal.words();
@@ -330,7 +433,7 @@ fn words_for_each_ground() {
     }
 }
 
-/// Rows of the caller: grounds 16 and 17 come through the wrapper, and the rows
+/// Rows of the caller: grounds 16 to 18 come through the wrapper, and the rows
 /// stay as they were.
 #[test]
 fn rows_of_the_caller() {
@@ -355,4 +458,17 @@ fn rows_of_the_caller() {
         })
     );
     assert_eq!((class_row, weight_row), ([9; 64], [9; 63]));
+    let mut row = [9; 8];
+    let refused = engine::archive_into(&file, &mut row);
+    assert_eq!(
+        refused,
+        Err(Refusal {
+            number: 18,
+            place: 0
+        })
+    );
+    assert_eq!(row, [9; 8]);
+    let mut row = [9; 10];
+    assert_eq!(engine::archive_into(&file, &mut row), Ok(9));
+    assert_eq!((&row[..9], row[9]), (&file[..], 9));
 }

@@ -5,6 +5,7 @@ use host::files::{
     any_budget, any_file, any_sheet_bytes, bytes_of, faulty_file, sheet, sheet_bytes, valid_file,
     Command, Dice,
 };
+use host::papers::archive::{archive, archive_form};
 use host::papers::classes::{class_call, classes};
 use host::papers::network::{read, read_counts, Refusal};
 use host::papers::rating::Rating;
@@ -62,6 +63,7 @@ extern "C" {
         budget: u32,
         answer: *mut [u32; 6],
     ) -> u32;
+    fn examination_archive(file: *const u8, file_len: usize, row: *mut u8, row_len: usize) -> u32;
 }
 
 /// The wrapper and this test declare the exports word for word as the document
@@ -73,7 +75,7 @@ fn declared_as_documented() {
     let path = concat!(env!("CARGO_MANIFEST_DIR"), "/../docs/ABI.md");
     let document = std::fs::read_to_string(path).expect("docs/ABI.md");
     let documented = declaration(&document);
-    assert!(documented.matches("fn examination_").count() == 7);
+    assert!(documented.matches("fn examination_").count() == 8);
     assert_eq!(declaration(here), documented);
     assert_eq!(declaration(wrapper), documented);
 }
@@ -147,7 +149,7 @@ fn refused(refusal: Refusal) -> u32 {
 #[derive(Clone, Debug, Default)]
 struct Seen {
     answers: [usize; 3],
-    grounds: [usize; 18],
+    grounds: [usize; 19],
 }
 
 impl Seen {
@@ -160,7 +162,7 @@ impl Seen {
 
     /// Whether each of these grounds was seen often, and no other one.
     fn has_exactly(&self, grounds: &[usize]) -> bool {
-        (1..18).all(|number| match grounds.contains(&number) {
+        (1..19).all(|number| match grounds.contains(&number) {
             true => self.grounds[number] >= 10,
             false => self.grounds[number] == 0,
         })
@@ -338,6 +340,28 @@ fn compare_mark(dice: &mut Dice, file: &[u8], sheet: &[u8], seen: &mut Seen) {
     seen.add(found);
 }
 
+/// The length of a file's archive form; any length if the file is refused.
+fn archive_length(dice: &mut Dice, file: &[u8]) -> usize {
+    match read(file) {
+        Ok(net) => archive_form(&net).len(),
+        Err(_) => dice.within(1, 40),
+    }
+}
+
+fn compare_archive(dice: &mut Dice, file: &[u8], length: usize, seen: &mut Seen) {
+    let mut row = Lent::of(length, || dice.byte());
+    let mut row_after = row.clone();
+    let returned = match archive(file, row_after.row()) {
+        Err(refusal) => refused(refusal),
+        Ok(length) => length as u32,
+    };
+    let found =
+        unsafe { examination_archive(file.as_ptr(), file.len(), row.pointer(), row.length()) };
+    assert_eq!((found, row), (returned, row_after));
+    // Whatever its length, an archive form is one kind of answer.
+    seen.add(if found < 65_536 { 0 } else { found });
+}
+
 // ---------------------------------------------------------------------------
 // Files and sheets
 // ---------------------------------------------------------------------------
@@ -354,6 +378,7 @@ struct AllSeen {
     search: Seen,
     better: Seen,
     mark: Seen,
+    archive: Seen,
 }
 
 /// Every export on one file with two sheets; the file and the sheets stay as
@@ -371,6 +396,9 @@ fn compare_all(dice: &mut Dice, file: &[u8], seen: &mut AllSeen) {
     compare_search(dice, file, lines, &mut seen.search);
     compare_better(file, &first, &second, &mut seen.better);
     compare_mark(dice, file, &first, &mut seen.mark);
+    let right = archive_length(dice, file);
+    let length = row_length(dice, right);
+    compare_archive(dice, file, length, &mut seen.archive);
     assert_eq!((file, first, second), (&before.0[..], before.1, before.2));
 }
 
@@ -400,10 +428,12 @@ fn exports_beside_the_papers() {
     assert!(seen.classes.has_exactly(&with(17)));
     assert!(seen.search.has_exactly(&with(16)));
     assert!(seen.mark.has_exactly(&with(15)));
+    assert!(seen.archive.has_exactly(&with(18)));
     assert!(seen.better.has_exactly(&[]));
     assert!(seen.search.answers.iter().all(|&count| count >= 100));
     assert!(seen.better.answers.iter().all(|&count| count >= 100));
     assert!(seen.mark.answers[..2].iter().all(|&count| count >= 100));
+    assert!(seen.archive.answers[0] >= 100);
 }
 
 /// Starts at both ends of 32 bits, in every mix, against periods that divide
@@ -427,7 +457,7 @@ fn both_ends_of_32_bits() {
             compare_better(&file, &sheet, &other, &mut seen);
         }
     }
-    assert_eq!(seen.grounds, [0; 18]);
+    assert_eq!(seen.grounds, [0; 19]);
 }
 
 /// Three lines that meet at two stops, offsets up to 65,535.
@@ -515,6 +545,49 @@ fn filled(dice: &mut Dice, file: &[u8], class: usize, weight: usize) -> u32 {
     returned
 }
 
+/// Ground 18 asks for the archive form's length and not for more, on the shortest
+/// file, a middling one and the longest.
+#[test]
+fn archive_rows_of_every_length() {
+    let mut dice = Dice::new(65);
+    let shortest = vec![0x4C, 0, 15, 0x43, 0, 0, 0, 8, 0x45];
+    let mut longest = vec![Command::Line { period: 60 }; 16];
+    // By stop and then by line, so that hardly a call stays in its place.
+    for call in 0..256u16 {
+        let (line, stop) = (call as u8 % 16, call as u8 / 16);
+        let offset = 65_535 - call;
+        longest.push(Command::Call { line, stop, offset });
+    }
+    longest.push(Command::End);
+    let files = [
+        (shortest, 9),
+        (three_lines([15, 20, 12]), 35),
+        (bytes_of(&longest), 1_329),
+    ];
+    for (file, right) in files {
+        let mut seen = Seen::default();
+        for length in 0..=right + 40 {
+            compare_archive(&mut dice, &file, length, &mut seen);
+        }
+        assert_eq!((seen.answers[0], seen.grounds[18]), (41, right));
+    }
+}
+
+/// A refused file gives its own ground, also where the row is too short for
+/// every archive form.
+#[test]
+fn the_files_ground_comes_before_the_archive_rows() {
+    let mut dice = Dice::new(66);
+    for ground in 1..=14u8 {
+        let faulty = faulty_file(&mut dice, ground);
+        let mut seen = Seen::default();
+        for length in [0, 1, 8, 1_329, 5_000] {
+            compare_archive(&mut dice, &faulty.bytes, length, &mut seen);
+        }
+        assert_eq!(seen.grounds[usize::from(ground)], 5);
+    }
+}
+
 /// Empty parts: a file, sheets and rows of no places.
 #[test]
 fn empty_parts() {
@@ -526,5 +599,8 @@ fn empty_parts() {
     compare_better(&file, &[], &[], &mut one);
     compare_better(&file, &[], &sheet_bytes(&sheet(&mut dice, 3)), &mut one);
     compare_mark(&mut dice, &file, &[], &mut one);
-    assert_eq!((one.answers, one.grounds[15]), ([1, 0, 1], 1));
+    compare_archive(&mut dice, &file, 0, &mut one);
+    compare_archive(&mut dice, &[], 0, &mut one);
+    assert_eq!(one.answers, [1, 0, 1]);
+    assert_eq!([1, 15, 18].map(|ground| one.grounds[ground]), [1, 1, 1]);
 }

@@ -73,7 +73,10 @@ fn the_sessions_are_real() {
     std::os::unix::fs::symlink(samples, folder.path().join("samples")).expect("a link");
     let sessions = sessions(&readme());
     assert!(sessions.len() >= 14, "{} commands", sessions.len());
-    for verb in ["read", "rate", "classes", "best", "better", "mark"] {
+    let verbs = [
+        "read", "rate", "classes", "best", "better", "mark", "archive", "same",
+    ];
+    for verb in verbs {
         let word = format!("exam {verb} ");
         assert!(sessions.iter().any(|shown| shown.command.contains(&word)));
     }

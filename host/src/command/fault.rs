@@ -1,8 +1,18 @@
-//! A refusal in words, with the command at fault: its bytes, what they say, and
-//! its line in a typed text.
+//! A refusal, printed and in words, with the command at fault: its bytes, what
+//! they say, and its line in a typed text.
 
-use super::network::Network;
+use super::network::{commands, pairs, Network};
+use super::output::{put, say};
+use super::{Status, Trouble};
 use crate::engine::{self, Refusal, Sheet};
+
+/// A refusal: `refused 5 at 0` and nothing else on standard output, the words
+/// on standard error.
+pub fn refused(refusal: Refusal, network: &Network) -> Result<Status, Trouble> {
+    say(&explained(refusal, network));
+    put(format!("{refusal}\n"))?;
+    Ok(Status::Refused)
+}
 
 /// The refusal in words, for standard error.
 pub fn explained(refusal: Refusal, network: &Network) -> String {
@@ -12,13 +22,11 @@ pub fn explained(refusal: Refusal, network: &Network) -> String {
         return text;
     }
     let place = refusal.place as usize;
-    let shown = match network.bytes.get(place..).unwrap_or(&[]) {
-        [] => format!("nothing behind its {place} bytes"),
-        behind if refusal.number == 14 => format!("byte {place}: {}", pairs(&behind[..1])),
-        behind => {
-            let command = &behind[..width(behind[0]).min(behind.len())];
-            format!("byte {place}: {}{}", pairs(command), says(command))
-        }
+    let behind = network.bytes.get(place..).unwrap_or(&[]);
+    let shown = match commands(behind).first() {
+        None => format!("nothing behind its {place} bytes"),
+        Some(command) if refusal.number == 14 => format!("byte {place}: {}", pairs(&command[..1])),
+        Some(command) => format!("byte {place}: {}{}", pairs(command), says(command)),
     };
     text += &format!("\n  {}, {shown}", network.name);
     let line = network.typed.as_ref().and_then(|typed| typed.line(place));
@@ -37,21 +45,6 @@ pub fn lengths(network: &Network, sheets: &[&Sheet]) -> String {
     };
     let lengths: Vec<String> = sheets.iter().map(length).collect();
     format!("lines: {lines}; sheet: {}", lengths.join("; other sheet: "))
-}
-
-/// The number of bytes of a command; an unknown one is shown by its one byte.
-fn width(command: u8) -> usize {
-    match command {
-        0x4C => 3,
-        0x43 | 0x46 => 5,
-        _ => 1,
-    }
-}
-
-/// Bytes in hexadecimal.
-fn pairs(bytes: &[u8]) -> String {
-    let pairs: Vec<String> = bytes.iter().map(|byte| format!("{byte:02X}")).collect();
-    pairs.join(" ")
 }
 
 /// What a command says, if it is whole.

@@ -1,11 +1,12 @@
 //! Marking a whole folder of sheets: a line for each, in name order, on all
 //! cores.
 
+use super::fault::refused;
 use super::input::Source;
 use super::network::Network;
 use super::output::{put, say};
 use super::sheet;
-use super::verbs::{mark_line, refused};
+use super::verbs::mark_line;
 use super::watch::Watch;
 use super::words::{Form, Request};
 use super::{Status, Trouble};

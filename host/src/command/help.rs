@@ -9,7 +9,8 @@ pub fn text(verb: Option<Verb>) -> String {
         Some(verb) => {
             let usage = format!("exam {} {} [OPTIONS]", verb.name(), verb.operands());
             let options = match verb {
-                Verb::Read => NETWORK_OPTIONS.to_string(),
+                Verb::Read | Verb::Same => NETWORK_OPTIONS.to_string(),
+                Verb::Archive => format!("{NETWORK_OPTIONS}{RAW_OPTION}"),
                 Verb::Classes => format!("{NETWORK_OPTIONS}{ROWS_OPTION}"),
                 Verb::Best => format!("{NETWORK_OPTIONS}{SEARCH_OPTIONS}"),
                 Verb::Rate | Verb::Better => format!("{NETWORK_OPTIONS}{SHEET_OPTIONS}"),
@@ -32,6 +33,8 @@ exam: rates and marks timetables, and finds the best one.
   exam best NETWORK                    the best timetable
   exam better NETWORK SHEET SHEET      the better of two sheets
   exam mark NETWORK SHEET-OR-FOLDER    a sheet, or each of a folder, against the best
+  exam archive NETWORK                 the one file of a network that is kept
+  exam same NETWORK NETWORK            whether two files are of one network
   exam VERB --help                     more about a verb
 
 ";
@@ -47,9 +50,9 @@ for each start. A flag (see a verb's help) stands above the ending. A file named
 ";
 
 const STATUSES: &str = "\
-Exit status: 0 done; 1 refused (the words are on standard error), or neither
-sheet; 2 bad usage, or a file that can't be read or written; 3 undecided, the
-budget was used up.
+Exit status: 0 done; 1 refused (the words are on standard error), neither sheet,
+or two networks; 2 bad usage, or a file that can't be read or written; 3 undecided,
+the budget was used up.
 ";
 
 const NETWORK_OPTIONS: &str = "  \
@@ -59,6 +62,10 @@ const NETWORK_OPTIONS: &str = "  \
 
 const ROWS_OPTION: &str = "  \
   --rows            print the class row and the weight row, 64 numbers each
+";
+
+const RAW_OPTION: &str = "  \
+  --raw             write the archive form as bytes
 ";
 
 const SHEET_OPTIONS: &str = "  \
@@ -79,6 +86,8 @@ fn about(verb: Verb) -> &'static str {
         Verb::Best => BEST,
         Verb::Better => BETTER,
         Verb::Mark => MARK,
+        Verb::Archive => ARCHIVE,
+        Verb::Same => SAME,
     }
 }
 
@@ -134,4 +143,24 @@ Of a folder every file is marked as a sheet, but for hidden ones and folders: a
 line for each in name order, on all cores, with the name and a colon before it.
 A file that can't be read as a sheet has the line 'NAME: unreadable'. The exit
 status is the gravest of all: 2, then 1, then 3, then 0.
+";
+
+const ARCHIVE: &str = "\
+Prints the archive form, which is the same for every file of one network: the
+lines in order, then each call with its offset by line and then stop, then the
+end, typed, a line for each command.
+  4C 000F
+  43 00 00 0008
+  45
+With --raw its bytes, for a file whose name ends in .net. (--typed and --bytes say
+how NETWORK is written.)
+";
+
+const SAME: &str = "\
+Prints same where two files have the same archive form, otherwise different, and
+standard error says in what they differ first:
+  exam: another network: line 1 has period 20 in a.hex and 30 in b.hex
+Where a file has a fault, its ground, and standard error names the file:
+  refused 5 at 0
+Each file is typed or bytes by its own name; an option counts for both.
 ";

@@ -10,10 +10,12 @@
 //! | `sheet.rs`   | a sheet as whole numbers or as bytes                   |
 //! | `verbs.rs`   | what each verb asks of the engine and prints           |
 //! | `folder.rs`  | marking a whole folder of sheets                       |
+//! | `archive.rs` | the archive form, and whether two files have the same  |
 //! | `fault.rs`   | a refusal in words, with the command at fault          |
 //! | `watch.rs`   | the sign of life during a long search                  |
 //! | `output.rs`  | standard output and standard error                     |
 
+mod archive;
 mod fault;
 mod folder;
 mod help;
@@ -33,7 +35,8 @@ use words::Asked;
 #[derive(Clone, Copy, Debug, PartialEq, Eq)]
 enum Status {
     Done = 0,
-    /// The engine refused the file or the sheet, or `better` has neither.
+    /// The engine refused the file or the sheet, `better` has neither, or `same`
+    /// has two networks.
     Refused = 1,
     /// Bad usage, input that can't be read, output that can't be written.
     Trouble = 2,

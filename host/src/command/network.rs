@@ -106,9 +106,54 @@ fn digit(byte: u8) -> Option<u8> {
     char::from(byte).to_digit(16).map(|digit| digit as u8)
 }
 
+/// The commands of a file with their operands, the last one cut off if the file
+/// is.
+pub fn commands(bytes: &[u8]) -> Vec<&[u8]> {
+    let mut commands = Vec::new();
+    let mut rest = bytes;
+    while let [first, ..] = rest {
+        let (command, behind) = rest.split_at(width(*first).min(rest.len()));
+        commands.push(command);
+        rest = behind;
+    }
+    commands
+}
+
+/// The number of bytes of a command; an unknown one is shown by its one byte.
+fn width(command: u8) -> usize {
+    match command {
+        0x4C => 3,
+        0x43 | 0x46 => 5,
+        _ => 1,
+    }
+}
+
+/// Bytes in hexadecimal.
+pub fn pairs(bytes: &[u8]) -> String {
+    let pairs: Vec<String> = bytes.iter().map(|byte| format!("{byte:02X}")).collect();
+    pairs.join(" ")
+}
+
+/// A file as authors type it, a line for each command.
+pub fn typed_text(bytes: &[u8]) -> String {
+    let lines = commands(bytes).into_iter().map(typed_line);
+    lines.map(|line| format!("{line}\n")).collect()
+}
+
+/// A command as it is typed: minutes, which come last and have two bytes, stand
+/// together.
+fn typed_line(command: &[u8]) -> String {
+    match command {
+        [before @ .., high, low] if !before.is_empty() => {
+            format!("{} {high:02X}{low:02X}", pairs(before))
+        }
+        _ => pairs(command),
+    }
+}
+
 #[cfg(test)]
 mod tests {
-    use super::read_typed;
+    use super::{read_typed, typed_text};
 
     #[test]
     fn pairs_blanks_and_comments() {
@@ -135,5 +180,17 @@ mod tests {
         assert_eq!(bad("4C000"), "line 1: '4C000' isn't in pairs of digits");
         assert_eq!(bad("0x4C"), "line 1: '0x4C' isn't hexadecimal");
         assert_eq!(bad("4G"), "line 1: '4G' isn't hexadecimal");
+    }
+
+    #[test]
+    fn a_line_for_each_command() {
+        let bytes = [
+            0x4C, 0x00, 0x0F, 0x43, 0x00, 0x3F, 0xFF, 0xF8, 0x46, 0x00, 0x01, 0x00, 0x0A, 0x45,
+        ];
+        let text = "4C 000F\n43 00 3F FFF8\n46 00 01 000A\n45\n";
+        assert_eq!(typed_text(&bytes), text);
+        let read = read_typed(text.as_bytes()).expect("pairs");
+        assert_eq!(read.0, bytes);
+        assert_eq!(typed_text(&[]), "");
     }
 }

@@ -4,12 +4,10 @@
 use super::Trouble;
 use std::io::{self, ErrorKind, Write};
 
-/// Writes an answer, line ends and all.
-pub fn put(text: impl AsRef<str>) -> Result<(), Trouble> {
+/// Writes an answer, text with its line ends or bytes.
+pub fn put(answer: impl AsRef<[u8]>) -> Result<(), Trouble> {
     let mut out = io::stdout().lock();
-    let written = out
-        .write_all(text.as_ref().as_bytes())
-        .and_then(|()| out.flush());
+    let written = out.write_all(answer.as_ref()).and_then(|()| out.flush());
     written.map_err(|error| match error.kind() {
         ErrorKind::BrokenPipe => {
             Trouble("standard output was closed before the answer was written".to_string())

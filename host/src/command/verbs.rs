@@ -1,6 +1,7 @@
 //! What each verb asks of the engine and prints.
 
-use super::fault;
+use super::archive::{archive, same};
+use super::fault::{self, refused};
 use super::folder;
 use super::input::Source;
 use super::network::{self, Network};
@@ -15,30 +16,29 @@ type Ended = Result<Status, Trouble>;
 
 /// Loads what the request names, asks the engine and prints its answer.
 pub fn run(request: &Request) -> Ended {
-    let network = network::load(&request.network, request.network_form)?;
+    let load = |source| network::load(source, request.network_form);
+    let networks: Vec<Network> = request
+        .networks
+        .iter()
+        .map(load)
+        .collect::<Result<_, _>>()?;
     let folder = request.sheets.iter().find_map(Source::folder);
-    if let (Verb::Mark, Some(path)) = (request.verb, folder) {
-        return folder::mark(path, &network, request);
+    if let (Verb::Mark, [network], Some(path)) = (request.verb, networks.as_slice(), folder) {
+        return folder::mark(path, network, request);
     }
     let load = |source| sheet::load(source, request.sheet_form);
     let sheets: Vec<Sheet> = request.sheets.iter().map(load).collect::<Result<_, _>>()?;
-    match (request.verb, sheets.as_slice()) {
-        (Verb::Read, []) => read(&network),
-        (Verb::Classes, []) => classes(&network, request),
-        (Verb::Best, []) => best(&network, request),
-        (Verb::Rate, [sheet]) => rate(&network, sheet),
-        (Verb::Mark, [sheet]) => mark(&network, sheet, request),
-        (Verb::Better, [first, second]) => better(&network, first, second),
-        _ => unreachable!("each verb has its number of sheets"),
+    match (request.verb, networks.as_slice(), sheets.as_slice()) {
+        (Verb::Read, [network], []) => read(network),
+        (Verb::Classes, [network], []) => classes(network, request),
+        (Verb::Best, [network], []) => best(network, request),
+        (Verb::Rate, [network], [sheet]) => rate(network, sheet),
+        (Verb::Mark, [network], [sheet]) => mark(network, sheet, request),
+        (Verb::Better, [network], [first, second]) => better(network, first, second),
+        (Verb::Archive, [network], []) => archive(network, request),
+        (Verb::Same, [first, second], []) => same(first, second),
+        _ => unreachable!("each verb has its number of networks and sheets"),
     }
-}
-
-/// A refusal: `refused 5 at 0` and nothing else on standard output, the words
-/// on standard error.
-pub fn refused(refusal: Refusal, network: &Network) -> Ended {
-    say(&fault::explained(refusal, network));
-    put(format!("{refusal}\n"))?;
-    Ok(Status::Refused)
 }
 
 /// A refusal where a sheet was handed over: ground 15 is the sheet's.

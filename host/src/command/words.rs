@@ -15,16 +15,20 @@ pub enum Verb {
     Best,
     Better,
     Mark,
+    Archive,
+    Same,
 }
 
 impl Verb {
-    pub const ALL: [Verb; 6] = [
+    pub const ALL: [Verb; 8] = [
         Verb::Read,
         Verb::Rate,
         Verb::Classes,
         Verb::Best,
         Verb::Better,
         Verb::Mark,
+        Verb::Archive,
+        Verb::Same,
     ];
 
     pub fn name(self) -> &'static str {
@@ -35,13 +39,23 @@ impl Verb {
             Verb::Best => "best",
             Verb::Better => "better",
             Verb::Mark => "mark",
+            Verb::Archive => "archive",
+            Verb::Same => "same",
         }
     }
 
-    /// How many sheets the verb takes.
+    /// How many networks the verb takes.
+    fn networks(self) -> usize {
+        match self {
+            Verb::Same => 2,
+            _ => 1,
+        }
+    }
+
+    /// How many sheets the verb takes, behind the networks.
     fn sheets(self) -> usize {
         match self {
-            Verb::Read | Verb::Classes | Verb::Best => 0,
+            Verb::Read | Verb::Classes | Verb::Best | Verb::Archive | Verb::Same => 0,
             Verb::Rate | Verb::Mark => 1,
             Verb::Better => 2,
         }
@@ -54,10 +68,11 @@ impl Verb {
     /// What the verb wants behind it.
     pub fn operands(self) -> &'static str {
         match self {
-            Verb::Read | Verb::Classes | Verb::Best => "NETWORK",
+            Verb::Read | Verb::Classes | Verb::Best | Verb::Archive => "NETWORK",
             Verb::Rate => "NETWORK SHEET",
             Verb::Better => "NETWORK SHEET SHEET",
             Verb::Mark => "NETWORK SHEET-OR-FOLDER",
+            Verb::Same => "NETWORK NETWORK",
         }
     }
 }
@@ -74,15 +89,17 @@ pub enum Form {
 #[derive(Clone, Debug, PartialEq, Eq)]
 pub struct Request {
     pub verb: Verb,
-    pub network: Source,
+    pub networks: Vec<Source>,
     pub sheets: Vec<Source>,
-    /// Said by a flag; otherwise a name's ending says it.
+    /// Said by a flag, for all networks; otherwise a name's ending says it.
     pub network_form: Option<Form>,
     pub sheet_form: Option<Form>,
     pub budget: u32,
     pub quiet: bool,
     /// `classes` prints the two rows as they are.
     pub rows: bool,
+    /// `archive` writes bytes.
+    pub raw: bool,
 }
 
 pub enum Asked {
@@ -99,6 +116,7 @@ struct Options {
     budget: Option<u32>,
     quiet: bool,
     rows: bool,
+    raw: bool,
 }
 
 /// Understands the words behind `exam`.
@@ -165,6 +183,7 @@ impl Options {
             "--sheet-bytes" if has_sheets => choose(&mut self.sheet_form, Form::Bytes, verb)?,
             "--quiet" if verb.searches() => self.quiet = true,
             "--rows" if verb == Verb::Classes => self.rows = true,
+            "--raw" if verb == Verb::Archive => self.raw = true,
             _ => {
                 let message = format!("'{}' has no option '{flag}'", verb.name());
                 return Err(usage(&message, Some(verb)));
@@ -207,30 +226,27 @@ fn choose(form: &mut Option<Form>, flag: Form, verb: Verb) -> Result<(), Trouble
 
 /// Puts options and operands together.
 fn request(verb: Verb, options: Options, operands: Vec<OsString>) -> Result<Request, Trouble> {
-    let wanted = 1 + verb.sheets();
-    if operands.len() != wanted {
+    if operands.len() != verb.networks() + verb.sheets() {
         let message = format!("'{}' wants {}", verb.name(), verb.operands());
         return Err(usage(&message, Some(verb)));
     }
-    let mut sources = operands.into_iter().map(Source::of);
-    let Some(network) = sources.next() else {
-        return Err(usage("a network is missing", Some(verb)));
-    };
-    let sheets: Vec<Source> = sources.collect();
+    let mut networks: Vec<Source> = operands.into_iter().map(Source::of).collect();
     let from_input = |source: &&Source| **source == Source::Input;
-    if sheets.iter().chain([&network]).filter(from_input).count() > 1 {
+    if networks.iter().filter(from_input).count() > 1 {
         let message = "standard input ('-') can be read for one file only";
         return Err(usage(message, Some(verb)));
     }
+    let sheets = networks.split_off(verb.networks());
     Ok(Request {
         verb,
-        network,
+        networks,
         sheets,
         network_form: options.network_form,
         sheet_form: options.sheet_form,
         budget: options.budget.unwrap_or(USUAL_BUDGET),
         quiet: options.quiet,
         rows: options.rows,
+        raw: options.raw,
     })
 }
 

@@ -58,6 +58,7 @@ extern "C" {
         budget: u32,
         answer: *mut [u32; 6],
     ) -> u32;
+    fn examination_archive(file: *const u8, file_len: usize, row: *mut u8, row_len: usize) -> u32;
 }
 
 pub fn read(file: &[u8], answer: &mut [u32; 4]) -> u32 {
@@ -151,4 +152,9 @@ pub fn mark(file: &[u8], sheet: &[u8], budget: u32, answer: &mut [u32; 6]) -> u3
             answer,
         )
     }
+}
+
+pub fn archive(file: &[u8], row: &mut [u8]) -> u32 {
+    // SAFETY: see above.
+    unsafe { examination_archive(file.as_ptr(), file.len(), row.as_mut_ptr(), row.len()) }
 }

@@ -8,9 +8,14 @@ mod exports;
 mod refusal;
 
 pub use refusal::{Refusal, WORDS};
+use std::ops::RangeInclusive;
 
 /// Stops are 0 to 63; class and weight rows have a place for each.
 pub const STOPS: usize = 64;
+
+/// How long an archive form is: a line takes 3 bytes, a call 5, the end 1, and
+/// there are at most 16 lines and 256 calls.
+const ARCHIVE_LENGTHS: RangeInclusive<usize> = 3 + 5 + 1..=16 * 3 + 256 * 5 + 1;
 
 /// Return values from here on are refusals (docs/ABI.md, "How things cross").
 const REFUSED: u32 = 65_536;
@@ -221,6 +226,26 @@ pub fn mark(file: &[u8], sheet: &Sheet, budget: u32) -> Result<Mark, Refusal> {
         }),
         1 => Ok(Mark::Undecided { sheet, tries }),
         other => unknown("examination_mark", other),
+    }
+}
+
+/// The archive form of a network file: the same bytes for every file of one
+/// network.
+pub fn archive(file: &[u8]) -> Result<Vec<u8>, Refusal> {
+    let mut row = vec![0; *ARCHIVE_LENGTHS.end()];
+    let length = archive_into(file, &mut row)?;
+    row.truncate(length);
+    Ok(row)
+}
+
+/// Writes the archive form to the beginning of a row of the caller, which stays
+/// as it is where the call is refused, and returns its length.
+pub fn archive_into(file: &[u8], row: &mut [u8]) -> Result<usize, Refusal> {
+    let returned = answered(exports::archive(file, row))?;
+    let length = returned as usize;
+    match ARCHIVE_LENGTHS.contains(&length) && length <= row.len() {
+        true => Ok(length),
+        false => unknown("examination_archive", returned),
     }
 }
 

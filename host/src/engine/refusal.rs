@@ -2,18 +2,18 @@
 
 use std::fmt;
 
-/// Document 01, "Grounds for refusing": number and place.
+/// Document 01, "Grounds for refusing", and document 02: number and place.
 #[derive(Clone, Copy, Debug, PartialEq, Eq)]
 pub struct Refusal {
-    /// The ground, 1 to 17.
+    /// The ground, 1 to 18.
     pub number: u32,
     /// The byte of the file at which the command at fault stands; 0 for 15 to
-    /// 17.
+    /// 18.
     pub place: u32,
 }
 
 /// The grounds in words; ground 1 comes first.
-pub const WORDS: [&str; 17] = [
+pub const WORDS: [&str; 18] = [
     "the file ends where a command is due",
     "unknown command",
     "the command's operands are cut off",
@@ -31,6 +31,7 @@ pub const WORDS: [&str; 17] = [
     "the sheet hasn't one start for each line",
     "the start row hasn't one place for each line",
     "the class or weight row isn't 64 long",
+    "the archive row is shorter than the archive form",
 ];
 
 impl Refusal {

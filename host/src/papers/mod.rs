@@ -1,4 +1,4 @@
-//! Document 01, section by section.
+//! Document 01, section by section, and what document 02 adds.
 //!
 //! | file          | section of document 01                              |
 //! |---------------|-----------------------------------------------------|
@@ -9,7 +9,9 @@
 //! | `walk.rs`     | The walk; ground 16                                 |
 //! | `sheets.rs`   | Sheets; ground 15                                   |
 //! | `best.rs`     | Edges and cases: what the program `best` prints     |
+//! | `archive.rs`  | document 02, A.1: the archive form; ground 18       |
 
+pub mod archive;
 pub mod best;
 pub mod caps;
 pub mod classes;

@@ -1,0 +1,44 @@
+//! Document 02, A.1, "A tidy file for the archive"; ground 18.
+
+use super::network::{read, Network, Refusal, CALL, END, LINE};
+
+/// The archive form of an accepted network: "lines in order, then calls by line
+/// and then stop, all as `43`, then `45`".
+pub fn archive_form(net: &Network) -> Vec<u8> {
+    let mut form = Vec::new();
+    for &period in &net.periods {
+        form.push(LINE);
+        form.extend(two_bytes(period));
+    }
+    for (line, offsets) in net.offsets.iter().enumerate() {
+        for (stop, offset) in offsets.iter().enumerate() {
+            if let Some(offset) = offset {
+                form.extend([CALL, line as u8, stop as u8]);
+                form.extend(two_bytes(*offset));
+            }
+        }
+    }
+    form.push(END);
+    form
+}
+
+/// A number of 16 bits, most significant byte first.
+fn two_bytes(number: u32) -> [u8; 2] {
+    [(number / 256) as u8, (number % 256) as u8]
+}
+
+/// The archive call: writes the archive form at the row's beginning. "The answer
+/// is its length; bytes behind it stay, and a short row is untouched." Ground
+/// 18, after the file's own: "row shorter than 3×lines + 5×calls + 1, place 0".
+pub fn archive(file: &[u8], row: &mut [u8]) -> Result<usize, Refusal> {
+    let net = read(file)?;
+    let length = 3 * net.lines() + 5 * net.calls + 1;
+    if row.len() < length {
+        return Err(Refusal {
+            number: 18,
+            place: 0,
+        });
+    }
+    row[..length].copy_from_slice(&archive_form(&net));
+    Ok(length)
+}
