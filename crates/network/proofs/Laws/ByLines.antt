@@ -16,12 +16,13 @@ use Rattle.network.specs.Valid.{noCall, Valid}
 use Rattle.network.specs.Gap.{trip, distance}
 use Rattle.network.specs.Rating.{arrivalOf, periodOf, CallsThere, IsStopGap, gapOfCalls, callsOfStop, stopGap}
 use Rattle.network.specs.ByLines.{LineCallsThere, Reaches, IsLinesGap, IsStopGapOfLines, least-of-lines, period-of-line}
-use Rattle.network.proofs.Laws.Members.{AllPairs}
-use Rattle.network.proofs.Laws.Gap.{distance-comm}
+use Rattle.network.proofs.Laws.Members.{AllPairs, place-of-member}
 use Rattle.network.proofs.Laws.Often.{no-line-twice}
+use Rattle.network.proofs.Laws.Gap.{distance-comm}
 use Rattle.network.proofs.Laws.Pairs.{gapOfStop-attained, gapOfStop-single}
-use Rattle.network.proofs.Laws.StopGap.{callAt, IsNumber, served-of-call, call-of-served, callsOfStop-has, callsOfStop-all, callsOfStop-pairs}
-use Rattle.network.proofs.Laws.StopGap.{gapAt, gap-of-calls, stopGap-le-calls, stopGap-is-stop-gap, IsStopGap-served, IsStopGap-unique}
+use Rattle.network.proofs.Laws.StopGap.{callAt, IsNumber, served-of-call, call-of-served, callsOfStop-member, callsOfStop-all}
+use Rattle.network.proofs.Laws.StopGap.{callsOfStop-pairs, gapAt, gap-of-calls, stopGap-le-calls, stopGap-is-stop-gap}
+use Rattle.network.proofs.Laws.StopGap.{IsStopGap-served, IsStopGap-unique}
 
 -- A call of the line there, as a call there; and a call of the stop as one of its line
 by-call : {n : Net} {line stop k : ℕ} → LineCallsThere n line stop k → CallsThere n stop k
@@ -113,7 +114,7 @@ module _ {n : Net} (valid : Valid n) where
       where
         only : (j call : ℕ) → LineCallsThere n j stop call → j ≡ getD (callsOfStop n stop) 0 noCall .line
         only j call q =
-            let (i, l, e) = callsOfStop-has n stop (by-call q) in
+            let (i, l, e) = place-of-member (callsOfStop n stop) noCall (callsOfStop-member n stop (by-call q)) in
             let first : i ≡ 0 = omega arith in
             sym (q .of-line) ∙ ap (λ (c : Call). c .line) (sym e) ∙ ap (λ (i : ℕ). getD (callsOfStop n stop) i noCall .line) first
 
@@ -122,7 +123,7 @@ pub stopGap-is-stop-gap-of-lines : (n : Net) → Valid n → (starts : List ℤ)
 stopGap-is-stop-gap-of-lines n valid starts stop e = go (length (callsOfStop n stop)) refl
   where
     go : (l : ℕ) → length (callsOfStop n stop) ≡ l → IsStopGapOfLines n starts stop (stopGap n starts stop)
-    go zero f = let (k, c) = call-of-served n stop e in let (i, h, g) = callsOfStop-has n stop c in absurd (omega arith)
+    go zero f = let (k, c) = call-of-served n stop e in let (i, h, g) = place-of-member (callsOfStop n stop) noCall (callsOfStop-member n stop c) in absurd (omega arith)
     go (suc zero) f = stop-gap-of-one valid starts stop f
     go (suc (suc l)) f = stop-gap-of-pairs valid starts stop (omega arith)
 

@@ -19,8 +19,9 @@ use Rattle.network.specs.Rating.{Counted, servedList, eachOnce, counted,
 use Rattle.network.specs.Classes.{Alike, isAlike, lowestAlike, isLowest, classRow, weightRow, classCount, lowestStops}
 use Rattle.network.proofs.Laws.Lists.{zero-ne-one, and-both}
 use Rattle.network.proofs.Laws.Tables.{IsFirst, firstBelow-is-first, length-table, getD-table, below-of-member, below-same}
-use Rattle.network.proofs.Laws.Tables.{countBelow-length, sumOf-same, sumOf-one, sumOf-map}
-use Rattle.network.proofs.Laws.Representatives.{Represents, sumOf-representatives, leastOf-representatives}
+use Rattle.network.proofs.Laws.Tables.{countBelow-length}
+use Rattle.network.proofs.Laws.Sums.{sumOf-same, sumOf-one, sumOf-map}
+use Rattle.network.proofs.Laws.Representatives.{StandsForEach, sumOf-representatives, leastOf-representatives}
 use Rattle.network.proofs.Laws.Alike.{served-le-maxStop, alike-is-alike, alike-refl, alike-sym, alike-trans}
 use Rattle.network.proofs.Laws.AlikeGap.{alike-same-gap}
 
@@ -116,7 +117,7 @@ weightRow-sum n s m =
 -- ---- the rating over the lowest stops
 
 module _ {n : Net} (v : Valid n) where
-  represents : Represents (λ s. isServed s (n .calls)) (lowestAlike n) (suc maxStop)
+  represents : StandsForEach (λ s. isServed s (n .calls)) (lowestAlike n) (suc maxStop)
   represents =
       record {
         bound = λ s h e. omega (arith, lowestAlike-le v s e);

@@ -82,3 +82,18 @@ module _ (c d : Call) (h : InLimits c) (k : InLimits d) where
           lt-leb (packed c) (packed d) (omega (arith, eqb-true, less, k .offset))
       go false e true f false g true i true j = le-leb (packed c) (packed d) (omega (arith, eqb-true, leb-true))
       go false e true f false g true i false j = lt-leb (packed c) (packed d) (omega (arith, eqb-true, leb-false))
+
+-- ---- the parts of a packed call
+
+module _ (c : Call) (h : InLimits c) where
+  pub packed-line : packed c / 4194304 ≡ c .line
+  unfolding packed
+  packed-line = omega (arith, h .line, h .stop, h .offset)
+
+  pub packed-stop : packed c / 65536 % 64 ≡ c .stop
+  unfolding packed
+  packed-stop = omega (arith, h .line, h .stop, h .offset)
+
+  pub packed-offset : packed c % 65536 ≡ c .offset
+  unfolding packed
+  packed-offset = omega (arith, h .line, h .stop, h .offset)

@@ -13,7 +13,7 @@ use lib.ListN.{length}
 use Rattle.network.specs.declared.Rating.{Rating}
 use Rattle.network.specs.Rating.{noRating}
 use Rattle.network.proofs.Laws.Lists.{zero-ne-one}
-use Rattle.network.proofs.Laws.Gaps.{All}
+use Rattle.network.proofs.Laws.Members.{All}
 use Rattle.search.specs.Walk.{State, Rule, atFirst, tryMade, stop, becomesBest, walk}
 use Rattle.search.proofs.Laws.Walk.{Chosen, none-left, next, eachStart-holds, oneTry-cases, walk-keeps}
 

@@ -11,8 +11,9 @@ use lib.ListN.{length, drop}
 use Rattle.network.specs.declared.Rating.{Rating}
 use Rattle.network.specs.Network.{Net}
 use Rattle.network.specs.Valid.{Valid}
-use Rattle.network.specs.Rating.{IsRating, ratingBy, ratingOver, rating, isAbove}
-use Rattle.network.proofs.Laws.Gaps.{All, rating-is-rating, IsRating-unique, below-of-not-isAbove}
+use Rattle.network.specs.Rating.{IsRating, rating, isAbove}
+use Rattle.network.proofs.Laws.Members.{All}
+use Rattle.network.proofs.Laws.Gaps.{rating-is-rating, IsRating-unique, below-of-not-isAbove, rating-some}
 use Rattle.search.specs.Caps.{cap, upperRating}
 use Rattle.search.specs.Walk.{atFirst, mostTries}
 use Rattle.search.specs.Search.{startCounts, aboveBest, searched, triesBound}
@@ -92,10 +93,9 @@ module _ {n : Net} (valid : Valid n) (budget : ℕ) (ended : searched n budget .
 
   pub searched-best : (starts : List ℤ) → length starts ≡ length (n .periods) → {least sum : ℕ} → IsRating n starts least sum
       → (least < searched n budget .best .least) ⊎ ((least ≡ searched n budget .best .least) × (sum ≤ searched n budget .best .sum))
-  unfolding rating ratingOver ratingBy
   searched-best starts e r =
       let (l, s) = IsRating-unique valid r in
-      rw (l, s) (below-of-not-isAbove (rating n starts) (searched n budget .best) refl searched-some (searched-none-above starts e))
+      rw (l, s) (below-of-not-isAbove (rating n starts) (searched n budget .best) (rating-some n starts) searched-some (searched-none-above starts e))
 
 -- ---- the bound
 

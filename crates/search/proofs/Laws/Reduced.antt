@@ -12,9 +12,8 @@ use Rattle.network.specs.Valid.{Valid}
 use Rattle.network.specs.Gap.{residue}
 use Rattle.network.specs.Rating.{rating}
 use Rattle.network.proofs.Laws.Members.{All, all-tail}
-use Rattle.network.proofs.Laws.Gaps.{residue-lt, rating-residues, rating-moved-together}
+use Rattle.network.proofs.Laws.Gaps.{residue-lt, rating-residues, rating-moved-together, residue-of-residue, residue-pos}
 use Rattle.search.specs.Search.{startCounts}
-use Rattle.search.proofs.Laws.Cover.{residue-of-residue}
 use Rattle.search.proofs.Laws.Walk.{Chosen, none-left, next}
 
 -- Each start reduced by its line's period
@@ -56,11 +55,11 @@ chosen-residues (t ∷ periods) (x ∷ starts) f e =
 
 chosen-reduced : (periods : List ℕ) (starts : List ℤ) → All 0 (λ t. 0 < t) periods → length starts ≡ length periods
     → Chosen (startCounts periods) (reduced periods starts)
-unfolding reduced fromFirst residues startCounts residue
+unfolding reduced fromFirst residues startCounts
 chosen-reduced [] starts f e = none-left
 chosen-reduced (t ∷ periods) [] f e = absurd (omega arith)
 chosen-reduced (t ∷ periods) (x ∷ starts) f e =
-    let first = ap (λ y. residue y t) (+ℤ-invr x) in
+    let first = ap (λ y. residue y t) (+ℤ-invr x) ∙ residue-pos 0 t in
     next {x = residue (x +ℤ negℤ x) t} {count = 1} (omega (arith, first, zero-mod t))
     (chosen-residues periods (map (λ y. y +ℤ negℤ x) starts) (all-tail 0 (λ t. 0 < t) t periods f) (rw length-map (omega arith)))
 

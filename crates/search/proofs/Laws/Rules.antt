@@ -13,11 +13,12 @@ use lib.ListN.{length}
 use Rattle.network.specs.declared.Rating.{Rating}
 use Rattle.network.specs.Rating.{noRating, isAbove}
 use Rattle.network.proofs.Laws.Lists.{zero-ne-one}
-use Rattle.network.proofs.Laws.Gaps.{All, isAbove-none, isAbove-irreflexive}
+use Rattle.network.proofs.Laws.Members.{All}
+use Rattle.network.proofs.Laws.Gaps.{isAbove-none, isAbove-irreflexive, not-above-of-above, not-above-transitive}
 use Rattle.search.specs.Walk.{State, atFirst, walk}
 use Rattle.search.specs.Search.{notAbove, aboveBest, atLeast, bySum}
 use Rattle.search.proofs.Laws.Walk.{Chosen}
-use Rattle.search.proofs.Laws.Bounds.{not-above-of-above, not-above-transitive, IsUpper, BoundsEach}
+use Rattle.search.proofs.Laws.Bounds.{IsUpper, BoundsEach}
 use Rattle.search.proofs.Laws.Best.{DropsCompletions, Cuts, finished-none-stands, finished-has-best, finished-drops-all}
 use Rattle.search.proofs.Laws.Best.{first-descent, best-stood, ended-unstopped}
 

@@ -13,7 +13,7 @@ use lib.IntN.{ℤ, pos}
 use lib.ListN.{length}
 use Rattle.network.specs.declared.Rating.{Rating}
 use Rattle.network.proofs.Laws.Lists.{zero-ne-one}
-use Rattle.network.proofs.Laws.Gaps.{All}
+use Rattle.network.proofs.Laws.Members.{All}
 use Rattle.search.specs.Walk.{State, Rule, isOver, tryMade, stop, becomesBest, unless, stopIf, oneTry, eachStart, walk, mostTries}
 
 -- One start for each line that is left, below the number it is tried at

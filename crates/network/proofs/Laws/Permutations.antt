@@ -1,0 +1,100 @@
+-- What holds of a list in one order holds of it in every other: its length, its members, what holds of all of them or of every two whichever
+-- comes first, and what is kept by a test. By induction on the permutation. Assumes nothing.
+use Prim.Native.Nat.{suc}
+use mathlib.Core.Path.{_≡_, refl, sym, ap, ap₂, subst, _∙_}
+use mathlib.Core.Bool.{Bool, true, false, _||_}
+use mathlib.Core.List.{List, [], _∷_, _++_, List·Memᴰ, List·Memᴰ·head, List·Memᴰ·tail, List·Memᴰ·cases-cons}
+use mathlib.Core.List.{List·Permᴰ, List·Permᴰ·nil, List·Permᴰ·cons, List·Permᴰ·swap, List·Permᴰ·trans}
+use mathlib.Core.List.{Permᴰ·refl, Permᴰ·symm, Permᴰ·middle}
+use mathlib.Core.Logic.{_⊎_, inl, inr}
+use lib.ListN.{length}
+use Rattle.network.specs.Lists.{pick, any, keep}
+use Rattle.network.proofs.Laws.Members.{All, AllPairs, EveryTwo, of-all, member-of-place, everyTwo-of-places, places-of-everyTwo}
+
+pub length-permuted : {A : Type 0} {xs ys : List A} → List·Permᴰ xs ys → length xs ≡ length ys
+length-permuted List·Permᴰ·nil = refl
+length-permuted (List·Permᴰ·cons e π) = ap suc (length-permuted π)
+length-permuted (List·Permᴰ·swap e f) = refl
+length-permuted (List·Permᴰ·trans π ρ) = length-permuted π ∙ length-permuted ρ
+
+module _ {A : Type 0} where
+  pub member-permuted : {a : A} {xs ys : List A} → List·Permᴰ xs ys → List·Memᴰ a xs → List·Memᴰ a ys
+  member-permuted List·Permᴰ·nil m = m
+  member-permuted (List·Permᴰ·cons e π) (List·Memᴰ·head d) = List·Memᴰ·head (d ∙ e)
+  member-permuted (List·Permᴰ·cons e π) (List·Memᴰ·tail m) = List·Memᴰ·tail (member-permuted π m)
+  member-permuted (List·Permᴰ·swap e f) (List·Memᴰ·head d) = List·Memᴰ·tail (List·Memᴰ·head (d ∙ e))
+  member-permuted (List·Permᴰ·swap e f) (List·Memᴰ·tail (List·Memᴰ·head d)) = List·Memᴰ·head (d ∙ f)
+  member-permuted (List·Permᴰ·swap e f) (List·Memᴰ·tail (List·Memᴰ·tail m)) = List·Memᴰ·tail (List·Memᴰ·tail m)
+  member-permuted (List·Permᴰ·trans π ρ) m = member-permuted ρ (member-permuted π m)
+
+  pub everyTwo-permuted : (R : A → A → Type 0) → ((a b : A) → R a b → R b a) → {xs ys : List A} → List·Permᴰ xs ys → EveryTwo R xs → EveryTwo R ys
+  everyTwo-permuted R s List·Permᴰ·nil f = f
+  everyTwo-permuted R s (List·Permᴰ·cons e π) f =
+      (λ y m. subst (λ x. R x y) e (f .0 y (member-permuted (Permᴰ·symm π) m)), everyTwo-permuted R s π (f .1))
+  everyTwo-permuted R s (List·Permᴰ·swap {a = a} {b = b} {a′ = a′} {b′ = b′} {l = l} e g) f =
+      (λ y m. first y (List·Memᴰ·cases-cons m), (λ y m. subst (λ x. R x y) e (f .0 y (List·Memᴰ·tail m)), f .1 .1))
+    where
+      first : (y : A) → (y ≡ b′) ⊎ List·Memᴰ y l → R a′ y
+      first y (inl d) = subst (λ x. R x y) g (subst (R b) (e ∙ sym d) (s a b (f .0 b (List·Memᴰ·head refl))))
+      first y (inr m) = subst (λ x. R x y) g (f .1 .0 y m)
+  everyTwo-permuted R s (List·Permᴰ·trans π ρ) f = everyTwo-permuted R s ρ (everyTwo-permuted R s π f)
+
+module _ {A : Type 0} (d : A) where
+  pub all-permuted : (P : A → Type 0) {xs ys : List A} → List·Permᴰ xs ys → All d P xs → All d P ys
+  all-permuted P {xs} {ys} π f i h = of-all P xs d f (member-permuted (Permᴰ·symm π) (member-of-place ys d i h))
+
+  pub pairs-permuted : (R : A → A → Type 0) → ((a b : A) → R a b → R b a) → {xs ys : List A} → List·Permᴰ xs ys
+      → AllPairs d R xs → AllPairs d R ys
+  pairs-permuted R s {xs} {ys} π f = places-of-everyTwo R d ys (everyTwo-permuted R s π (everyTwo-of-places R d xs f))
+
+or-swap : (a b c : Bool) → (a || (b || c)) ≡ (b || (a || c))
+or-swap true true c = refl
+or-swap true false c = refl
+or-swap false b c = refl
+
+module _ {A : Type 0} (p : A → Bool) where
+  pub any-permuted : {xs ys : List A} → List·Permᴰ xs ys → any p xs ≡ any p ys
+  unfolding any
+  any-permuted List·Permᴰ·nil = refl
+  any-permuted (List·Permᴰ·cons e π) = ap₂ _||_ (ap p e) (any-permuted π)
+  any-permuted (List·Permᴰ·swap {a = a} {b = b} {l = l} e f) =
+      rw (ap p (sym e), ap p (sym f)) (or-swap (p a) (p b) (any p l))
+  any-permuted (List·Permᴰ·trans π ρ) = any-permuted π ∙ any-permuted ρ
+
+  pub keep-permuted : {xs ys : List A} → List·Permᴰ xs ys → List·Permᴰ (keep p xs) (keep p ys)
+  unfolding keep
+  keep-permuted List·Permᴰ·nil = List·Permᴰ·nil
+  keep-permuted (List·Permᴰ·cons {a = a} {b = b} {l₁ = l₁} {l₂ = l₂} e π) = rw (ap p (sym e)) (go (p a) (keep-permuted π))
+    where
+      go : (t : Bool) → List·Permᴰ (keep p l₁) (keep p l₂)
+          → List·Permᴰ (pick t (a ∷ keep p l₁) (keep p l₁)) (pick t (b ∷ keep p l₂) (keep p l₂))
+      go true ρ = List·Permᴰ·cons e ρ
+      go false ρ = ρ
+  keep-permuted (List·Permᴰ·swap {a = a} {b = b} {a′ = a′} {b′ = b′} {l = l} e f) = rw (ap p (sym e), ap p (sym f)) (go (p a) (p b))
+    where
+      go : (t u : Bool) → List·Permᴰ (pick t (a ∷ pick u (b ∷ keep p l) (keep p l)) (pick u (b ∷ keep p l) (keep p l)))
+          (pick u (a′ ∷ pick t (b′ ∷ keep p l) (keep p l)) (pick t (b′ ∷ keep p l) (keep p l)))
+      go true true = List·Permᴰ·swap e f
+      go true false = List·Permᴰ·cons e (Permᴰ·refl (keep p l))
+      go false true = List·Permᴰ·cons f (Permᴰ·refl (keep p l))
+      go false false = Permᴰ·refl (keep p l)
+  keep-permuted (List·Permᴰ·trans π ρ) = List·Permᴰ·trans (keep-permuted π) (keep-permuted ρ)
+
+-- Of two tests one alone holds, and so does the third, or none of the three
+pub data Apart : Bool → Bool → Bool → Type 0 where
+  left : Apart true false true
+  right : Apart false true true
+  neither : Apart false false false
+
+module _ {A : Type 0} where
+  pub keep-apart-permuted : (p q r : A → Bool) → ((a : A) → Apart (p a) (q a) (r a)) → (xs : List A)
+      → List·Permᴰ (keep p xs ++ keep q xs) (keep r xs)
+  unfolding keep
+  keep-apart-permuted p q r apart [] = List·Permᴰ·nil
+  keep-apart-permuted p q r apart (x ∷ xs) = go (apart x) (keep-apart-permuted p q r apart xs)
+    where
+      go : {t u v : Bool} → Apart t u v → List·Permᴰ (keep p xs ++ keep q xs) (keep r xs)
+          → List·Permᴰ (pick t (x ∷ keep p xs) (keep p xs) ++ pick u (x ∷ keep q xs) (keep q xs)) (pick v (x ∷ keep r xs) (keep r xs))
+      go left π = List·Permᴰ·cons refl π
+      go right π = List·Permᴰ·trans (Permᴰ·middle x (keep p xs) (keep q xs)) (List·Permᴰ·cons refl π)
+      go neither π = π
