@@ -16,6 +16,7 @@ use Rattle.network.specs.Rate.{rateAnswer, ratingValues, onSheet, rateOutcome}
 use Rattle.network.specs.Rating.{noRating, rating, ratingBy, ratingOver, isAbove}
 use Rattle.network.specs.Reading.{Reading, accepted, refused, values, refusal}
 use Rattle.network.proofs.Laws.Lists.{zero-ne-one}
+use Rattle.network.proofs.Laws.Gaps.{rating-some}
 use Rattle.search.specs.Search.{searchOutcome}
 use Rattle.examination.specs.Chosen.{ratingFrom, ratingOn, betterFrom}
 use Rattle.examination.specs.Sheets.{first, second, neither, fits, betterBy, betterOf, marked, markOutcome}
@@ -48,10 +49,6 @@ rated-on (accepted n) sheet {least} {sum} e = go (eqb (length sheet) (length (n 
 rating-whole : (n : Net) (sheet : List ℤ) → record { some = true; least = rating n sheet .least; sum = rating n sheet .sum } ≡ rating n sheet
 unfolding rating ratingOver ratingBy
 rating-whole n sheet = refl
-
-rating-some : (n : Net) (sheet : List ℤ) → rating n sheet .some ≡ true
-unfolding rating ratingOver ratingBy
-rating-some n sheet = refl
 
 pub ratingOn-of-rate : (read : Reading) (sheet : List ℤ) (r : RateAnswer) → rateAnswer r ≡ rateOutcome read sheet
     → ratingFrom r ≡ ratingOn read sheet

@@ -1,11 +1,11 @@
 -- How the rows of the class call come about: the first stop below that is alike is the lowest alike, and stop by stop the rows hold the
 -- classes and the sizes so far. Assumes nothing.
-use Prim.Native.Nat.{ℕ, zero, suc, _+_, _<_, _≤_}
+use Prim.Native.Nat.{ℕ, _+_, _<_, _≤_}
 use mathlib.Core.Path.{_≡_, refl, sym, ap, ap₂, _∙_}
 use mathlib.Core.Bool.{Bool, true, false, _&&_, and-eq-true-iff}
 use mathlib.Core.List.{List}
 use native.Mathlib.Decide.{decLt, ℕ-discrete}
-use native.Mathlib.Nat.{add-zero, le-refl}
+use native.Mathlib.Nat.{add-zero}
 use native.Mathlib.Omega.{arith}
 use lib.Arith.{lt-of-le-ne}
 use lib.Dec.{eqb}
@@ -17,7 +17,7 @@ use Rattle.network.specs.Network.{Net, isServed}
 use Rattle.network.specs.Valid.{Valid}
 use Rattle.network.specs.Classes.{isAlike, lowestAlike, isLowest, classRow, weightRow, classCount}
 use Rattle.network.proofs.Laws.Lists.{zero-ne-one}
-use Rattle.network.proofs.Laws.Tables.{countBelow-next, IsFirst}
+use Rattle.network.proofs.Laws.Tables.{countBelow-next, IsFirst, countBelow-zero}
 use Rattle.network.proofs.Laws.Alike.{alike-is-alike, alike-refl}
 use Rattle.network.proofs.Laws.Classes.{first-alike, lowestAlike-le, lowestAlike-isLowest, isInClassOf, length-classRow}
 use Rattle.network.proofs.Laws.Classes.{length-weightRow, classRow-at, weightRow-at}
@@ -47,11 +47,6 @@ pub lowestAlike-none : {n : Net} → Valid n → (s : ℕ) → s < 64 → isServ
 lowestAlike-none {n} v s h e = lowestAlike-found n s s h (alike-is-alike v s s .1 (alike-refl n s e))
 
 -- ---- the rows, stop by stop
-
-countBelow-zero : (p : ℕ → Bool) (n : ℕ) → ((i : ℕ) → i < n → p i ≡ false) → countBelow p n ≡ 0
-unfolding countBelow
-countBelow-zero p zero h = refl
-countBelow-zero p (suc n) h = ap₂ (λ (k : ℕ) (t : Bool). k + pick t 1 0) (countBelow-zero p n (λ i l. h i (omega arith))) (h n (le-refl _))
 
 -- The class row's value at a stop
 abbrev pub classAt : Net → ℕ → ℕ

@@ -1,6 +1,6 @@
 -- The formula of theorem 3.1.2 gives the gap of two lines, over all trips and over those from 0 on, and the laws of that formula and of
 -- residues: the differences of two trips are all the integers of one residue by the periods' greatest common divisor. Assumes nothing.
-use Prim.Native.Nat.{ℕ, suc, _+_, _*_, _-_, _/_, _%_, _≤_, _<_}
+use Prim.Native.Nat.{ℕ, suc, _+_, _*_, _-_, _/_, _%_, _≤_, _<_, min}
 use native.Mathlib.Nat.{mod-lt, mod-le, mod-eq-of-lt, div-add-mod', add-mul-mod-self-right}
 use native.Mathlib.Nat.{eq-zero-or-pos, le-antisymm, le-mul-of-pos-right}
 use native.Mathlib.Omega.{arith, min-cases}
@@ -72,6 +72,10 @@ unfolding gapOf
 gapOf-residue a b c d t u e = ap (fold (gcd t u)) e
 
 -- ---- the least magnitude of the integers of one residue
+
+pub fold-is : (g d : ℕ) → fold g d ≡ min d (g - d)
+unfolding fold
+fold-is g d = refl
 
 fold-residue-le : (x : ℤ) (g : ℕ) → fold g (residue x g) ≤ natAbs x
 unfolding fold residue

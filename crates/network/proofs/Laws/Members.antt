@@ -1,16 +1,16 @@
 -- What stands in a list: its members and their places, each view from the other, and what becomes of them where the list is joined, kept by
 -- a test or paired. Each is one induction on the list. Assumes nothing.
-use Prim.Native.Nat.{ℕ, zero, suc, _+_, _≤_, _<_, suc-le-suc}
+use Prim.Native.Nat.{ℕ, zero, suc, _+_, _≤_, _<_, min, suc-le-suc}
 use mathlib.Core.Path.{_≡_, refl, sym, ap, ap₂, subst, _∙_}
-use mathlib.Core.Bool.{Bool, true, false, _||_}
+use mathlib.Core.Bool.{Bool, true, false, _&&_, _||_}
 use mathlib.Core.List.{List, [], _∷_, _++_, map, List·Memᴰ, List·Memᴰ·head, List·Memᴰ·tail, List·Memᴰ·not-nil, List·Memᴰ·cases-cons}
 use mathlib.Core.List.{List·Memᴰ·append-cases, Memᴰ·append-left, Memᴰ·append-right, Memᴰ·map, Memᴰ·of-map}
 use mathlib.Core.Logic.{_⊎_, inl, inr}
 use native.Mathlib.Nat.{le-of-suc-le-suc, zero-lt-suc}
 use native.Mathlib.Numerals.{add-one}
 use native.Mathlib.Omega.{arith}
-use lib.ListN.{length, getD, take, length-append, take-append-drop}
-use lib.Seq.{take-suc}
+use lib.ListN.{length, getD, take, length-append, length-take, take-append-drop}
+use lib.Seq.{take-suc, getD-take}
 use Rattle.network.specs.Lists.{pick, any, keep, pairsOf}
 use Rattle.network.proofs.Laws.Lists.{zero-ne-one, or-left, or-right, map-same-places}
 
@@ -139,6 +139,19 @@ module _ {A : Type 0} where
         let e = ap (λ l. length (keep p l)) (take-append-drop i xs) in
         omega (arith, simp (keep-append, length-append) at e)
 
+  -- Those that pass a test among those that pass another
+  pub keep-keep : (p q : A → Bool) (xs : List A) → keep p (keep q xs) ≡ keep (λ x. p x && q x) xs
+  unfolding keep
+  keep-keep p q [] = refl
+  keep-keep p q (x ∷ xs) = go (q x) (p x) refl (keep-keep p q xs)
+    where
+      go : (t u : Bool) → p x ≡ u → keep p (keep q xs) ≡ keep (λ x. p x && q x) xs
+          → keep p (pick t (x ∷ keep q xs) (keep q xs)) ≡ pick (u && t) (x ∷ keep (λ x. p x && q x) xs) (keep (λ x. p x && q x) xs)
+      go true true d e = rw d (ap (λ (l : List A). x ∷ l) e)
+      go true false d e = rw d e
+      go false true d e = e
+      go false false d e = e
+
   -- Two tests in whichever order
   pub keep-swap : (p q : A → Bool) (xs : List A) → keep p (keep q xs) ≡ keep q (keep p xs)
   unfolding keep
@@ -212,6 +225,10 @@ module _ {A : Type 0} (d : A) where
     pub all-append : (xs ys : List A) → All d P xs → All d P ys → All d P (xs ++ ys)
     all-append [] ys f g = g
     all-append (x ∷ xs) ys f g = all-cons (xs ++ ys) (all-head x xs f) (all-append xs ys (all-tail x xs f) g)
+
+    pub all-take : (k : ℕ) (xs : List A) → All d P xs → All d P (take k xs)
+    all-take k xs f i h =
+        let l : i < min k (length xs) = rw length-take at h in rw (getD-take k xs i d (omega arith)) (f i (omega arith))
 
   module _ (R : A → A → Type 0) where
     pub pairs-head : (x : A) (xs : List A) → AllPairs d R (x ∷ xs) → All d (R x) xs

@@ -1,12 +1,16 @@
 -- What holds of a list in one order holds of it in every other: its length, its members, what holds of all of them or of every two whichever
 -- comes first, and what is kept by a test. By induction on the permutation. Assumes nothing.
-use Prim.Native.Nat.{suc}
+use Prim.Native.Nat.{ℕ, suc, _<_}
 use mathlib.Core.Path.{_≡_, refl, sym, ap, ap₂, subst, _∙_}
 use mathlib.Core.Bool.{Bool, true, false, _||_}
 use mathlib.Core.List.{List, [], _∷_, _++_, List·Memᴰ, List·Memᴰ·head, List·Memᴰ·tail, List·Memᴰ·cases-cons}
 use mathlib.Core.List.{List·Permᴰ, List·Permᴰ·nil, List·Permᴰ·cons, List·Permᴰ·swap, List·Permᴰ·trans}
 use mathlib.Core.List.{Permᴰ·refl, Permᴰ·symm, Permᴰ·middle}
 use mathlib.Core.Logic.{_⊎_, inl, inr}
+use native.Mathlib.Decide.{ℕ-discrete, decLt}
+use native.Mathlib.Omega.{arith}
+use borrow.Author.Tests.{lt-ltb, le-ltb, eq-eqb, ne-eqb}
+use lib.Dec.{eqb, ltb}
 use lib.ListN.{length}
 use Rattle.network.specs.Lists.{pick, any, keep}
 use Rattle.network.proofs.Laws.Members.{All, AllPairs, EveryTwo, of-all, member-of-place, everyTwo-of-places, places-of-everyTwo}
@@ -81,20 +85,34 @@ module _ {A : Type 0} (p : A → Bool) where
   keep-permuted (List·Permᴰ·trans π ρ) = List·Permᴰ·trans (keep-permuted π) (keep-permuted ρ)
 
 -- Of two tests one alone holds, and so does the third, or none of the three
-pub data Apart : Bool → Bool → Bool → Type 0 where
-  left : Apart true false true
-  right : Apart false true true
-  neither : Apart false false false
+pub data Parted : Bool → Bool → Bool → Type 0 where
+  by-first : Parted true false true
+  by-second : Parted false true true
+  by-none : Parted false false false
 
 module _ {A : Type 0} where
-  pub keep-apart-permuted : (p q r : A → Bool) → ((a : A) → Apart (p a) (q a) (r a)) → (xs : List A)
+  pub keep-parted-permuted : (p q r : A → Bool) → ((a : A) → Parted (p a) (q a) (r a)) → (xs : List A)
       → List·Permᴰ (keep p xs ++ keep q xs) (keep r xs)
   unfolding keep
-  keep-apart-permuted p q r apart [] = List·Permᴰ·nil
-  keep-apart-permuted p q r apart (x ∷ xs) = go (apart x) (keep-apart-permuted p q r apart xs)
+  keep-parted-permuted p q r apart [] = List·Permᴰ·nil
+  keep-parted-permuted p q r apart (x ∷ xs) = go (apart x) (keep-parted-permuted p q r apart xs)
     where
-      go : {t u v : Bool} → Apart t u v → List·Permᴰ (keep p xs ++ keep q xs) (keep r xs)
+      go : {t u v : Bool} → Parted t u v → List·Permᴰ (keep p xs ++ keep q xs) (keep r xs)
           → List·Permᴰ (pick t (x ∷ keep p xs) (keep p xs) ++ pick u (x ∷ keep q xs) (keep q xs)) (pick v (x ∷ keep r xs) (keep r xs))
-      go left π = List·Permᴰ·cons refl π
-      go right π = List·Permᴰ·trans (Permᴰ·middle x (keep p xs) (keep q xs)) (List·Permᴰ·cons refl π)
-      go neither π = π
+      go by-first π = List·Permᴰ·cons refl π
+      go by-second π = List·Permᴰ·trans (Permᴰ·middle x (keep p xs) (keep q xs)) (List·Permᴰ·cons refl π)
+      go by-none π = π
+
+-- Below a number or equal to it is below the next
+pub below-next-parted : (i k : ℕ) → Parted (ltb i k) (eqb i k) (ltb i (suc k))
+below-next-parted i k = go (decLt i k) (ℕ-discrete i k)
+  where
+    go : Dec (i < k) → Dec (i ≡ k) → Parted (ltb i k) (eqb i k) (ltb i (suc k))
+    go (yes h) e = rw (lt-ltb i k h, ne-eqb i k (λ e. omega arith), lt-ltb i (suc k) (omega arith)) by-first
+    go (no h) (yes e) = rw (le-ltb i k (omega arith), eq-eqb i k e, lt-ltb i (suc k) (omega arith)) by-second
+    go (no h) (no f) = rw (le-ltb i k (omega arith), ne-eqb i k f, le-ltb i (suc k) (omega arith)) by-none
+
+-- One more behind a list is one more before it
+pub snoc-permuted : {A : Type 0} (xs : List A) (a : A) → List·Permᴰ (xs ++ (a ∷ [])) (a ∷ xs)
+snoc-permuted [] a = Permᴰ·refl (a ∷ [])
+snoc-permuted (x ∷ xs) a = List·Permᴰ·trans (List·Permᴰ·cons refl (snoc-permuted xs a)) (List·Permᴰ·swap refl refl)

@@ -2,7 +2,7 @@
 -- there is at least one, since every line calls somewhere. Assumes nothing.
 use Prim.Native.Nat.{ℕ, suc, _+_, _*_, _≤_, _<_}
 use mathlib.Core.Path.{_≡_, refl, sym, ap, ap₂, subst, fun-ext, _∙_}
-use mathlib.Core.Bool.{true, false}
+use mathlib.Core.Bool.{true}
 use mathlib.Core.List.{List, [], _∷_, map, List·Memᴰ, Memᴰ·of-map}
 use native.Mathlib.Nat.{le-antisymm, one-mul, mul-le-mul-left}
 use native.Mathlib.Omega.{arith}
@@ -14,13 +14,12 @@ use Rattle.network.specs.declared.Rating.{Rating}
 use Rattle.network.specs.Lists.{sumOf, leastOf}
 use Rattle.network.specs.Network.{Net, maxStop, isServed, callsAnywhere}
 use Rattle.network.specs.Valid.{noCall, Valid}
-use Rattle.network.specs.Rating.{Counted, servedList, eachOnce, counted, IsRatingOver, IsRating, stopGap, ratingBy, ratingOver, rating, isAbove}
+use Rattle.network.specs.Rating.{Counted, servedList, eachOnce, counted, IsRatingOver, IsRating, stopGap, ratingBy, ratingOver, rating}
 use Rattle.network.proofs.Laws.Members.{member-of-any, place-of-member}
 use Rattle.network.proofs.Laws.Least.{leastOf-map-member, leastOf-map-le, leastOf-map-mono}
 use Rattle.network.proofs.Laws.Tables.{below-of-member, member-of-below}
 use Rattle.network.proofs.Laws.Sums.{sumOf-same, sumOf-below-other, sumOf-mono}
 use Rattle.network.proofs.Laws.StopGap.{served-of-call, call-of-served, stopGap-is-stop-gap, IsStopGap-same}
-use Rattle.network.proofs.Laws.Order.{not-above-of-le}
 
 -- ---- the served stops
 
@@ -161,7 +160,7 @@ pub rating-is-ratingBy : (n : Net) (starts : List ℤ) → rating n starts ≡ r
 unfolding rating ratingOver
 rating-is-ratingBy n starts = refl
 
--- Where no gap is larger, neither the least gap nor the sum is, and the rating is not above
+-- Where no gap is larger, neither the least gap nor the sum is
 module _ (f g : ℕ → ℕ) (h : (stop : ℕ) → f stop ≤ g stop) (stops : List Counted) where
   pub ratingBy-least-mono : ratingBy f stops .least ≤ ratingBy g stops .least
   unfolding ratingBy
@@ -170,10 +169,6 @@ module _ (f g : ℕ → ℕ) (h : (stop : ℕ) → f stop ≤ g stop) (stops : L
   pub ratingBy-sum-mono : ratingBy f stops .sum ≤ ratingBy g stops .sum
   unfolding ratingBy
   ratingBy-sum-mono = sumOf-mono (λ t. t .weight * f (t .stop)) (λ t. t .weight * g (t .stop)) (λ t. mul-le-mul-left (t .weight) (h (t .stop))) stops
-
-  pub ratingBy-not-above : isAbove (ratingBy f stops) (ratingBy g stops) ≡ false
-  ratingBy-not-above =
-      not-above-of-le (ratingBy f stops) (ratingBy g stops) (ratingBy-some f stops) (ratingBy-some g stops) ratingBy-least-mono ratingBy-sum-mono
 
 -- A served stop has another value
 pub sumOf-served-other : (n : Net) → Valid n → (f : ℕ → ℕ) (s : ℕ) → isServed s (n .calls) ≡ true → (g : ℕ → ℕ) → ((t : ℕ) → (t ≡ s → ⊥) → g t ≡ f t)

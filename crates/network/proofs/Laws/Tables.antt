@@ -78,6 +78,11 @@ countBelow-le p (suc n) = let ih = countBelow-le p n in go (p n) ih
 
 -- ---- how many pass
 
+pub countBelow-zero : (p : ℕ → Bool) (n : ℕ) → ((i : ℕ) → i < n → p i ≡ false) → countBelow p n ≡ 0
+unfolding countBelow
+countBelow-zero p zero h = refl
+countBelow-zero p (suc n) h = ap₂ (λ (k : ℕ) (t : Bool). k + pick t 1 0) (countBelow-zero p n (λ i l. h i (omega arith))) (h n (le-refl _))
+
 pub countBelow-add : (p : ℕ → Bool) (m n : ℕ) → countBelow p (m + n) ≡ countBelow p m + countBelow (λ i. p (m + i)) n
 unfolding countBelow
 countBelow-add p m zero = simp add-zero

@@ -7,16 +7,16 @@ use lib.IntN.{ℤ}
 use Rattle.network.specs.declared.Rating.{Rating}
 use Rattle.network.specs.Rating.{isAbove}
 use Rattle.network.proofs.Laws.Gaps.{not-above-of-le}
-use Rattle.search.proofs.Laws.Walk.{Chosen}
+use Rattle.search.proofs.Laws.Walk.{ChosenBelow}
 
 -- An upper rating is never below a completion's
 abbrev pub IsUpper : (List ℤ → Rating) → List ℕ → Type 0
-IsUpper upper counts = (placed tail : List ℤ) → Chosen counts (placed ++ tail) → isAbove (upper (placed ++ tail)) (upper placed) ≡ false
+IsUpper upper counts = (placed tail : List ℤ) → ChosenBelow counts (placed ++ tail) → isAbove (upper (placed ++ tail)) (upper placed) ≡ false
 
 -- Its least gap and its sum are each not below a completion's
 pub record BoundsEach (upper : List ℤ → Rating) (counts : List ℕ) : Type 0 where
-  pub least-bounded : (placed tail : List ℤ) → Chosen counts (placed ++ tail) → upper (placed ++ tail) .least ≤ upper placed .least
-  pub sum-bounded : (placed tail : List ℤ) → Chosen counts (placed ++ tail) → upper (placed ++ tail) .sum ≤ upper placed .sum
+  pub least-bounded : (placed tail : List ℤ) → ChosenBelow counts (placed ++ tail) → upper (placed ++ tail) .least ≤ upper placed .least
+  pub sum-bounded : (placed tail : List ℤ) → ChosenBelow counts (placed ++ tail) → upper (placed ++ tail) .sum ≤ upper placed .sum
 
 pub upper-of-bounds-each : (upper : List ℤ → Rating) (counts : List ℕ) → ((starts : List ℤ) → upper starts .some ≡ true) → BoundsEach upper counts
     → IsUpper upper counts

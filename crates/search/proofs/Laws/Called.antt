@@ -96,20 +96,20 @@ module _
     (valid : Valid (netOf network))
     (by-sound : Sound by)
     (ordered : netOf by ≡ inLineOrder (netOf network .periods) (netOf network .calls) (length (netOf network .periods))) where
-  abbrev inOrder : List Call
-  inOrder = byLine (netOf network .calls) (length (netOf network .periods))
+  abbrev callsInOrder : List Call
+  callsInOrder = byLine (netOf network .calls) (length (netOf network .periods))
 
-  calls-are : netOf by .calls ≡ inOrder
+  calls-are : netOf by .calls ≡ callsInOrder
   unfolding inLineOrder
   calls-are = ap (λ (m : Net). m .calls) ordered
 
-  length-inOrder : length inOrder ≡ length (netOf network .calls)
+  length-inOrder : length callsInOrder ≡ length (netOf network .calls)
   length-inOrder = length-byLine-all (netOf network .calls) (length (netOf network .periods)) (valid .call-line)
 
   pub count-is : by .calls ≡ length (netOf network .calls)
   count-is = sym (held-calls by by-sound) ∙ ap (λ (cs : List Call). length cs) calls-are ∙ length-inOrder
 
-  pub call-at : (i : ℕ) → i < length (netOf network .calls) → getD (callsIn (by .list)) i noCall ≡ getD inOrder i noCall
+  pub call-at : (i : ℕ) → i < length (netOf network .calls) → getD (callsIn (by .list)) i noCall ≡ getD callsInOrder i noCall
   call-at i h = sym (held-call by i (omega (arith, h, count-is))) ∙ ap (λ (cs : List Call). getD cs i noCall) calls-are
 
   pub stops-low : (i : ℕ) → i < by .calls → getD (callsIn (by .list)) i noCall .stop < 64
@@ -131,10 +131,10 @@ module _
       (divisor-of : (i j : ℕ) → i < 16 → j < 16 → getD divisors (i * 16 + j) 0 ≡ withReciprocal (gcd (getD (network .periods) j 0) (getD (network .periods) i 0)))
       (first-of : (k : ℕ) → k ≤ length (netOf network .periods) → firstIn (getD lines k 0) ≡ length (byLine (netOf network .calls) k))
       (count-of : (k : ℕ) → k < length (netOf network .periods) → countIn (getD lines k 0) ≡ getD (startCounts (netOf network .periods)) k 0) where
-    pub leads-in-order : LeadsBack previous inOrder (length (netOf network .calls))
+    pub leads-in-order : LeadsBack previous callsInOrder (length (netOf network .calls))
     leads-in-order =
         leadsBack-same previous (callsIn (by .list)) (length (netOf network .calls))
-        (leadsBack-fewer previous (callsIn (by .list)) (by .calls) leads (length (netOf network .calls)) (omega (arith, count-is))) inOrder call-at
+        (leadsBack-fewer previous (callsIn (by .list)) (by .calls) leads (length (netOf network .calls)) (omega (arith, count-is))) callsInOrder call-at
 
     pub divisor-in-order :
         (i j : ℕ)

@@ -134,14 +134,14 @@ module _ (n : Net) (valid : Valid n) (stop : ℕ) where
   abbrev calls : List Call
   calls = callsOfStop n stop
 
-  abbrev first : Call
-  first = getD calls 0 noCall
+  abbrev firstCall : Call
+  firstCall = getD calls 0 noCall
 
-  first-line : 0 < length calls → first .line < length (n .periods)
+  first-line : 0 < length calls → firstCall .line < length (n .periods)
   first-line = callsOfStop-stated valid stop 0
 
-  first-visits : 0 < length calls → 0 < cycle n / periodOf n first
-  first-visits h = quotient-pos (periodOf n first) (cycle n) (period-divides-cycle n first (first-line h)) (cycle-pos valid)
+  first-visits : 0 < length calls → 0 < cycle n / periodOf n firstCall
+  first-visits h = quotient-pos (periodOf n firstCall) (cycle n) (period-divides-cycle n firstCall (first-line h)) (cycle-pos valid)
 
   pub visits-pos : 0 < length calls → 0 < visitsOf n calls
   visits-pos h = visitsOf-pos n calls h (first-visits h)
@@ -153,10 +153,10 @@ module _ (n : Net) (valid : Valid n) (stop : ℕ) where
 
   pub cap-many : 2 ≤ length calls → min (leastHalf n calls) (cycle n / visitsOf n calls) ≡ cap n stop
   unfolding cap
-  cap-many h = cap-of-many n calls h (periodOf-pos valid first (first-line (omega arith)))
+  cap-many h = cap-of-many n calls h (periodOf-pos valid firstCall (first-line (omega arith)))
 
   half-small : leastHalf n calls ≤ maxPeriod
-  half-small = leastHalf-le n maxPeriod calls (λ h. periodOf-le valid first (first-line h))
+  half-small = leastHalf-le n maxPeriod calls (λ h. periodOf-le valid firstCall (first-line h))
 
   -- no cap is above the longest period
   pub cap-le : cap n stop ≤ maxPeriod

@@ -98,8 +98,8 @@ module _ {codes previous divisors : List ℕ} (l : Linked codes previous divisor
     period-le : periodOf (l .net) (getD (callsByLine l) j noCall) ≤ maxPeriod
     period-le = periodOf-le (l .valid) _ (line-low j hj)
 
-    gcd-pos : 0 < gcd (periodOf (l .net) (getD (callsByLine l) j noCall)) (periodOf (l .net) (getD (callsByLine l) i noCall))
-    gcd-pos = gcd-pos-left _ _ period-pos
+    divisor-of-calls-pos : 0 < gcd (periodOf (l .net) (getD (callsByLine l) j noCall)) (periodOf (l .net) (getD (callsByLine l) i noCall))
+    divisor-of-calls-pos = gcd-pos-left _ _ period-pos
 
     gcd-low : gcd (periodOf (l .net) (getD (callsByLine l) j noCall)) (periodOf (l .net) (getD (callsByLine l) i noCall)) ≤ 1440
     gcd-low = le-trans (gcd-le-left _ _ period-pos) period-le
@@ -107,17 +107,17 @@ module _ {codes previous divisors : List ℕ} (l : Linked codes previous divisor
     divisor-is :
         getD divisors (lineIn (getD codes i 0) * 16 + lineIn (getD codes j 0)) 0 % 2048
         ≡ gcd (periodOf (l .net) (getD (callsByLine l) j noCall)) (periodOf (l .net) (getD (callsByLine l) i noCall))
-    divisor-is = ap (λ (w : ℕ). w % 2048) word-is ∙ divisor-part _ gcd-pos (omega (arith, gcd-low))
+    divisor-is = ap (λ (w : ℕ). w % 2048) word-is ∙ divisor-part _ divisor-of-calls-pos (omega (arith, gcd-low))
 
     pub divisor-pos : 0 < getD divisors (lineIn (getD codes i 0) * 16 + lineIn (getD codes j 0)) 0 % 2048
-    divisor-pos = rw divisor-is gcd-pos
+    divisor-pos = rw divisor-is divisor-of-calls-pos
 
     pub divisor-le : getD divisors (lineIn (getD codes i 0) * 16 + lineIn (getD codes j 0)) 0 % 2048 ≤ 1440
     divisor-le = rw divisor-is gcd-low
 
     pub reciprocal-is :
         getD divisors (lineIn (getD codes i 0) * 16 + lineIn (getD codes j 0)) 0 / 2048 ≡ reciprocal (getD divisors (lineIn (getD codes i 0) * 16 + lineIn (getD codes j 0)) 0 % 2048)
-    reciprocal-is = ap (λ (w : ℕ). w / 2048) word-is ∙ reciprocal-part _ gcd-pos (omega (arith, gcd-low)) ∙ ap reciprocal (sym divisor-is)
+    reciprocal-is = ap (λ (w : ℕ). w / 2048) word-is ∙ reciprocal-part _ divisor-of-calls-pos (omega (arith, gcd-low)) ∙ ap reciprocal (sym divisor-is)
 
     -- the gap of two calls, by their arrivals and that divisor
     pub gap-of-rows :

@@ -21,7 +21,7 @@ use Rattle.search.specs.Search.{stopped, productsFrom}
 use Rattle.search.proofs.Laws.Upper.{upper-is-upper, upper-full, upperRating-some}
 use Rattle.search.proofs.Laws.Reduced.{reduced, reduced-length, reduced-chosen, reduced-rating}
 use Rattle.search.proofs.Laws.Tries.{length-startCounts}
-use Rattle.search.proofs.Laws.Walk.{Chosen-length, Chosen-exists, walk-tries-le, walk-tries-le-budget, walk-stopped-at-budget, walk-finishes}
+use Rattle.search.proofs.Laws.Walk.{ChosenBelow-length, ChosenBelow-exists, walk-tries-le, walk-tries-le-budget, walk-stopped-at-budget, walk-finishes}
 use Rattle.search.proofs.Laws.Best.{best-is-chosen}
 use Rattle.search.proofs.Laws.Rules.{none-above-best, aboveBest-has-best}
 
@@ -62,13 +62,13 @@ module _ {n : Net} (valid : Valid n) (budget : ℕ) (some : searched n budget .b
   unfolding searched
   searched-rated =
       let b = best-is-chosen (upperRating n (cap n)) aboveBest budget (upperRating-some n (cap n)) (startCounts (n .periods)) in
-      b .rated some ∙ upper-full valid _ (Chosen-length (b .chosen some) ∙ length-startCounts (n .periods))
+      b .rated some ∙ upper-full valid _ (ChosenBelow-length (b .chosen some) ∙ length-startCounts (n .periods))
 
   pub searched-length : length (searched n budget .starts) ≡ length (n .periods)
   unfolding searched
   searched-length =
       let b = best-is-chosen (upperRating n (cap n)) aboveBest budget (upperRating-some n (cap n)) (startCounts (n .periods)) in
-      Chosen-length (b .chosen some) ∙ length-startCounts (n .periods)
+      ChosenBelow-length (b .chosen some) ∙ length-startCounts (n .periods)
 
   pub searched-rating : IsRating n (searched n budget .starts) (searched n budget .best .least) (searched n budget .best .sum)
   searched-rating = rw searched-rated (rating-is-rating n valid (searched n budget .starts))
@@ -77,7 +77,7 @@ module _ {n : Net} (valid : Valid n) (budget : ℕ) (ended : searched n budget .
   pub searched-some : searched n budget .best .some ≡ true
   unfolding searched
   searched-some =
-      let (starts, c) = Chosen-exists (startCounts (n .periods)) (startCounts-pos (n .periods) (valid .period-pos)) in
+      let (starts, c) = ChosenBelow-exists (startCounts (n .periods)) (startCounts-pos (n .periods) (valid .period-pos)) in
       aboveBest-has-best (upperRating n (cap n)) budget (startCounts (n .periods)) (upperRating-some n (cap n))
       (upper-is-upper n (cap n) (startCounts (n .periods))) ended starts c
 
