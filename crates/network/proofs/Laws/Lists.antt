@@ -62,14 +62,6 @@ module _ {A : Type 0} (p : A → Bool) where
   any-take-next l i d h =
       rw (add-one, take-suc l i d) (any-append (take i l) (getD l i d ∷ []) ∙ ap (λ t. any p (take i l) || t) (or-false _))
 
-  -- a place of the row that passes
-  pub any-take-found : (l : List A) (i n : ℕ) (d : A) → i < length l → i < n → p (getD l i d) ≡ true → any p (take n l) ≡ true
-  unfolding any
-  any-take-found [] i n d h k e = absurd (omega arith)
-  any-take-found (x ∷ l) i zero d h k e = absurd (omega arith)
-  any-take-found (x ∷ l) zero (suc n) d h k e = rw e refl
-  any-take-found (x ∷ l) (suc i) (suc n) d h k e = ap (λ t. p x || t) (any-take-found l i n d (omega arith) (omega arith) e) ∙ or-true (p x)
-
 -- A row of which one place more counts, which was just written
 pub take-set-next : {A : Type 0} (l : List A) (i : ℕ) (a : A) → i < length l → take (i + 1) (set l i a) ≡ take i l ++ (a ∷ [])
 take-set-next l i a h = rw add-one (take-suc-set l i a h)
@@ -79,15 +71,6 @@ pub map-set : {A B : Type 0} (f : A → B) (l : List A) (i : ℕ) (a : A) → ma
 map-set f [] i a = refl
 map-set f (x ∷ l) zero a = refl
 map-set f (x ∷ l) (suc i) a = ap (λ m. f x ∷ m) (map-set f l i a)
-
-module _ {A : Type 0} (a d : A) where
-  -- What holds of every element and of one more
-  pub snoc-all : (P : A → Type 0) (xs : List A) → ((i : ℕ) → i < length xs → P (getD xs i d)) → P a
-      → (i : ℕ) → i < length (xs ++ (a ∷ [])) → P (getD (xs ++ (a ∷ [])) i d)
-  snoc-all P [] f g zero h = g
-  snoc-all P [] f g (suc i) h = absurd (omega arith)
-  snoc-all P (x ∷ xs) f g zero h = f 0 (zero-lt-suc _)
-  snoc-all P (x ∷ xs) f g (suc i) h = snoc-all P xs (λ j l. f (suc j) (suc-le-suc l)) g i (le-of-suc-le-suc h)
 
 -- The part of a list behind its first places, as a slice has it
 pub take-rest : {A : Type 0} (k : ℕ) (l : List A) → take (length l - k) (drop k l) ≡ drop k l

@@ -1,8 +1,8 @@
 -- What stands in a list: its members and their places, each view from the other, and what becomes of them where the list is joined, kept by
 -- a test or paired. Each is one induction on the list. Assumes nothing.
 use Prim.Native.Nat.{ℕ, zero, suc, _+_, _≤_, _<_, min, suc-le-suc}
-use mathlib.Core.Path.{_≡_, refl, sym, ap, ap₂, subst, _∙_}
-use mathlib.Core.Bool.{Bool, true, false, _&&_, _||_}
+use mathlib.Core.Path.{_≡_, refl, sym, ap, ap₂, subst, fun-ext, _∙_}
+use mathlib.Core.Bool.{Bool, true, false, _&&_, _||_, and-comm}
 use mathlib.Core.List.{List, [], _∷_, _++_, map, List·Memᴰ, List·Memᴰ·head, List·Memᴰ·tail, List·Memᴰ·not-nil, List·Memᴰ·cases-cons}
 use mathlib.Core.List.{List·Memᴰ·append-cases, Memᴰ·append-left, Memᴰ·append-right, Memᴰ·map, Memᴰ·of-map}
 use mathlib.Core.Logic.{_⊎_, inl, inr}
@@ -154,16 +154,8 @@ module _ {A : Type 0} where
 
   -- Two tests in whichever order
   pub keep-swap : (p q : A → Bool) (xs : List A) → keep p (keep q xs) ≡ keep q (keep p xs)
-  unfolding keep
-  keep-swap p q [] = refl
-  keep-swap p q (x ∷ xs) = go (p x) (q x) refl refl (keep-swap p q xs)
-    where
-      go : (t u : Bool) → p x ≡ t → q x ≡ u → keep p (keep q xs) ≡ keep q (keep p xs)
-          → keep p (pick u (x ∷ keep q xs) (keep q xs)) ≡ keep q (pick t (x ∷ keep p xs) (keep p xs))
-      go true true e f g = rw (e, f) (ap (λ l. x ∷ l) g)
-      go true false e f g = rw f g
-      go false true e f g = rw e g
-      go false false e f g = g
+  keep-swap p q xs =
+      keep-keep p q xs ∙ ap (λ (r : A → Bool). keep r xs) (fun-ext (λ x. and-comm (p x) (q x))) ∙ sym (keep-keep q p xs)
 
   -- ---- every two in their order
 
@@ -212,30 +204,26 @@ module _ {A : Type 0} where
 
 module _ {A : Type 0} (d : A) where
   module _ (P : A → Type 0) where
-    pub all-cons : {x : A} (xs : List A) → P x → All d P xs → All d P (x ∷ xs)
-    all-cons xs g f zero h = g
-    all-cons xs g f (suc i) h = f i (le-of-suc-le-suc h)
-
-    pub all-head : (x : A) (xs : List A) → All d P (x ∷ xs) → P x
-    all-head x xs f = f 0 (zero-lt-suc _)
-
     pub all-tail : (x : A) (xs : List A) → All d P (x ∷ xs) → All d P xs
     all-tail x xs f i h = f (suc i) (suc-le-suc h)
 
     pub all-append : (xs ys : List A) → All d P xs → All d P ys → All d P (xs ++ ys)
-    all-append [] ys f g = g
-    all-append (x ∷ xs) ys f g = all-cons (xs ++ ys) (all-head x xs f) (all-append xs ys (all-tail x xs f) g)
+    all-append xs ys f g i h = go (List·Memᴰ·append-cases xs (member-of-place (xs ++ ys) d i h))
+      where
+        go : {a : A} → List·Memᴰ a xs ⊎ List·Memᴰ a ys → P a
+        go (inl m) = of-all P xs d f m
+        go (inr m) = of-all P ys d g m
+
+    pub all-snoc : {a : A} (xs : List A) → All d P xs → P a → All d P (xs ++ (a ∷ []))
+    all-snoc {a} xs f g = all-append xs (a ∷ []) f only
+      where
+        only : All d P (a ∷ [])
+        only zero h = g
+        only (suc i) h = absurd (omega arith)
 
     pub all-take : (k : ℕ) (xs : List A) → All d P xs → All d P (take k xs)
     all-take k xs f i h =
         let l : i < min k (length xs) = rw length-take at h in rw (getD-take k xs i d (omega arith)) (f i (omega arith))
-
-  module _ (R : A → A → Type 0) where
-    pub pairs-head : (x : A) (xs : List A) → AllPairs d R (x ∷ xs) → All d (R x) xs
-    pairs-head x xs f i h = f 0 (suc i) (zero-lt-suc i) (suc-le-suc h)
-
-    pub pairs-tail : (x : A) (xs : List A) → AllPairs d R (x ∷ xs) → AllPairs d R xs
-    pairs-tail x xs f j k h l = f (suc j) (suc k) (suc-le-suc h) (suc-le-suc l)
 
   module _ (p : A → Bool) where
     -- what is kept passes the test, and keeps its order
@@ -308,13 +296,14 @@ module _ {A : Type 0} (f : A → A → ℕ) where
             (0, suc i, zero-lt-suc i, suc-le-suc h, ap (f x) g ∙ e)
         go ih (inr k) = let (i, j, l, h, e) = ih k in (suc i, suc j, suc-le-suc l, suc-le-suc h, e)
 
-pub pairsOf-same-places : {A : Type 0} (f : A → A → ℕ) (xs ys : List A) (d : A) → length xs ≡ length ys
-    → ((j k : ℕ) → j < k → k < length xs → f (getD xs j d) (getD xs k d) ≡ f (getD ys j d) (getD ys k d)) → pairsOf f xs ≡ pairsOf f ys
+-- Two lists whose pairs have the same numbers, place by place
+pub pairsOf-same-places : {A : Type 0} (f g : A → A → ℕ) (xs ys : List A) (d : A) → length xs ≡ length ys
+    → ((j k : ℕ) → j < k → k < length xs → f (getD xs j d) (getD xs k d) ≡ g (getD ys j d) (getD ys k d)) → pairsOf f xs ≡ pairsOf g ys
 unfolding pairsOf
-pairsOf-same-places f [] [] d m h = refl
-pairsOf-same-places f [] (y ∷ ys) d m h = absurd (omega (arith, m))
-pairsOf-same-places f (x ∷ xs) [] d m h = absurd (omega (arith, m))
-pairsOf-same-places f (x ∷ xs) (y ∷ ys) d m h =
+pairsOf-same-places f g [] [] d m h = refl
+pairsOf-same-places f g [] (y ∷ ys) d m h = absurd (omega (arith, m))
+pairsOf-same-places f g (x ∷ xs) [] d m h = absurd (omega (arith, m))
+pairsOf-same-places f g (x ∷ xs) (y ∷ ys) d m h =
     let shorter : length xs ≡ length ys = omega (arith, m) in
-    ap₂ _++_ (map-same-places (f x) (f y) xs ys d d shorter (λ i l. h 0 (suc i) (zero-lt-suc i) (suc-le-suc l)))
-    (pairsOf-same-places f xs ys d shorter (λ j k l o. h (suc j) (suc k) (suc-le-suc l) (suc-le-suc o)))
+    ap₂ _++_ (map-same-places (f x) (g y) xs ys d d shorter (λ i l. h 0 (suc i) (zero-lt-suc i) (suc-le-suc l)))
+    (pairsOf-same-places f g xs ys d shorter (λ j k l o. h (suc j) (suc k) (suc-le-suc l) (suc-le-suc o)))

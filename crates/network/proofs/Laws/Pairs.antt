@@ -2,23 +2,22 @@
 -- and the gaps of the pairs, by induction on the list. Assumes nothing.
 use Prim.Native.Nat.{ℕ, _+_, _/_, _≤_, _<_, min}
 use mathlib.Core.Path.{_≡_, refl, sym, ap, ap₂, _∙_}
-use mathlib.Core.List.{List, [], _∷_, _++_, map}
-use native.Mathlib.Nat.{le-trans, zero-lt-suc}
+use mathlib.Core.List.{List, [], _∷_, map}
+use native.Mathlib.Nat.{le-trans}
 use native.Mathlib.Omega.{arith}
 use native.Mathlib.Decide.{decLt}
 use lib.IntN.{ℤ, pos, _+ℤ_, _-ℤ_}
 use lib.ListN.{length, getD, List·getD-map}
 use Rattle.network.specs.declared.Call.{Call}
-use Rattle.network.specs.Lists.{leastOf, pairsOf}
+use Rattle.network.specs.Lists.{leastOf}
 use Rattle.network.specs.Network.{Net}
 use Rattle.network.specs.Divisor.{gcd}
 use Rattle.network.specs.Valid.{noCall}
 use Rattle.network.specs.Gap.{residue, fold, gapOf}
 use Rattle.network.specs.Rating.{arrivalOf, periodOf, gapOfCalls, pairGaps, gapOfStop}
 use Rattle.network.specs.Scan.{leastFrom}
-use Rattle.network.proofs.Laws.Lists.{map-same}
-use Rattle.network.proofs.Laws.Members.{All, AllPairs, IsOfPair, pairs-head, pairs-tail, member-of-pairsOf, of-all, pair-of-pairsOf}
-use Rattle.network.proofs.Laws.Members.{pairsOf-few, pairsOf-some}
+use Rattle.network.proofs.Laws.Members.{All, AllPairs, IsOfPair, member-of-pairsOf, pair-of-pairsOf, pairsOf-few, pairsOf-some}
+use Rattle.network.proofs.Laws.Members.{pairsOf-same-places}
 use Rattle.network.proofs.Laws.Least.{leastOf-le, leastFrom-leastOf, leastFrom-nil, leastOf-member}
 use Rattle.network.proofs.Laws.Divisor.{gcd-comm}
 use Rattle.network.proofs.Laws.Gap.{gapOf-symmetric, gapOf-half}
@@ -87,24 +86,26 @@ module _ (n : Net) (starts : List ℤ) where
       go (yes m) = in-order j k m l
       go (no m) = rw (gcd-comm (periodOf n (getD cs j noCall))) (in-order k j (omega arith) h)
 
--- Where the periods and the gaps of all pairs agree, so does the gap of the stop
+-- Where the periods place by place and the gaps of each two places agree, so does the gap of the stop
 module _ (n m : Net) (starts moved : List ℤ) where
-  abbrev Agree : Call → Call → Type 0
-  Agree c d = gapOfCalls n starts c d ≡ gapOfCalls m moved c d
+  pub gapOfStop-same-places : (cs ds : List Call) → length cs ≡ length ds
+      → ((j : ℕ) → j < length cs → periodOf n (getD cs j noCall) ≡ periodOf m (getD ds j noCall))
+      → ((j k : ℕ) → j < k → k < length cs
+      → gapOfCalls n starts (getD cs j noCall) (getD cs k noCall) ≡ gapOfCalls m moved (getD ds j noCall) (getD ds k noCall))
+      → gapOfStop n starts cs ≡ gapOfStop m moved ds
+  unfolding gapOfStop pairGaps
+  gapOfStop-same-places [] [] l p g = refl
+  gapOfStop-same-places [] (d ∷ ds) l p g = absurd (omega (arith, l))
+  gapOfStop-same-places (c ∷ cs) [] l p g = absurd (omega (arith, l))
+  gapOfStop-same-places (c ∷ []) (d ∷ []) l p g = p 0 (omega arith)
+  gapOfStop-same-places (c ∷ []) (d ∷ e ∷ ds) l p g = absurd (omega (arith, l))
+  gapOfStop-same-places (b ∷ c ∷ cs) (d ∷ []) l p g = absurd (omega (arith, l))
+  gapOfStop-same-places (b ∷ c ∷ cs) (d ∷ e ∷ ds) l p g =
+      ap leastOf (pairsOf-same-places (gapOfCalls n starts) (gapOfCalls m moved) (b ∷ c ∷ cs) (d ∷ e ∷ ds) noCall l g)
 
-  pairGaps-cong : (cs : List Call) → AllPairs noCall Agree cs → pairGaps n starts cs ≡ pairGaps m moved cs
-  unfolding pairGaps pairsOf
-  pairGaps-cong [] f = refl
-  pairGaps-cong (c ∷ cs) f =
-      ap₂ _++_ (map-same (gapOfCalls n starts c) (gapOfCalls m moved c) cs (λ d k. of-all (Agree c) cs noCall (pairs-head noCall Agree c cs f) k))
-      (pairGaps-cong cs (pairs-tail noCall Agree c cs f))
-
-  pub gapOfStop-cong : (cs : List Call) → All noCall (λ c. periodOf n c ≡ periodOf m c) cs → AllPairs noCall Agree cs
-      → gapOfStop n starts cs ≡ gapOfStop m moved cs
-  unfolding gapOfStop
-  gapOfStop-cong [] e f = refl
-  gapOfStop-cong (c ∷ []) e f = e 0 (zero-lt-suc 0)
-  gapOfStop-cong (c ∷ d ∷ cs) e f = ap leastOf (pairGaps-cong (c ∷ d ∷ cs) f)
+  pub gapOfStop-cong : (cs : List Call) → All noCall (λ c. periodOf n c ≡ periodOf m c) cs
+      → AllPairs noCall (λ c d. gapOfCalls n starts c d ≡ gapOfCalls m moved c d) cs → gapOfStop n starts cs ≡ gapOfStop m moved cs
+  gapOfStop-cong cs = gapOfStop-same-places cs cs refl
 
 -- Of the starts only those of their lines count
 abbrev pub SameStart : List ℤ → List ℤ → Call → Type 0

@@ -17,7 +17,8 @@ use Rattle.network.specs.Grounds.{first, grounds}
 use Rattle.network.specs.Reading.{Reading, readFile, accepted, refused, Outcome, values, refusal, readOutcome}
 use Rattle.network.specs.Gives.{Reached, start, next, Gives, accepts}
 use Rattle.network.specs.Valid.{IsBytes, noCall, Valid}
-use Rattle.network.proofs.Laws.Lists.{zero-ne-one, snoc-all}
+use Rattle.network.proofs.Laws.Lists.{zero-ne-one}
+use Rattle.network.proofs.Laws.Members.{all-snoc}
 use Rattle.network.proofs.Laws.Divisor.{commonCycle-snoc, period-divides-commonCycle, commonCycle-least, commonCycle-pos}
 use Rattle.network.proofs.Laws.Grounds.{LineFits, CallFits, line-passes, offset-passes, ride-passes, end-passes}
 use Rattle.network.proofs.Laws.Reading.{reached-within, readFile-gives}
@@ -42,8 +43,8 @@ unfolding withLine cycle
 validSoFar-line n behind f s =
     let t : ℕ = word behind 0 in
     record {
-      period-pos = snoc-all t 0 (λ q. 0 < q) (n .periods) (s .period-pos) (f .period-pos);
-      period = snoc-all t 0 (λ q. q ≤ maxPeriod) (n .periods) (s .period) (f .period);
+      period-pos = all-snoc 0 (λ q. 0 < q) (n .periods) (s .period-pos) (f .period-pos);
+      period = all-snoc 0 (λ q. q ≤ maxPeriod) (n .periods) (s .period) (f .period);
       cycle-max = rw (commonCycle-snoc (n .periods) t) (f .cycle-max);
       call-line = λ k h. omega (arith, s .call-line k h, length-append (n .periods) (t ∷ []));
       call-stop = s .call-stop;
@@ -60,9 +61,9 @@ validSoFar-call c n behind offset f o s =
       period-pos = s .period-pos;
       period = s .period;
       cycle-max = s .cycle-max;
-      call-line = snoc-all call noCall (λ d. d .line < length (n .periods)) (n .calls) (s .call-line) (f .line);
-      call-stop = snoc-all call noCall (λ d. d .stop ≤ maxStop) (n .calls) (s .call-stop) (f .stop);
-      call-offset = snoc-all call noCall (λ d. d .offset ≤ maxOffset) (n .calls) (s .call-offset) o;
+      call-line = all-snoc noCall (λ d. d .line < length (n .periods)) (n .calls) (s .call-line) (f .line);
+      call-stop = all-snoc noCall (λ d. d .stop ≤ maxStop) (n .calls) (s .call-stop) (f .stop);
+      call-offset = all-snoc noCall (λ d. d .offset ≤ maxOffset) (n .calls) (s .call-offset) o;
       often = λ line stop. often-more line stop (n .calls) call (s .often line stop) (f .often);
     }
 
