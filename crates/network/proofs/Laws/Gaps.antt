@@ -25,11 +25,11 @@ pub use Rattle.network.proofs.Laws.Rating.{servedList-member, sumOf-ser
 pub use Rattle.network.proofs.Laws.Rating.{ratingBy-least-mono, ratingBy-sum-mono}
 pub use Rattle.network.proofs.Laws.Rate.{ratingBy-same, counted-of-member, counted-served}
 -- the rating, and over all trips
-pub use Rattle.network.proofs.Laws.Rating.{rating-is-ratingBy, rating-some, rating-is-rating, IsRating-unique}
+pub use Rattle.network.proofs.Laws.Rating.{rating-is-ratingBy, rating-some, rating-numbers, rating-is-rating, IsRating-unique}
 -- starts that rate alike
 pub use Rattle.network.proofs.Laws.Starts.{rating-residues, rating-moved-together}
 -- the order of ratings
-pub use Rattle.network.proofs.Laws.Order.{Above, above-of-isAbove, below-of-not-isAbove, isAbove-none, above-none, isAbove-irreflexive}
-pub use Rattle.network.proofs.Laws.Order.{not-above-of-above, not-above-transitive, not-above-of-le}
+pub use Rattle.network.proofs.Laws.Order.{Above, above-of-isAbove, below-of-not-isAbove, isAbove-none, none-is-not-above}
+pub use Rattle.network.proofs.Laws.Order.{above-none, isAbove-irreflexive, not-above-of-above, not-above-transitive, not-above-of-le, isEqual-numbers}
 -- how large the numbers of a rating can be
 pub use Rattle.network.proofs.Laws.Ranges.{sumOf-served-le, least-range, sum-range}

@@ -8,7 +8,7 @@ use native.Mathlib.Omega.{arith}
 use borrow.Author.Tests.{ltb-true, ltb-false, eqb-true, eqb-false, lt-ltb, le-ltb, eq-eqb, ne-eqb}
 use lib.Dec.{eqb, ltb}
 use Rattle.network.specs.declared.Rating.{Rating}
-use Rattle.network.specs.Rating.{noRating, isAbove}
+use Rattle.network.specs.Rating.{noRating, isAbove, isEqual}
 use Rattle.network.proofs.Laws.Lists.{zero-ne-one}
 
 -- One pair of least and sum is above another
@@ -69,6 +69,11 @@ isAbove-none r = and-true (r .some)
 pub none-is-not-above : (r : Rating) → isAbove noRating r ≡ false
 unfolding isAbove
 none-is-not-above r = refl
+
+-- Two ratings are equal by their numbers
+pub isEqual-numbers : (l s m t : ℕ) → isEqual (record { some = true; least = l; sum = s }) (record { some = true; least = m; sum = t }) ≡ (eqb l m && eqb s t)
+unfolding isEqual
+isEqual-numbers l s m t = refl
 
 above-irreflexive : (r : Rating) → Above r r → ⊥
 above-irreflexive r (inl h) = omega arith

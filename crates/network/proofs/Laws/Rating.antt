@@ -151,6 +151,11 @@ pub ratingBy-numbers : (f : ℕ → ℕ) (stops : List Counted)
 unfolding ratingBy
 ratingBy-numbers f stops = refl
 
+pub rating-numbers : (n : Net) (starts : List ℤ)
+    → record { some = true; least = rating n starts .least; sum = rating n starts .sum } ≡ rating n starts
+unfolding rating ratingOver
+rating-numbers n starts = ratingBy-numbers (stopGap n starts) (counted n)
+
 pub rating-some : (n : Net) (starts : List ℤ) → rating n starts .some ≡ true
 unfolding rating ratingOver
 rating-some n starts = ratingBy-some (stopGap n starts) (counted n)

@@ -2,7 +2,7 @@
 use mathlib.Core.Path.{sym, ap, _∙_}
 use mathlib.Core.Bool.{Bool}
 use borrow.Author.Needs.{needs}
-use Rattle.network.specs.Rating.{isEqual}
+use Rattle.network.proofs.Laws.Gaps.{isEqual-numbers}
 use Rattle.search.specs.Search.{SearchOutcome, searchAnswer}
 use Rattle.search.proofs.Laws.Answers.{searchAnswer-finished, searchAnswer-stopped, searchAnswer-none, searchAnswer-refused}
 use Rattle.examination.specs.Sheets as sheets
@@ -29,11 +29,11 @@ abbrev wanted : (s : tie.Start) → SearchOutcome → sheets.MarkOutcome
 wanted s outcome = sheets.marked (s .args .least) (s .args .sum) outcome
 
 returns : tie.Need-returns
-unfolding sheets.markAnswer sheets.marked isEqual
+unfolding sheets.markAnswer sheets.marked
 returns c =
     let s = c .before .before .before .before in
     let g = c .before .before .answer .given in
-    ap (λ (b : Bool). sheets.decided (s .args .least) (s .args .sum) (g .0 .0) (g .0 .1 .0) b (g .0 .1 .1 .0)) (c .is-equal .ensures)
+    ap (λ (b : Bool). sheets.decided (s .args .least) (s .args .sum) (g .0 .0) (g .0 .1 .0) b (g .0 .1 .1 .0)) (c .is-equal .ensures ∙ isEqual-numbers _ _ _ _)
     ∙ sym (ap (wanted s) (ap searchAnswer (g .1) ∙ searchAnswer-finished _ _ _))
 
 returns-2 : tie.Need-returns-2
