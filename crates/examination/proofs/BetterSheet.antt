@@ -10,11 +10,11 @@ use lib.IntN.{ℤ}
 use lib.ListN.{length}
 use Rattle.network.specs.Lists.{pick}
 use Rattle.network.specs.Network.{Net}
-use Rattle.network.specs.Rating.{IsRating, rating, ratingBy, ratingOver, isAbove}
+use Rattle.network.specs.Rating.{IsRating, rating, isAbove}
 use Rattle.network.specs.Reading.{Reading, accepted, refused}
 use Rattle.network.specs.Refusals.{Unfit}
 use Rattle.network.specs.Valid.{Valid}
-use Rattle.network.proofs.Laws.Gaps.{IsRating-unique, above-of-isAbove, below-of-not-isAbove}
+use Rattle.network.proofs.Laws.Gaps.{IsRating-unique, above-of-isAbove, below-of-not-isAbove, rating-some}
 use Rattle.examination.specs.Sheets.{Better, first, second, neither, fits, betterBy, betterOf}
 
 -- Which sheet is chosen: the first, not rated below the second; or the second, rated above the first
@@ -49,15 +49,14 @@ module _ {read : Reading} {n : Net} (reads : read ≡ accepted n) (one other : L
 
   module _ (valid : Valid n) {least sum least′ sum′ : ℕ} (p : IsRating n one least sum) (q : IsRating n other least′ sum′) where
     chosen-by : (b : Bool) → isAbove (rating n other) (rating n one) ≡ b → Chosen least sum least′ sum′ (pick b second first)
-    unfolding rating ratingOver ratingBy
     chosen-by true e =
         let (l, s) = IsRating-unique valid p in
         let (l′, s′) = IsRating-unique valid q in
-        second-above (rw (l, s, l′, s′) (above-of-isAbove (rating n other) (rating n one) refl refl e))
+        second-above (rw (l, s, l′, s′) (above-of-isAbove (rating n other) (rating n one) (rating-some n other) (rating-some n one) e))
     chosen-by false e =
         let (l, s) = IsRating-unique valid p in
         let (l′, s′) = IsRating-unique valid q in
-        first-not-below (rw (l, s, l′, s′) (below-of-not-isAbove (rating n other) (rating n one) refl refl e))
+        first-not-below (rw (l, s, l′, s′) (below-of-not-isAbove (rating n other) (rating n one) (rating-some n other) (rating-some n one) e))
 
     pub both-fit : length one ≡ length (n .periods) → length other ≡ length (n .periods) → Chosen least sum least′ sum′ (betterOf read one other)
     unfolding betterBy

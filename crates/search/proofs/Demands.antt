@@ -23,7 +23,7 @@ use Rattle.network.proofs.Laws.Gaps.{accepted-valid, rating-is-rating, IsRating
 use Rattle.search.specs.Search.{SearchOutcome, finished, stopped, stoppedWithNone, refusal, searchAnswer, triesOf, productsFrom}
 use Rattle.search.specs.Search.{searched, outcomeOf, searchOutcome, startRowAfter}
 use Rattle.search.proofs.Laws.Optimal.{searched-some, searched-length, searched-rating, searched-best, searched-stopped, triesBound-products}
-use Rattle.search.proofs.Laws.Outcome.{fit-outcome, fit-row, Told, told-of-finished, told-of-stopped, told-of-none}
+use Rattle.search.proofs.Laws.Outcome.{fit-outcome, fit-row, AnswerTells, told-of-finished, told-of-stopped, told-of-none}
 use Rattle.search.proofs.Laws.Outcome.{outcome-tries-le, outcome-tries-le-budget, outcome-finished}
 use Rattle.search.proofs.Laws.Reordered.{searchOutcome-same, startRowAfter-same}
 use Rattle.search.proofs.Laws.Outcome.{search-refuses, search-refuses-only, row-as-found}
@@ -102,7 +102,7 @@ module _ {file : List ℕ} {row : List ℤ} {budget : ℕ} {answer : SearchOutco
     answer-is e = sym (ap (λ (k : Reading). searchOutcome k (length row) budget) reads) ∙ sym (call .answered) ∙ e
 
     -- An answer with a best: its starts are in the row, and have its rating
-    has-its-rating : {least sum tries : ℕ} {ends : Bool} → Told n (length row) budget least sum tries ends → searched n budget .best .some ≡ true
+    has-its-rating : {least sum tries : ℕ} {ends : Bool} → AnswerTells n (length row) budget least sum tries ends → searched n budget .best .some ≡ true
         → (length exit ≡ length (n .periods)) × IsRating n exit least sum
     has-its-rating t some =
         let written : exit ≡ searched n budget .starts =

@@ -1,11 +1,11 @@
--- The laws of the definitions of `specs/`.
+-- The laws of the definitions of `specs/`. `Answers` is what other crates read of the search call's answer.
+pub mod Walk
+pub mod Bounds
 pub mod Cover
 pub mod Caps
 pub mod CapScan
 pub mod Upper
 pub mod Reduced
-pub mod Walk
-pub mod Bounds
 pub mod Best
 pub mod Rules
 pub mod Cuts
@@ -24,3 +24,4 @@ pub mod Called
 pub mod Optimal
 pub mod Outcome
 pub mod Reordered
+pub mod Answers

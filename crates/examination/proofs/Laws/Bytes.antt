@@ -16,7 +16,7 @@ use Rattle.network.specs.declared.Rating.{Rating}
 use Rattle.network.specs.Rate.{onSheet, ratedOnSheet}
 use Rattle.network.specs.Reading.{Reading, accepted, refused, refusal, readFile}
 use Rattle.network.specs.Valid.{IsBytes}
-use Rattle.network.proofs.Laws.Valid.{accepted-valid}
+use Rattle.network.proofs.Laws.Gaps.{accepted-valid}
 use Rattle.examination.specs.Bytes.{signed, starts, bytesFit, byBytes, betterBytes}
 use Rattle.examination.specs.Sheets.{fits, betterBy, betterOf, markOutcome}
 use Rattle.examination.specs.Sheets as sheets

@@ -13,9 +13,10 @@ use Rattle.network.specs.declared.RateAnswer.the-variants as answer
 use Rattle.network.specs.Lists.{pick}
 use Rattle.network.specs.Network.{Net}
 use Rattle.network.specs.Rate.{rateAnswer, ratingValues, onSheet, rateOutcome}
-use Rattle.network.specs.Rating.{noRating, rating, ratingBy, ratingOver, isAbove}
+use Rattle.network.specs.Rating.{noRating, rating, isAbove}
 use Rattle.network.specs.Reading.{Reading, accepted, refused, values, refusal}
 use Rattle.network.proofs.Laws.Lists.{zero-ne-one}
+use Rattle.network.proofs.Laws.Gaps.{rating-some, isAbove-none, none-is-not-above, rating-numbers}
 use Rattle.search.specs.Search.{searchOutcome}
 use Rattle.examination.specs.Chosen.{ratingFrom, ratingOn, betterFrom}
 use Rattle.examination.specs.Sheets.{first, second, neither, fits, betterBy, betterOf, marked, markOutcome}
@@ -45,21 +46,13 @@ rated-on (accepted n) sheet {least} {sum} e = go (eqb (length sheet) (length (n 
 
 -- ---- better-of-two
 
-rating-whole : (n : Net) (sheet : List ℤ) → record { some = true; least = rating n sheet .least; sum = rating n sheet .sum } ≡ rating n sheet
-unfolding rating ratingOver ratingBy
-rating-whole n sheet = refl
-
-rating-some : (n : Net) (sheet : List ℤ) → rating n sheet .some ≡ true
-unfolding rating ratingOver ratingBy
-rating-some n sheet = refl
-
 pub ratingOn-of-rate : (read : Reading) (sheet : List ℤ) (r : RateAnswer) → rateAnswer r ≡ rateOutcome read sheet
     → ratingFrom r ≡ ratingOn read sheet
 unfolding rateAnswer rateOutcome onSheet ratingFrom ratingOn fits ratingValues
 ratingOn-of-rate read sheet (answer.Rated least sum) e =
     let r = rated-on read sheet e in
     ap₂ (λ (l s : ℕ). record { some = true; least = l; sum = s }) (r .its-least) (r .its-sum)
-    ∙ rating-whole (r .net) sheet
+    ∙ rating-numbers (r .net) sheet
     ∙ sym
     (ap (λ (k : Reading). ratingOn k sheet) (r .reads)
     ∙ ap (λ (b : Bool). pick b (rating (r .net) sheet) noRating) (eq-eqb (length sheet) (length (r .net .periods)) (r .fit)))
@@ -72,17 +65,17 @@ ratingOn-of-rate (accepted n) sheet (answer.Refused number place) e = go (eqb (l
     go false e = refl
 
 pub betterOf-from : (read : Reading) (one other : List ℤ) → betterOf read one other ≡ betterFrom (ratingOn read one) (ratingOn read other)
-unfolding betterOf betterBy betterFrom ratingOn isAbove
-betterOf-from (refused number place) one other = refl
+unfolding betterOf betterBy betterFrom ratingOn
+betterOf-from (refused number place) one other = rw (none-is-not-above noRating) refl
 betterOf-from (accepted n) one other = go (fits n one) (fits n other)
   where
     go : (a b : Bool) → betterBy a b (rating n one) (rating n other)
         ≡ betterFrom (pick a (rating n one) noRating) (pick b (rating n other) noRating)
     go true true =
         ap (λ (b : Bool). pick (isAbove (rating n other) (rating n one)) second (pick b first neither)) (sym (rating-some n one))
-    go true false = rw (rating-some n one) refl
-    go false true = rw (rating-some n other) refl
-    go false false = refl
+    go true false = rw (none-is-not-above (rating n one), rating-some n one) refl
+    go false true = rw (isAbove-none (rating n other), rating-some n other) refl
+    go false false = rw (none-is-not-above noRating) refl
 
 -- ---- mark
 

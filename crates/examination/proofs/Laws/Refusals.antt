@@ -55,9 +55,9 @@ module _ (file : List ℕ) (sheet : List ℤ) (budget : ℕ) where
 
   module _ (bytes : IsBytes file) where
     -- With one place for each line the search doesn't refuse
-    search-answers : {n : Net} → readFile file ≡ accepted n → length sheet ≡ length (n .periods) → {number place : ℕ}
+    search-of-fit : {n : Net} → readFile file ≡ accepted n → length sheet ≡ length (n .periods) → {number place : ℕ}
         → searchOutcome (accepted n) (length sheet) budget ≡ search.refusal number place → ⊥
-    search-answers {n} reads fit {number} {place} e =
+    search-of-fit {n} reads fit {number} {place} e =
         go (demand-1 searches .no-other-is-refused number place (ap (λ (k : Reading). searchOutcome k (length sheet) budget) reads ∙ e))
       where
         searches : Searches file sheet budget (searchOutcome (readFile file) (length sheet) budget) (startRowAfter (readFile file) budget sheet)
@@ -73,7 +73,7 @@ module _ (file : List ℕ) (sheet : List ℤ) (budget : ℕ) where
     mark-refuses-only =
         on-sheet-refuses-only _ sheets.refusal file sheet
         (record {
-          no-refusal = λ n reads fit number place e. search-answers reads fit (marked-refuses _ _ _ e);
+          no-refusal = λ n reads fit number place e. search-of-fit reads fit (marked-refuses _ _ _ e);
           same-number = λ number place number′ place′ e. (cc, cc);
         })
 

@@ -18,16 +18,15 @@ use Rattle.network.specs.Valid.{noCall, Valid}
 use Rattle.network.specs.Gap.{residue}
 use Rattle.network.specs.Rating.{CallsThere, periodOf, callsOfStop}
 use Rattle.network.specs.Classes.{ordered, orderedCall, remainder, Alike, sameLine, sameRemainder, isAlike}
-use Rattle.network.proofs.Laws.Lists.{and-both, allBelow-at}
-use Rattle.network.proofs.Laws.Tables.{allBelow-of-each}
-use Rattle.network.proofs.Laws.Members.{All, getD-map, map-same-places}
-use Rattle.network.proofs.Laws.Membership.{member-of-any, place-of-member}
-use Rattle.network.proofs.Laws.Permuted.{all-permuted}
-use Rattle.network.proofs.Laws.Tidy.{tidy-is-permutation}
-use Rattle.network.proofs.Laws.StopGap.{callsOfStop-all}
+use Rattle.network.proofs.Laws.Lists.{and-both, getD-map, map-same-places}
+use Rattle.network.proofs.Laws.Members.{All, member-of-any, place-of-member}
+use Rattle.network.proofs.Laws.Permutations.{all-permuted}
+use Rattle.network.proofs.Laws.Tables.{allBelow-at, allBelow-of-each}
 use Rattle.network.proofs.Laws.Divisor.{gcd-comm, gcd-pos-left}
 use Rattle.network.proofs.Laws.Integers.{difference, difference-sub, difference-add-multiple, difference-of-eq, eq-of-difference}
 use Rattle.network.proofs.Laws.Gap.{multiple-of-residue-eq, residue-eq-of-multiple}
+use Rattle.network.proofs.Laws.StopGap.{callsOfStop-all}
+use Rattle.network.proofs.Laws.Tidy.{tidy-is-permutation}
 
 -- ---- a served stop
 

@@ -22,12 +22,12 @@ use Rattle.network.specs.Tidy.{notAfter}
 use Rattle.network.specs.Classes.{ordered, orderedCall, remainder, Alike}
 use Rattle.network.specs.ByLines.{offsetAt, offsetDifference, AlikeOfLines}
 use Rattle.network.proofs.Laws.Lists.{zero-ne-one, and-both}
-use Rattle.network.proofs.Laws.Membership.{any-of-member, member-of-any, place-of-member, member-of-place, keep-of-member, member-of-keep}
-use Rattle.network.proofs.Laws.Membership.{EveryTwo, everyTwo-both, everyTwo-of-places, everyTwo-keep}
+use Rattle.network.proofs.Laws.Members.{any-of-member, member-of-any, place-of-member, member-of-place, keep-of-member}
+use Rattle.network.proofs.Laws.Members.{member-of-keep, EveryTwo, everyTwo-both, everyTwo-of-places, everyTwo-keep}
+use Rattle.network.proofs.Laws.Permutations.{member-permuted, everyTwo-permuted}
 use Rattle.network.proofs.Laws.Often.{no-line-twice}
-use Rattle.network.proofs.Laws.Permuted.{member-permuted, everyTwo-permuted}
-use Rattle.network.proofs.Laws.Alike.{same-length, same-line}
 use Rattle.network.proofs.Laws.Tidy.{tidy-is-permutation, tidy-sorted}
+use Rattle.network.proofs.Laws.Alike.{same-length, same-line}
 
 -- ---- the calls of a line at a stop
 

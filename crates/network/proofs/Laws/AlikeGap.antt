@@ -1,26 +1,25 @@
 -- Stops that are alike have the same gap: place by place their calls are of the same lines, and two of them arrive there apart by the difference
 -- of their starts and that of their offsets, which leaves the same remainder, so the gaps of the pairs are the same. Assumes nothing.
 use Prim.Native.Nat.{ℕ, _<_}
-use mathlib.Core.Path.{_≡_, refl, sym, ap, ap₂, _∙_}
-use mathlib.Core.List.{List, [], _∷_}
+use mathlib.Core.Path.{_≡_, sym, ap, ap₂, _∙_}
+use mathlib.Core.List.{List}
 use native.Mathlib.Omega.{arith}
 use lib.IntN.{ℤ, pos, _+ℤ_, _-ℤ_}
 use lib.ListN.{length, getD}
 use Rattle.network.specs.declared.Call.{Call}
-use Rattle.network.specs.Lists.{leastOf}
 use Rattle.network.specs.Divisor.{gcd}
 use Rattle.network.specs.Network.{Net}
-use Rattle.network.specs.Valid.{noCall, Valid}
+use Rattle.network.specs.Valid.{Valid}
 use Rattle.network.specs.Gap.{residue, gapOf}
-use Rattle.network.specs.Rating.{arrivalOf, periodOf, gapOfCalls, pairGaps, gapOfStop, callsOfStop, stopGap}
+use Rattle.network.specs.Rating.{arrivalOf, periodOf, gapOfCalls, gapOfStop, callsOfStop, stopGap}
 use Rattle.network.specs.Classes.{ordered, orderedCall, remainder, Alike}
-use Rattle.network.proofs.Laws.Alike.{ordered-period-pos, same-length, same-line}
-use Rattle.network.proofs.Laws.Members.{pairsOf-same-places}
 use Rattle.network.proofs.Laws.Divisor.{gcd-pos-left}
 use Rattle.network.proofs.Laws.Integers.{difference, difference-add, difference-sub, eq-of-difference}
 use Rattle.network.proofs.Laws.Gap.{residue-of-add, gapOf-residue}
+use Rattle.network.proofs.Laws.Pairs.{gapOfStop-same-places}
 use Rattle.network.proofs.Laws.Permuted.{gapOfStop-permuted}
 use Rattle.network.proofs.Laws.Tidy.{tidy-is-permutation}
+use Rattle.network.proofs.Laws.Alike.{ordered-period-pos, same-length, same-line}
 
 -- Beside the starts `x` and `y`, the gap of two arrivals hangs on the remainder of their offsets' difference alone
 gapOf-offsets : (x y a b c d : ℤ) (t u : ℕ) → 0 < gcd t u → residue (a -ℤ b) (gcd t u) ≡ residue (c -ℤ d) (gcd t u)
@@ -36,22 +35,6 @@ gapOf-offsets x y a b c d t u h e =
     parts a b =
         eq-of-difference (difference-sub (difference-add (difference x) (difference a)) (difference-add (difference y) (difference b)))
         (difference-add (difference-sub (difference a) (difference b)) (difference-sub (difference x) (difference y))) (omega arith)
-
--- Calls with the same periods place by place, and the same gaps for each two places
-gapOfStop-same-places : (n : Net) (starts : List ℤ) (cs ds : List Call) → length cs ≡ length ds
-    → ((j : ℕ) → j < length cs → periodOf n (getD cs j noCall) ≡ periodOf n (getD ds j noCall))
-    → ((j k : ℕ) → j < k → k < length cs
-    → gapOfCalls n starts (getD cs j noCall) (getD cs k noCall) ≡ gapOfCalls n starts (getD ds j noCall) (getD ds k noCall))
-    → gapOfStop n starts cs ≡ gapOfStop n starts ds
-unfolding gapOfStop pairGaps
-gapOfStop-same-places n starts [] [] m p g = refl
-gapOfStop-same-places n starts [] (d ∷ ds) m p g = absurd (omega (arith, m))
-gapOfStop-same-places n starts (c ∷ cs) [] m p g = absurd (omega (arith, m))
-gapOfStop-same-places n starts (c ∷ []) (d ∷ []) m p g = p 0 (omega arith)
-gapOfStop-same-places n starts (c ∷ []) (d ∷ e ∷ ds) m p g = absurd (omega (arith, m))
-gapOfStop-same-places n starts (b ∷ c ∷ cs) (d ∷ []) m p g = absurd (omega (arith, m))
-gapOfStop-same-places n starts (b ∷ c ∷ cs) (d ∷ e ∷ ds) m p g =
-    ap leastOf (pairsOf-same-places (gapOfCalls n starts) (b ∷ c ∷ cs) (d ∷ e ∷ ds) noCall m g)
 
 module _ {n : Net} (v : Valid n) where
   module _ {s t : ℕ} (a : Alike n s t) where
@@ -85,6 +68,6 @@ module _ {n : Net} (v : Valid n) where
   pub alike-same-gap : {s t : ℕ} → Alike n s t → (starts : List ℤ) → stopGap n starts s ≡ stopGap n starts t
   alike-same-gap {s} {t} a starts =
       sym (stopGap-ordered starts s)
-      ∙ gapOfStop-same-places n starts (ordered n s) (ordered n t) (same-length n s t (a .same-lines)) (period-is a)
+      ∙ gapOfStop-same-places n n starts starts (ordered n s) (ordered n t) (same-length n s t (a .same-lines)) (period-is a)
       (λ j k h l. same-gap a starts j k (omega (arith, h, l)) l)
       ∙ stopGap-ordered starts t

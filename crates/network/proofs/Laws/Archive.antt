@@ -1,36 +1,33 @@
 -- The archive form: a file that states a valid network by lines, calls and the end is read back as that network, since each command passes and adds
 -- what it states; so the archive form is read as the network with its calls in order, and settles the network. Assumes nothing.
-use Prim.Native.Nat.{ℕ, zero, suc, _+_, _*_, _/_, _%_, _<_, _≤_}
+use Prim.Native.Nat.{ℕ, zero, suc, _+_, _*_, _<_, _≤_}
 use mathlib.Core.Path.{_≡_, refl, sym, ap, ap₂, subst, _∙_}
 use mathlib.Core.Bool.{_&&_}
 use mathlib.Core.List.{List, [], _∷_, _++_, append-assoc, append-nil, List·Permᴰ, Permᴰ·symm}
-use mathlib.Core.Logic.{_↔_}
 use native.Mathlib.Nat.{div-add-mod'}
 use native.Mathlib.Omega.{arith}
-use lib.Dec.{eqb, ltb, leb}
+use lib.Dec.{eqb}
 use lib.ListN.{length, getD, take, drop, set, length-append}
 use lib.Seq.{getD-append-seam, take-at, drop-append-add, drop-drop}
 use Rattle.network.specs.declared.Call.{Call}
-use Rattle.network.specs.declared.Check.the-variants.{Passes}
 use Rattle.network.specs.Archive.{wordBytes, lineBytes, callBytes, fileOf, tidied, archive, archiveLength, SameNetwork}
-use Rattle.network.specs.Divisor.{lcm, commonCycle}
-use Rattle.network.specs.Grounds.{first, grounds}
-use Rattle.network.specs.Lists.{joined, keep}
-use Rattle.network.specs.Network.{Net, netWith, soFar, nothingRead, statesLine, callsByOffset, ends, command, operandBytes}
+use Rattle.network.specs.Divisor.{commonCycle}
+use Rattle.network.specs.Grounds.{first}
+use Rattle.network.specs.Lists.{joined}
+use Rattle.network.specs.Network.{Net, netWith, soFar, nothingRead, callsByOffset, command, operandBytes}
 use Rattle.network.specs.Network.{maxLines, maxPeriod, maxCycle, maxStop, maxOffset, maxCalls, maxCallsAtStop}
 use Rattle.network.specs.Network.{cycle, howOftenAt, callsAnywhere, word, lineOperand, stopOperand, statedOffset, callOf, withLine, withCall, extend}
-use Rattle.network.specs.Reading.{Reading, accepted, readFrom, readFile}
-use Rattle.network.specs.Tidy.{tidy, howOften}
+use Rattle.network.specs.Reading.{accepted, readFrom, readFile}
+use Rattle.network.specs.Tidy.{tidy}
 use Rattle.network.specs.Valid.{IsBytes, noCall, Valid}
 use Rattle.network.proofs.Laws.Divisor.{commonCycle-snoc, commonCycle-prefix-le}
-use Rattle.network.proofs.Laws.Grounds.{LineFits, CallFits, EndFits, line-fits-passes, offset-fits-passes, end-fits-passes}
+use Rattle.network.proofs.Laws.Grounds.{LineFits, CallFits, line-fits-passes, offset-fits-passes, end-fits-passes}
 use Rattle.network.proofs.Laws.Joined.{length-joined, sets-behind}
 use Rattle.network.proofs.Laws.Lists.{zero-ne-one}
 use Rattle.network.proofs.Laws.Members.{All}
 use Rattle.network.proofs.Laws.Often.{howOftenAt-before}
-use Rattle.network.proofs.Laws.Packed.{InLimits}
-use Rattle.network.proofs.Laws.Placed.{limits}
-use Rattle.network.proofs.Laws.Permuted.{length-permuted, all-permuted, any-permuted, keep-permuted}
+use Rattle.network.proofs.Laws.Packed.{InLimits, limits}
+use Rattle.network.proofs.Laws.Permutations.{length-permuted, all-permuted, any-permuted, keep-permuted}
 use Rattle.network.proofs.Laws.Reading.{read-onward, read-ended}
 use Rattle.network.proofs.Laws.Tidy.{length-tidy, tidy-is-permutation, tidy-tidy, howOften-of-tidy, tidy-of-howOften}
 

@@ -16,12 +16,13 @@ use Rattle.network.specs.Valid.{noCall, Valid}
 use Rattle.network.specs.Gap.{trip, distance}
 use Rattle.network.specs.Rating.{arrivalOf, periodOf, CallsThere, IsStopGap, gapOfCalls, callsOfStop, stopGap}
 use Rattle.network.specs.ByLines.{LineCallsThere, Reaches, IsLinesGap, IsStopGapOfLines, least-of-lines, period-of-line}
-use Rattle.network.proofs.Laws.Members.{AllPairs}
-use Rattle.network.proofs.Laws.Gap.{distance-comm}
+use Rattle.network.proofs.Laws.Members.{AllPairs, place-of-member}
 use Rattle.network.proofs.Laws.Often.{no-line-twice}
+use Rattle.network.proofs.Laws.Gap.{distance-comm}
 use Rattle.network.proofs.Laws.Pairs.{gapOfStop-attained, gapOfStop-single}
-use Rattle.network.proofs.Laws.StopGap.{callAt, IsNumber, served-of-call, call-of-served, callsOfStop-has, callsOfStop-all, callsOfStop-pairs}
-use Rattle.network.proofs.Laws.StopGap.{gapAt, gap-of-calls, stopGap-le-calls, stopGap-is-stop-gap, IsStopGap-served, IsStopGap-unique}
+use Rattle.network.proofs.Laws.StopGap.{callAt, IsNumber, served-of-call, call-of-served, callsOfStop-member, callsOfStop-all}
+use Rattle.network.proofs.Laws.StopGap.{callsOfStop-pairs, gapAt, gap-of-calls, stopGap-le-calls, stopGap-is-stop-gap}
+use Rattle.network.proofs.Laws.StopGap.{IsStopGap-served, IsStopGap-unique}
 
 -- A call of the line there, as a call there; and a call of the stop as one of its line
 by-call : {n : Net} {line stop k : ℕ} → LineCallsThere n line stop k → CallsThere n stop k
@@ -96,24 +97,24 @@ module _ {n : Net} (valid : Valid n) where
         different : r .call ≡ s .call → ⊥
         different e = f (sym (r .there .of-line) ∙ ap (λ k. callAt n k .line) e ∙ s .there .of-line)
 
-    stop-gap-of-pairs : (stop : ℕ) → 1 < length (callsOfStop n stop) → IsStopGapOfLines n starts stop (stopGap n starts stop)
+    lines-gap-of-pairs : (stop : ℕ) → 1 < length (callsOfStop n stop) → IsStopGapOfLines n starts stop (stopGap n starts stop)
     unfolding stopGap
-    stop-gap-of-pairs stop h =
+    lines-gap-of-pairs stop h =
         let (j, k, l, m, e) = gapOfStop-attained n starts (callsOfStop n stop) h in
         let (c, d, o, p, q) = callsOfStop-pairs n stop j k l m in
         least-of-lines _ _ (callsOfStop-lines-differ stop j k l m)
         (subst (IsLinesGap n starts stop _ _) (ap₂ (gapOfCalls n starts) (p .1) (q .1) ∙ e) (lines-gap-of-calls (of-number n stop p) (of-number n stop q)))
         (λ i j v f g. let (x, y, r, s, e) = g .attained in subst (λ w. stopGap n starts stop ≤ w) e (never-closer f r s))
 
-    stop-gap-of-one : (stop : ℕ) → length (callsOfStop n stop) ≡ 1 → IsStopGapOfLines n starts stop (stopGap n starts stop)
+    lines-gap-of-one : (stop : ℕ) → length (callsOfStop n stop) ≡ 1 → IsStopGapOfLines n starts stop (stopGap n starts stop)
     unfolding stopGap periodOf
-    stop-gap-of-one stop h =
+    lines-gap-of-one stop h =
         let (c, p) = callsOfStop-all n stop 0 (omega arith) in
         subst (IsStopGapOfLines n starts stop) (sym (gapOfStop-single n starts (callsOfStop n stop) h)) (period-of-line _ (c, of-number n stop p) only)
       where
         only : (j call : ℕ) → LineCallsThere n j stop call → j ≡ getD (callsOfStop n stop) 0 noCall .line
         only j call q =
-            let (i, l, e) = callsOfStop-has n stop (by-call q) in
+            let (i, l, e) = place-of-member (callsOfStop n stop) noCall (callsOfStop-member n stop (by-call q)) in
             let first : i ≡ 0 = omega arith in
             sym (q .of-line) ∙ ap (λ (c : Call). c .line) (sym e) ∙ ap (λ (i : ℕ). getD (callsOfStop n stop) i noCall .line) first
 
@@ -122,9 +123,9 @@ pub stopGap-is-stop-gap-of-lines : (n : Net) → Valid n → (starts : List ℤ)
 stopGap-is-stop-gap-of-lines n valid starts stop e = go (length (callsOfStop n stop)) refl
   where
     go : (l : ℕ) → length (callsOfStop n stop) ≡ l → IsStopGapOfLines n starts stop (stopGap n starts stop)
-    go zero f = let (k, c) = call-of-served n stop e in let (i, h, g) = callsOfStop-has n stop c in absurd (omega arith)
-    go (suc zero) f = stop-gap-of-one valid starts stop f
-    go (suc (suc l)) f = stop-gap-of-pairs valid starts stop (omega arith)
+    go zero f = let (k, c) = call-of-served n stop e in let (i, h, g) = place-of-member (callsOfStop n stop) noCall (callsOfStop-member n stop c) in absurd (omega arith)
+    go (suc zero) f = lines-gap-of-one valid starts stop f
+    go (suc (suc l)) f = lines-gap-of-pairs valid starts stop (omega arith)
 
 -- ---- each gap is one number
 
@@ -141,13 +142,13 @@ module _ {n : Net} {starts : List ℤ} {stop : ℕ} where
       record { attained = (y, x, s, r, distance-comm y x ∙ e); least = λ y x s r. rw (distance-comm y x) (g .least x y r s) }
 
   -- Two lines that reach the stop are one, where all of its calls are of one line
-  same-line : {i j k v : ℕ} → IsLinesGap n starts stop i j v → ((l call : ℕ) → LineCallsThere n l stop call → l ≡ k) → i ≡ j
-  same-line g o = let (x, y, r, s, e) = g .attained in o _ (r .call) (r .there) ∙ sym (o _ (s .call) (s .there))
+  line-of-only : {i j k v : ℕ} → IsLinesGap n starts stop i j v → ((l call : ℕ) → LineCallsThere n l stop call → l ≡ k) → i ≡ j
+  line-of-only g o = let (x, y, r, s, e) = g .attained in o _ (r .call) (r .there) ∙ sym (o _ (s .call) (s .there))
 
   pub IsStopGapOfLines-same : {v w : ℕ} → IsStopGapOfLines n starts stop v → IsStopGapOfLines n starts stop w → v ≡ w
   IsStopGapOfLines-same (least-of-lines i j f g h) (least-of-lines k l o q m) = le-antisymm (h k l _ o q) (m i j _ f g)
-  IsStopGapOfLines-same (least-of-lines i j f g h) (period-of-line k c o) = absurd (f (same-line g o))
-  IsStopGapOfLines-same (period-of-line k c o) (least-of-lines i j f g h) = absurd (f (same-line g o))
+  IsStopGapOfLines-same (least-of-lines i j f g h) (period-of-line k c o) = absurd (f (line-of-only g o))
+  IsStopGapOfLines-same (period-of-line k c o) (least-of-lines i j f g h) = absurd (f (line-of-only g o))
   IsStopGapOfLines-same (period-of-line i c o) (period-of-line k d q) = ap (λ (l : ℕ). getD (n .periods) l 0) (q i (c .0) (c .1))
 
   pub IsStopGapOfLines-served : {v : ℕ} → IsStopGapOfLines n starts stop v → isServed stop (n .calls) ≡ true

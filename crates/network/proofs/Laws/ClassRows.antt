@@ -1,11 +1,11 @@
 -- How the rows of the class call come about: the first stop below that is alike is the lowest alike, and stop by stop the rows hold the
 -- classes and the sizes so far. Assumes nothing.
-use Prim.Native.Nat.{ℕ, zero, suc, _+_, _<_, _≤_}
+use Prim.Native.Nat.{ℕ, _+_, _<_, _≤_}
 use mathlib.Core.Path.{_≡_, refl, sym, ap, ap₂, _∙_}
 use mathlib.Core.Bool.{Bool, true, false, _&&_, and-eq-true-iff}
 use mathlib.Core.List.{List}
 use native.Mathlib.Decide.{decLt, ℕ-discrete}
-use native.Mathlib.Nat.{add-zero, le-refl}
+use native.Mathlib.Nat.{add-zero}
 use native.Mathlib.Omega.{arith}
 use lib.Arith.{lt-of-le-ne}
 use lib.Dec.{eqb}
@@ -16,11 +16,11 @@ use Rattle.network.specs.Lists.{pick, countBelow}
 use Rattle.network.specs.Network.{Net, isServed}
 use Rattle.network.specs.Valid.{Valid}
 use Rattle.network.specs.Classes.{isAlike, lowestAlike, isLowest, classRow, weightRow, classCount}
-use Rattle.network.proofs.Laws.Lists.{zero-ne-one, countBelow-next}
-use Rattle.network.proofs.Laws.Tables.{IsFirst}
+use Rattle.network.proofs.Laws.Lists.{zero-ne-one}
+use Rattle.network.proofs.Laws.Tables.{countBelow-next, IsFirst, countBelow-zero}
 use Rattle.network.proofs.Laws.Alike.{alike-is-alike, alike-refl}
-use Rattle.network.proofs.Laws.Classes.{first-alike, lowestAlike-le, lowestAlike-isLowest, isInClassOf}
-use Rattle.network.proofs.Laws.Classes.{length-classRow, length-weightRow, classRow-at, weightRow-at}
+use Rattle.network.proofs.Laws.Classes.{first-alike, lowestAlike-le, lowestAlike-isLowest, isInClassOf, length-classRow}
+use Rattle.network.proofs.Laws.Classes.{length-weightRow, classRow-at, weightRow-at}
 
 -- ---- the lowest stop alike to a stop
 
@@ -47,11 +47,6 @@ pub lowestAlike-none : {n : Net} → Valid n → (s : ℕ) → s < 64 → isServ
 lowestAlike-none {n} v s h e = lowestAlike-found n s s h (alike-is-alike v s s .1 (alike-refl n s e))
 
 -- ---- the rows, stop by stop
-
-countBelow-zero : (p : ℕ → Bool) (n : ℕ) → ((i : ℕ) → i < n → p i ≡ false) → countBelow p n ≡ 0
-unfolding countBelow
-countBelow-zero p zero h = refl
-countBelow-zero p (suc n) h = ap₂ (λ (k : ℕ) (t : Bool). k + pick t 1 0) (countBelow-zero p n (λ i l. h i (omega arith))) (h n (le-refl _))
 
 -- The class row's value at a stop
 abbrev pub classAt : Net → ℕ → ℕ
@@ -85,7 +80,7 @@ module _ (n : Net) (t : ℕ) where
   classAt-lowest h = classAt-in t h
 
 -- The rows and the number of classes after so many stops
-pub record Filled (n : Net) (classes weights : List ℕ) (count stop : ℕ) : Type 0 where
+pub record ClassesFilled (n : Net) (classes weights : List ℕ) (count stop : ℕ) : Type 0 where
   pub low : stop ≤ 64
   pub class-row : length classes ≡ 64
   pub weight-row : length weights ≡ 64
@@ -93,9 +88,9 @@ pub record Filled (n : Net) (classes weights : List ℕ) (count stop : ℕ) : Ty
   pub weights-are : (s : ℕ) → s < stop → getD weights s 0 ≡ countBelow (isInClassOf n s) stop
   pub count-is : count ≡ countBelow (isLowest n) stop
 
-pub filled-none : (n : Net) (classes weights : List ℕ) → length classes ≡ 64 → length weights ≡ 64 → Filled n classes weights 0 0
+pub classes-filled-none : (n : Net) (classes weights : List ℕ) → length classes ≡ 64 → length weights ≡ 64 → ClassesFilled n classes weights 0 0
 unfolding countBelow
-filled-none n classes weights c w =
+classes-filled-none n classes weights c w =
     record {
       low = omega arith;
       class-row = c;
@@ -106,7 +101,7 @@ filled-none n classes weights c w =
     }
 
 -- One stop more
-module _ {n : Net} (v : Valid n) (classes weights : List ℕ) (count stop : ℕ) (f : Filled n classes weights count stop) (h : stop < 64) where
+module _ {n : Net} (v : Valid n) (classes weights : List ℕ) (count stop : ℕ) (f : ClassesFilled n classes weights count stop) (h : stop < 64) where
   abbrev pub zeroed : List ℕ
   zeroed = set weights stop 0
 
@@ -171,7 +166,7 @@ module _ {n : Net} (v : Valid n) (classes weights : List ℕ) (count stop : ℕ)
 
     module _ (more : ℕ) (e : more ≡ countBelow (isLowest n) (stop + 1)) where
       filled-with : (row : List ℕ) → length row ≡ 64 → ((s : ℕ) → s < stop + 1 → getD row s 0 ≡ countBelow (isInClassOf n s) (stop + 1))
-          → Filled n (set classes stop at) row more (stop + 1)
+          → ClassesFilled n (set classes stop at) row more (stop + 1)
       filled-with row l are =
           record {
             low = omega arith;
@@ -182,10 +177,10 @@ module _ {n : Net} (v : Valid n) (classes weights : List ℕ) (count stop : ℕ)
             count-is = e;
           }
 
-      pub filled-served : at < 64 → Filled n (set classes stop at) (set zeroed at (getD zeroed at 0 + 1)) more (stop + 1)
+      pub filled-served : at < 64 → ClassesFilled n (set classes stop at) (set zeroed at (getD zeroed at 0 + 1)) more (stop + 1)
       filled-served g = filled-with _ (length-set zeroed at _ ∙ length-set weights stop 0 ∙ f .weight-row) (weights-counted g)
 
-      pub filled-unserved : 64 ≤ at → Filled n (set classes stop at) zeroed more (stop + 1)
+      pub filled-unserved : 64 ≤ at → ClassesFilled n (set classes stop at) zeroed more (stop + 1)
       filled-unserved g = filled-with zeroed (length-set weights stop 0 ∙ f .weight-row) (weights-passed g)
 
 -- ---- all stops
@@ -206,7 +201,7 @@ module _ {n : Net} (v : Valid n) where
       go true e = refl
       go false e = countBelow-zero _ 64 (λ t h. none e t h _ refl)
 
-  module _ (classes weights : List ℕ) (count : ℕ) (f : Filled n classes weights count 64) where
+  module _ (classes weights : List ℕ) (count : ℕ) (f : ClassesFilled n classes weights count 64) where
     pub filled-classes : classes ≡ classRow n
     filled-classes =
         ext-getD 0 classes (classRow n) (f .class-row ∙ sym (length-classRow n))

@@ -19,8 +19,9 @@ use Rattle.network.specs.Rating.{Counted, servedList, eachOnce, counted,
 use Rattle.network.specs.Classes.{Alike, isAlike, lowestAlike, isLowest, classRow, weightRow, classCount, lowestStops}
 use Rattle.network.proofs.Laws.Lists.{zero-ne-one, and-both}
 use Rattle.network.proofs.Laws.Tables.{IsFirst, firstBelow-is-first, length-table, getD-table, below-of-member, below-same}
-use Rattle.network.proofs.Laws.Tables.{countBelow-length, sumOf-same, sumOf-one, sumOf-map}
-use Rattle.network.proofs.Laws.Representatives.{Represents, sumOf-representatives, leastOf-representatives}
+use Rattle.network.proofs.Laws.Tables.{countBelow-length}
+use Rattle.network.proofs.Laws.Sums.{sumOf-same, sumOf-one, sumOf-map}
+use Rattle.network.proofs.Laws.Representatives.{StandsForEach, sumOf-representatives, leastOf-representatives}
 use Rattle.network.proofs.Laws.Alike.{served-le-maxStop, alike-is-alike, alike-refl, alike-sym, alike-trans}
 use Rattle.network.proofs.Laws.AlikeGap.{alike-same-gap}
 
@@ -116,7 +117,7 @@ weightRow-sum n s m =
 -- ---- the rating over the lowest stops
 
 module _ {n : Net} (v : Valid n) where
-  represents : Represents (λ s. isServed s (n .calls)) (lowestAlike n) (suc maxStop)
+  represents : StandsForEach (λ s. isServed s (n .calls)) (lowestAlike n) (suc maxStop)
   represents =
       record {
         bound = λ s h e. omega (arith, lowestAlike-le v s e);
@@ -125,19 +126,19 @@ module _ {n : Net} (v : Valid n) where
       }
 
   module _ (starts : List ℤ) where
-    same-gap : (s : ℕ) → s < suc maxStop → isServed s (n .calls) ≡ true → stopGap n starts (lowestAlike n s) ≡ stopGap n starts s
-    same-gap s h e = alike-same-gap v (lowestAlike-alike v s e) starts
+    lowest-same-gap : (s : ℕ) → s < suc maxStop → isServed s (n .calls) ≡ true → stopGap n starts (lowestAlike n s) ≡ stopGap n starts s
+    lowest-same-gap s h e = alike-same-gap v (lowestAlike-alike v s e) starts
 
     pub lowest-least : leastOf (map (stopGap n starts) (below (isLowest n) (suc maxStop))) ≡ leastOf (map (stopGap n starts) (servedList n))
     unfolding isLowest servedList
-    lowest-least = leastOf-representatives _ (lowestAlike n) (suc maxStop) represents (stopGap n starts) same-gap
+    lowest-least = leastOf-representatives _ (lowestAlike n) (suc maxStop) represents (stopGap n starts) lowest-same-gap
 
     -- where each stop has a weight, and a lowest stop those of its class
     pub lowest-sum : (w : ℕ → ℕ)
         → sumOf (λ s. sumOf w (below (isInClassOf n s) (suc maxStop)) * stopGap n starts s) (below (isLowest n) (suc maxStop))
         ≡ sumOf (λ s. w s * stopGap n starts s) (servedList n)
     unfolding isLowest servedList
-    lowest-sum w = sumOf-representatives _ (lowestAlike n) (suc maxStop) represents (stopGap n starts) same-gap w
+    lowest-sum w = sumOf-representatives _ (lowestAlike n) (suc maxStop) represents (stopGap n starts) lowest-same-gap w
 
 pub lowest-rating : (n : Net) → Valid n → (starts : List ℤ) → ratingOver n starts (lowestStops (classRow n) (weightRow n)) ≡ rating n starts
 unfolding rating ratingOver ratingBy counted eachOnce

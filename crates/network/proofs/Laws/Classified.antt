@@ -10,7 +10,7 @@ use Rattle.network.specs.Lists.{pick, countBelow}
 use Rattle.network.specs.Network.{Net, maxStop, stopCount, isServed}
 use Rattle.network.specs.Valid.{Valid}
 use Rattle.network.specs.Classes.{Alike, lowestAlike, isLowest, unserved, classRow, weightRow, classCount}
-use Rattle.network.proofs.Laws.Lists.{countBelow-same}
+use Rattle.network.proofs.Laws.Tables.{countBelow-same}
 use Rattle.network.proofs.Laws.Classes.{isInClassOf, lowestAlike-alike, lowestAlike-lowest, classRow-at, weightRow-at}
 use Rattle.network.proofs.Laws.ClassRows.{classAt-in, weight-is}
 

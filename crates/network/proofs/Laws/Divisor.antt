@@ -3,7 +3,7 @@
 use Prim.Native.Nat.{ℕ, zero, suc, _+_, _*_, _/_, _%_, _≤_, _<_, _∣_, suc-le-suc}
 use native.Mathlib.Nat.{dvd-trans, dvd-mul-left, dvd-add, dvd-add-iff-right, dvd-antisymm, dvd-of-mul-dvd-mul-right, mul-dvd-mul-left}
 use native.Mathlib.Nat.{div-mul-cancel, le-of-dvd, pos-of-dvd-of-pos, eq-zero-or-pos, div-add-mod', mod-lt, mul-pos, mul-comm, mul-one}
-use native.Mathlib.Nat.{zero-lt-suc, le-refl, le-of-suc-le-suc, not-suc-le-zero}
+use native.Mathlib.Nat.{le-div-iff-mul-le, zero-lt-suc, le-refl, le-of-suc-le-suc, not-suc-le-zero}
 use native.Mathlib.Omega.{arith}
 use mathlib.Core.Path.{_≡_, refl, sym, ap, subst, _∙_}
 use mathlib.Core.Logic.{_⊎_, inl, inr}
@@ -29,6 +29,9 @@ le-of-divides d n h p = le-of-dvd p (dvd-of-divides d n h)
 
 pub pos-of-divides : (d n : ℕ) → Divides d n → 0 < n → 0 < d
 pos-of-divides d n h p = pos-of-dvd-of-pos (dvd-of-divides d n h) p
+
+pub quotient-pos : (d n : ℕ) → Divides d n → 0 < n → 0 < n / d
+quotient-pos d n h k = le-div-iff-mul-le (pos-of-divides d n h k) .1 (omega (arith, le-of-divides d n h k))
 
 pub divides-refl : (d : ℕ) → Divides d d
 unfolding Divides

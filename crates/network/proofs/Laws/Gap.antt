@@ -1,10 +1,10 @@
 -- The formula of theorem 3.1.2 gives the gap of two lines, over all trips and over those from 0 on, and the laws of that formula and of
 -- residues: the differences of two trips are all the integers of one residue by the periods' greatest common divisor. Assumes nothing.
-use Prim.Native.Nat.{ℕ, suc, _+_, _*_, _-_, _/_, _%_, _≤_, _<_}
+use Prim.Native.Nat.{ℕ, suc, _+_, _*_, _-_, _/_, _%_, _≤_, _<_, min}
 use native.Mathlib.Nat.{mod-lt, mod-le, mod-eq-of-lt, div-add-mod', add-mul-mod-self-right}
 use native.Mathlib.Nat.{eq-zero-or-pos, le-antisymm, le-mul-of-pos-right}
 use native.Mathlib.Omega.{arith, min-cases}
-use mathlib.Core.Path.{_≡_, sym, ap, subst, _∙_}
+use mathlib.Core.Path.{_≡_, refl, sym, ap, subst, _∙_}
 use mathlib.Core.Logic.{_⊎_, inl, inr}
 use lib.IntN.{ℤ, pos, negsuc, natAbs, subℕ, _+ℤ_, _-ℤ_, _*ℤ_, zero-*ℤ, +ℤ-idr}
 use Rattle.network.specs.Divisor.{gcd}
@@ -16,10 +16,17 @@ use Rattle.network.proofs.Laws.Integers.{natAbs-of-difference}
 
 -- ---- residues
 
+pub residue-pos : (n g : ℕ) → residue (pos n) g ≡ n % g
+unfolding residue
+residue-pos n g = refl
+
 pub residue-lt : (x : ℤ) (g : ℕ) → 0 < g → residue x g < g
 unfolding residue
 residue-lt (pos n) g h = mod-lt n h
 residue-lt (negsuc n) g h = omega arith
+
+pub residue-of-residue : (x : ℤ) (t : ℕ) → 0 < t → residue x t ≡ residue (pos (residue x t)) t
+residue-of-residue x t h = sym (residue-pos (residue x t) t ∙ mod-eq-of-lt (residue-lt x t h))
 
 -- x is its residue and some multiple of g
 residue-balance : (x : ℤ) (g : ℕ) → 0 < g → (k : ℕ) × (l : ℕ) × (up x + l * g ≡ residue x g + k * g + dn x)
@@ -66,6 +73,10 @@ gapOf-residue a b c d t u e = ap (fold (gcd t u)) e
 
 -- ---- the least magnitude of the integers of one residue
 
+pub fold-is : (g d : ℕ) → fold g d ≡ min d (g - d)
+unfolding fold
+fold-is g d = refl
+
 fold-residue-le : (x : ℤ) (g : ℕ) → fold g (residue x g) ≤ natAbs x
 unfolding fold residue
 fold-residue-le (pos n) g = omega (arith, mod-le n g)
@@ -83,13 +94,22 @@ fold-residue-attained x g h =
     x+mg : (l k : ℕ) → IsDifference (x +ℤ subℕ l k *ℤ pos g) (up x + l * g) (dn x + k * g)
     x+mg l k = difference-add-multiple (difference x) (difference-subℕ l k) g
 
+-- ---- trips as differences of naturals
+
+pub difference-trip : {a k : ℤ} {p n q m : ℕ} → IsDifference a p n → IsDifference k q m → (t : ℕ) → IsDifference (trip a t k) (p + q * t) (n + m * t)
+unfolding trip
+difference-trip h i t = difference-add-multiple h i t
+
+pub distance-of-difference : {x y : ℤ} {p n q m : ℕ} → IsDifference x p n → IsDifference y q m → distance x y ≡ (p + m - (n + q)) + (n + q - (p + m))
+unfolding distance
+distance-of-difference h i = natAbs-of-difference (difference-sub h i)
+
 -- ---- the differences of two trips
 
 module _ (a : ℤ) (t : ℕ) (b : ℤ) (u : ℕ) where
   difference-trips : {j k : ℤ} {p n q m : ℕ} → IsDifference j p n → IsDifference k q m
       → IsDifference (trip a t j -ℤ trip b u k) (up a + p * t + (dn b + m * u)) (dn a + n * t + (up b + q * u))
-  unfolding trip
-  difference-trips h i = difference-sub (difference-add-multiple (difference a) h t) (difference-add-multiple (difference b) i u)
+  difference-trips h i = difference-sub (difference-trip (difference a) h t) (difference-trip (difference b) i u)
 
   difference-multiple : {m : ℤ} {p n : ℕ} → IsDifference m p n
       → IsDifference (a -ℤ b +ℤ m *ℤ pos (gcd t u)) (up a + dn b + p * gcd t u) (dn a + up b + n * gcd t u)
@@ -176,11 +196,8 @@ IsGapFromZero-unique g h = le-antisymm (least-le-attained (g .least) (h .attaine
 -- ---- laws of the formula
 
 pub distance-comm : (x y : ℤ) → distance x y ≡ distance y x
-unfolding distance
 distance-comm x y =
-    let e = natAbs-of-difference (difference-sub (difference x) (difference y)) in
-    let f = natAbs-of-difference (difference-sub (difference y) (difference x)) in
-    omega arith
+    omega (arith, distance-of-difference (difference x) (difference y), distance-of-difference (difference y) (difference x))
 
 pub IsGap-symmetric : {a : ℤ} {t : ℕ} {b : ℤ} {u v : ℕ} → IsGap a t b u v → IsGap b u a t v
 IsGap-symmetric {a} {t} {b} {u} g =

@@ -1,39 +1,38 @@
 -- The laws on gaps and ratings that other crates use. Assumes nothing.
 
--- two lines: theorem 3.1.2, and no two arrivals closer than the gap
-pub use Rattle.network.proofs.Laws.Gap.{theorem-3-1-2, IsGap-unique, gapOf-symmetric, gapOf-half}
-pub use Rattle.network.proofs.Laws.Gap.{residue-lt, residue-of-add, residue-eq-of-multiple, multiple-of-residue-eq}
-pub use Rattle.network.proofs.Laws.ByLines.{lines-gap-of-calls, IsLinesGap-unique, IsLinesGap-symmetric}
-pub use Rattle.network.proofs.Laws.ByLines.{never-closer, stop-gap-by-lines}
--- the calls of a stop: its gap is the least over their pairs, at most half of any g; with one call, the period
-pub use Rattle.network.proofs.Laws.Pairs.{gapOfCalls-symmetric, gapOfCalls-half, IsPairGap, gapOfStop-le-pair, gapOfStop-attained}
-pub use Rattle.network.proofs.Laws.Pairs.{gapOfStop-half, gapOfStop-single, gapOfStop-cong, gapOfStop-periods}
-pub use Rattle.network.proofs.Laws.StopGap.{callsOfStop-period-pos, call-of-served, stopGap-le-calls}
--- leasts over lists, in which these are stated
-pub use Rattle.network.proofs.Laws.Members.{Has, All, AllPairs}
-pub use Rattle.network.proofs.Laws.Least.{leastOf-cons, leastOf-append, leastOf-has, leastOf-le, leastOf-unique, leastOf-same}
-pub use Rattle.network.proofs.Laws.Scan.{leastOf-cons as leastOf-leastFrom, leastFrom-le}
-pub use Rattle.network.proofs.Laws.Least.{leastOf-map-has, leastOf-map-le}
--- the least gap of a call to those before it at its stop, and the rating of rows of gaps
-pub use Rattle.network.proofs.Laws.Scan.{leastFrom-append, leastFrom-min, pairsOf-snoc, pairGaps-snoc}
-pub use Rattle.network.proofs.Laws.Scan.{callsBefore-hit, callsBefore-miss, callsBefore-lastAt, lastAt-le, lastAt-landed, step-back}
-pub use Rattle.network.proofs.Laws.Scan.{Scanned, scanned-none, scanned-passed, getD-zeros, keep-append, keep-all}
-pub use Rattle.network.proofs.Laws.Rate.{ratingBy-same, counted-of-member, counted-served}
+-- two lines: theorem 3.1.2, trips as differences, and residues
+pub use Rattle.network.proofs.Laws.Gap.{theorem-3-1-2, difference-trip, distance-of-difference, fold-is}
+pub use Rattle.network.proofs.Laws.Gap.{residue-pos, residue-lt, residue-of-residue, residue-of-add, residue-eq-of-multiple, multiple-of-residue-eq}
+-- two calls: their gap by the formula, of which only their lines' starts and periods count
+pub use Rattle.network.proofs.Laws.Pairs.{arrivalOf-pos, gapOfCalls-is-gapOf, gapOfCalls-is-fold, SameStart, gapOfCalls-local}
+pub use Rattle.network.proofs.Laws.StopGap.{periodOf-is, periodOf-pos, periodOf-le, period-divides-cycle}
+-- any calls: their gap is the least over their pairs, at most half of any g; with one call, the period
+pub use Rattle.network.proofs.Laws.Pairs.{gapOfStop-le-pair, gapOfStop-attained, gapOfStop-none, gapOfStop-single, gapOfStop-half, gapOfStop-cong}
+pub use Rattle.network.proofs.Laws.Pairs.{leastFrom-pairGaps-few, leastFrom-pairGaps-more}
+pub use Rattle.network.proofs.Laws.Permuted.{gapOfStop-permuted}
+-- the calls of a stop
+pub use Rattle.network.proofs.Laws.StopGap.{callsOfStop-is, callsOfStop-stated, callsOfStop-period-pos, served-of-call, stopGap-is}
+pub use Rattle.network.proofs.Laws.ByLines.{stop-gap-by-lines}
+-- those among the first calls, and the row that leads back through them
+pub use Rattle.network.proofs.Laws.Scan.{callsBefore-none, callsBefore-is, callsBefore-all, callsBefore-hit, callsBefore-miss}
+pub use Rattle.network.proofs.Laws.Scan.{length-callsBefore, callsOfStop-held, leastFrom-pairGaps-snoc}
+pub use Rattle.network.proofs.Laws.Scan.{leadsBack-at, leadsBack-fewer, leadsBack-same, callsBefore-lastAt, lastAt-le, lastAt-landed, step-back}
+pub use Rattle.network.proofs.Laws.Scan.{Scanned, scanned-none, scanned-passed}
 -- an accepted network and its common cycle
-pub use Rattle.network.proofs.Laws.Valid.{accepted-valid, cycle-multiple, cycle-pos}
--- a stop and the rating, over all trips
-pub use Rattle.network.proofs.Laws.StopGap.{stopGap-is-stop-gap, IsStopGap-unique, IsStopGap-served}
-pub use Rattle.network.proofs.Laws.Rating.{servedList-all, servedList-has, servedList-some, counted-served-stop, counted-some, ratingBy-counted, rating-least, rating-sum}
-pub use Rattle.network.proofs.Laws.Rating.{ratingOver-is-rating, IsRatingOver-same, rating-is-rating, IsRating-unique, ratingOver-cong, rating-cong}
+pub use Rattle.network.proofs.Laws.Valid.{accepted-valid, cycle-pos}
+-- the served stops, and the rating by any values of them, gaps or upper values
+pub use Rattle.network.proofs.Laws.Rating.{servedList-member, sumOf-served-other, ratingBy-counted, ratingBy-some, ratingBy-numbers}
+pub use Rattle.network.proofs.Laws.Rating.{ratingBy-least-mono, ratingBy-sum-mono}
+pub use Rattle.network.proofs.Laws.Rate.{ratingBy-same, counted-of-member, counted-served}
+-- the rating, and over all trips
+pub use Rattle.network.proofs.Laws.Rating.{rating-is-ratingBy, rating-some, rating-numbers, rating-is-rating, IsRating-unique}
 -- starts that rate alike
-pub use Rattle.network.proofs.Laws.Starts.{SameResidues, stopGap-residues, rating-residues}
-pub use Rattle.network.proofs.Laws.Starts.{stopGap-moved-together, rating-moved-together}
-pub use Rattle.network.proofs.Laws.Starts.{movedByPeriod, stopGap-moved-by-period, rating-moved-by-period}
--- calls in another order
-pub use Rattle.network.proofs.Laws.Permuted.{length-permuted, all-permuted, keep-permuted}
-pub use Rattle.network.proofs.Laws.Permuted.{gapOfStop-permuted, counted-permuted, stopGap-permuted, rating-permuted}
+pub use Rattle.network.proofs.Laws.Starts.{rating-residues, rating-moved-together}
+-- two files of one network: the same periods, and the calls of each stop in another order
+pub use Rattle.network.proofs.Laws.SameNetwork.{tidied-same, callsOfStop-tidied, periods-tidied, cycle-tidied, periodOf-tidied, pairGaps-tidied}
+pub use Rattle.network.proofs.Laws.SameNetwork.{counted-tidied}
 -- the order of ratings
-pub use Rattle.network.proofs.Laws.Order.{Above, above-of-isAbove, isAbove-of-above, below-of-not-isAbove, isAbove-none}
-pub use Rattle.network.proofs.Laws.Order.{above-none, none-is-not-above, isAbove-irreflexive, isAbove-transitive}
+pub use Rattle.network.proofs.Laws.Order.{Above, above-of-isAbove, below-of-not-isAbove, isAbove-none, none-is-not-above}
+pub use Rattle.network.proofs.Laws.Order.{above-none, isAbove-irreflexive, not-above-of-above, not-above-transitive, not-above-of-le, isEqual-numbers}
 -- how large the numbers of a rating can be
-pub use Rattle.network.proofs.Laws.Ranges.{least-range, sum-range}
+pub use Rattle.network.proofs.Laws.Ranges.{sumOf-served-le, least-range, sum-range}

@@ -14,8 +14,8 @@ use Rattle.network.specs.Network.{Net, SoFar, Command, statesLine, calls
 use Rattle.network.specs.Network.{maxLines, maxPeriod, maxCycle, maxStop, maxOffset, maxCalls, maxCallsAtStop}
 use Rattle.network.specs.Network.{cycle, howOftenAt, callsAnywhere, word, operandBytes, lineOperand, stopOperand, rideOffset}
 use Rattle.network.specs.Grounds.{Ground, _at_when_, first, cutOff, periodOutOfRange, someLineSilent, callGrounds, grounds}
-use Rattle.network.proofs.Laws.Lists.{zero-ne-one, or-neither, or-none, allBelow-at}
-use Rattle.network.proofs.Laws.Tables.{allBelow-of-each}
+use Rattle.network.proofs.Laws.Lists.{zero-ne-one, or-neither, or-none}
+use Rattle.network.proofs.Laws.Tables.{allBelow-at, allBelow-of-each}
 
 pub first-none : first [] ≡ Passes
 unfolding first

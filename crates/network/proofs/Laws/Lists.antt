@@ -1,18 +1,17 @@
--- Laws of the tests over lists and ranges, by which a loop's invariant goes on from a part of a row to the next: each is one induction.
--- Assumes nothing.
-use Prim.Native.Nat.{ℕ, zero, suc, _+_, _-_, _<_, _≤_, suc-le-suc}
+-- Laws of the tests over lists, by which a loop's invariant goes on from a part of a row to the next, and of rows place by place: each is one
+-- induction. Assumes nothing.
+use Prim.Native.Nat.{ℕ, zero, suc, _+_, _-_, _<_, suc-le-suc}
 use mathlib.Core.Path.{_≡_, refl, sym, ap, ap₂, _∙_}
 use mathlib.Core.Bool.{Bool, true, false, _&&_, _||_, and-false, or-assoc, or-false, or-true}
-use mathlib.Core.List.{List, [], _∷_, _++_, map}
-use mathlib.Core.Logic.{_⊎_, inl, inr}
-use native.Mathlib.Nat.{le-refl, le-of-suc-le-suc, eq-or-lt-of-le, zero-lt-suc}
+use mathlib.Core.List.{List, [], _∷_, _++_, map, List·Memᴰ, List·Memᴰ·head, List·Memᴰ·tail}
+use native.Mathlib.Nat.{le-refl, le-of-suc-le-suc, zero-lt-suc}
 use native.Mathlib.Numerals.{add-one}
 use native.Mathlib.Omega.{arith}
 use borrow.Author.Tests.{le-leb}
 use lib.Dec.{leb}
-use lib.ListN.{length, getD, take, drop, set, length-drop}
+use lib.ListN.{length, getD, take, drop, set, replicate, length-drop}
 use lib.Seq.{take-suc, take-suc-set, take-all}
-use Rattle.network.specs.Lists.{pick, any, keep, allBelow, countBelow}
+use Rattle.network.specs.Lists.{pick, any, keep}
 
 -- For two constructors that an equation takes for one: `cc` then proves that 0 is 1
 pub zero-ne-one : _≡_ {A = ℕ} 0 1 → ⊥
@@ -63,14 +62,6 @@ module _ {A : Type 0} (p : A → Bool) where
   any-take-next l i d h =
       rw (add-one, take-suc l i d) (any-append (take i l) (getD l i d ∷ []) ∙ ap (λ t. any p (take i l) || t) (or-false _))
 
-  -- a place of the row that passes
-  pub any-take-found : (l : List A) (i n : ℕ) (d : A) → i < length l → i < n → p (getD l i d) ≡ true → any p (take n l) ≡ true
-  unfolding any
-  any-take-found [] i n d h k e = absurd (omega arith)
-  any-take-found (x ∷ l) i zero d h k e = absurd (omega arith)
-  any-take-found (x ∷ l) zero (suc n) d h k e = rw e refl
-  any-take-found (x ∷ l) (suc i) (suc n) d h k e = ap (λ t. p x || t) (any-take-found l i n d (omega arith) (omega arith) e) ∙ or-true (p x)
-
 -- A row of which one place more counts, which was just written
 pub take-set-next : {A : Type 0} (l : List A) (i : ℕ) (a : A) → i < length l → take (i + 1) (set l i a) ≡ take i l ++ (a ∷ [])
 take-set-next l i a h = rw add-one (take-suc-set l i a h)
@@ -81,69 +72,33 @@ map-set f [] i a = refl
 map-set f (x ∷ l) zero a = refl
 map-set f (x ∷ l) (suc i) a = ap (λ m. f x ∷ m) (map-set f l i a)
 
--- Every number below `n` passes, so this one does
-pub allBelow-at : (p : ℕ → Bool) (n i : ℕ) → allBelow p n ≡ true → i < n → p i ≡ true
-unfolding allBelow
-allBelow-at p zero i e h = absurd (omega arith)
-allBelow-at p (suc n) i e h = go (allBelow p n) (allBelow-at p n i) e (eq-or-lt-of-le (le-of-suc-le-suc h))
-  where
-    go : (t : Bool) → (t ≡ true → i < n → p i ≡ true) → (t && p n) ≡ true → (i ≡ n) ⊎ (i < n) → p i ≡ true
-    go true f k (inl j) = ap p j ∙ k
-    go true f k (inr l) = f refl l
-    go false f k d = absurd (zero-ne-one (cc))
-
--- One number more passes
-pub allBelow-next : (p : ℕ → Bool) (n : ℕ) → allBelow p n ≡ true → p n ≡ true → allBelow p (n + 1) ≡ true
-unfolding allBelow
-allBelow-next p n e f = rw add-one (and-both (allBelow p n) (p n) e f)
-
--- One number below that doesn't pass is enough
-pub allBelow-fails : (p : ℕ → Bool) (n i : ℕ) → i < n → p i ≡ false → allBelow p n ≡ false
-unfolding allBelow
-allBelow-fails p zero i h e = absurd (omega arith)
-allBelow-fails p (suc n) i h e = go (allBelow-fails p n i) (eq-or-lt-of-le (le-of-suc-le-suc h))
-  where
-    go : (i < n → p i ≡ false → allBelow p n ≡ false) → (i ≡ n) ⊎ (i < n) → (allBelow p n && p n) ≡ false
-    go f (inl j) = and-not-right (allBelow p n) (p n) (sym (ap p j) ∙ e)
-    go f (inr l) = and-not-left (allBelow p n) (p n) (f l e)
-
--- Two tests that agree below `n`
-pub allBelow-same : (p q : ℕ → Bool) (n : ℕ) → ((i : ℕ) → i < n → p i ≡ q i) → allBelow p n ≡ allBelow q n
-unfolding allBelow
-allBelow-same p q zero h = refl
-allBelow-same p q (suc n) h = ap₂ _&&_ (allBelow-same p q n (λ i l. h i (omega arith))) (h n (le-refl _))
-
--- One number more is counted
-pub countBelow-next : (p : ℕ → Bool) (n : ℕ) → countBelow p (n + 1) ≡ countBelow p n + pick (p n) 1 0
-unfolding countBelow
-countBelow-next p n = rw add-one refl
-
--- Tests that agree below `n` count alike
-pub countBelow-same : (p q : ℕ → Bool) (n : ℕ) → ((i : ℕ) → i < n → p i ≡ q i) → countBelow p n ≡ countBelow q n
-unfolding countBelow
-countBelow-same p q zero h = refl
-countBelow-same p q (suc n) h =
-    ap₂ (λ (k : ℕ) (t : Bool). k + pick t 1 0) (countBelow-same p q n (λ i l. h i (omega arith))) (h n (le-refl _))
-
--- At most all of them pass
-pub countBelow-le : (p : ℕ → Bool) (n : ℕ) → countBelow p n ≤ n
-unfolding countBelow
-countBelow-le p zero = omega arith
-countBelow-le p (suc n) = let ih = countBelow-le p n in go (p n) ih
-  where
-    go : (t : Bool) → countBelow p n ≤ n → countBelow p n + pick t 1 0 ≤ suc n
-    go true h = omega arith
-    go false h = omega arith
-
-module _ {A : Type 0} (a d : A) where
-  -- What holds of every element and of one more
-  pub snoc-all : (P : A → Type 0) (xs : List A) → ((i : ℕ) → i < length xs → P (getD xs i d)) → P a
-      → (i : ℕ) → i < length (xs ++ (a ∷ [])) → P (getD (xs ++ (a ∷ [])) i d)
-  snoc-all P [] f g zero h = g
-  snoc-all P [] f g (suc i) h = absurd (omega arith)
-  snoc-all P (x ∷ xs) f g zero h = f 0 (zero-lt-suc _)
-  snoc-all P (x ∷ xs) f g (suc i) h = snoc-all P xs (λ j l. f (suc j) (suc-le-suc l)) g i (le-of-suc-le-suc h)
-
 -- The part of a list behind its first places, as a slice has it
 pub take-rest : {A : Type 0} (k : ℕ) (l : List A) → take (length l - k) (drop k l) ≡ drop k l
 take-rest k l = take-all (length l - k) (drop k l) (rw length-drop (le-refl _))
+
+-- ---- rows, place by place
+
+pub getD-map : {A B : Type 0} (f : A → B) (xs : List A) (i : ℕ) (d : A) (e : B) → i < length xs
+    → getD (map f xs) i e ≡ f (getD xs i d)
+getD-map f [] i d e h = absurd (omega arith)
+getD-map f (x ∷ xs) zero d e h = refl
+getD-map f (x ∷ xs) (suc i) d e h = getD-map f xs i d e (le-of-suc-le-suc h)
+
+pub getD-zeros : (k s : ℕ) → _≡_ {A = ℕ} (getD (replicate k 0) s 0) 0
+getD-zeros zero s = refl
+getD-zeros (suc k) zero = refl
+getD-zeros (suc k) (suc s) = getD-zeros k s
+
+-- Two functions that agree on a list's elements
+pub map-same : {A B : Type 0} (f g : A → B) (xs : List A) → ((x : A) → List·Memᴰ x xs → f x ≡ g x) → map f xs ≡ map g xs
+map-same f g [] h = refl
+map-same f g (x ∷ xs) h = ap₂ _∷_ (h x (List·Memᴰ·head refl)) (map-same f g xs (λ y m. h y (List·Memᴰ·tail m)))
+
+module _ {A B C : Type 0} (f : A → C) (g : B → C) where
+  pub map-same-places : (xs : List A) (ys : List B) (d : A) (e : B) → length xs ≡ length ys
+      → ((i : ℕ) → i < length xs → f (getD xs i d) ≡ g (getD ys i e)) → map f xs ≡ map g ys
+  map-same-places [] [] d e m h = refl
+  map-same-places [] (y ∷ ys) d e m h = absurd (omega (arith, m))
+  map-same-places (x ∷ xs) [] d e m h = absurd (omega (arith, m))
+  map-same-places (x ∷ xs) (y ∷ ys) d e m h =
+      ap₂ _∷_ (h 0 (zero-lt-suc _)) (map-same-places xs ys d e (omega (arith, m)) (λ i l. h (suc i) (suc-le-suc l)))

@@ -16,8 +16,7 @@ use Rattle.network.specs.Network.{Net, maxLines, maxStop, maxCallsAtStop
 use Rattle.network.specs.Stored.{Often}
 use Rattle.network.specs.Valid.{noCall, Valid}
 use Rattle.network.proofs.Laws.Lists.{and-both}
-use Rattle.network.proofs.Laws.Members.{keep-has-pair}
-use Rattle.network.proofs.Laws.Scan.{keep-append}
+use Rattle.network.proofs.Laws.Members.{keep-has-pair, keep-append}
 
 module _ (line stop : ℕ) (cs : List Call) (c : Call) where
   isCall : Call → Bool

@@ -1,5 +1,5 @@
 -- The test on two ratings is the order of document 01, first by the least gap and then by the sum: a strict order, with none below every
--- rating. Assumes nothing.
+-- rating; and that order turned round. Assumes nothing.
 use Prim.Native.Nat.{ℕ, _≤_, _<_}
 use mathlib.Core.Path.{_≡_, refl, sym, ap₂, _∙_}
 use mathlib.Core.Bool.{Bool, true, false, not, _&&_, _||_, and-true, or-false}
@@ -8,7 +8,7 @@ use native.Mathlib.Omega.{arith}
 use borrow.Author.Tests.{ltb-true, ltb-false, eqb-true, eqb-false, lt-ltb, le-ltb, eq-eqb, ne-eqb}
 use lib.Dec.{eqb, ltb}
 use Rattle.network.specs.declared.Rating.{Rating}
-use Rattle.network.specs.Rating.{noRating, isAbove}
+use Rattle.network.specs.Rating.{noRating, isAbove, isEqual}
 use Rattle.network.proofs.Laws.Lists.{zero-ne-one}
 
 -- One pair of least and sum is above another
@@ -70,6 +70,11 @@ pub none-is-not-above : (r : Rating) → isAbove noRating r ≡ false
 unfolding isAbove
 none-is-not-above r = refl
 
+-- Two ratings are equal by their numbers
+pub isEqual-numbers : (l s m t : ℕ) → isEqual (record { some = true; least = l; sum = s }) (record { some = true; least = m; sum = t }) ≡ (eqb l m && eqb s t)
+unfolding isEqual
+isEqual-numbers l s m t = refl
+
 above-irreflexive : (r : Rating) → Above r r → ⊥
 above-irreflexive r (inl h) = omega arith
 above-irreflexive r (inr h) = omega arith
@@ -129,3 +134,55 @@ module _ (r q : Rating) where
   pub above-other-least : r .some ≡ true → q .some ≡ true → (q .least ≡ r .least → ⊥) → isAbove r q ≡ ltb (q .least) (r .least)
   unfolding isAbove
   above-other-least e f g = rw (e, f, ne-eqb (q .least) (r .least) g) (or-false _)
+
+-- ---- what isn't above
+
+pub some-of-not-above : (r q : Rating) → r .some ≡ true → isAbove r q ≡ false → q .some ≡ true
+unfolding isAbove
+some-of-not-above r q e f = go (q .some) refl
+  where
+    go : (t : Bool) → q .some ≡ t → t ≡ true
+    go true g = refl
+    go false g = sym f ∙ rw (e, g) refl
+
+module _ (r q s : Rating) where
+  pub not-above-of-above : isAbove q s ≡ true → isAbove r s ≡ false → isAbove r q ≡ false
+  not-above-of-above e f = go (isAbove r q) refl
+    where
+      go : (t : Bool) → isAbove r q ≡ t → t ≡ false
+      go true g = sym (isAbove-transitive r q s g e) ∙ f
+      go false g = refl
+
+  pub not-above-transitive : isAbove r q ≡ false → isAbove q s ≡ false → isAbove r s ≡ false
+  unfolding isAbove
+  not-above-transitive e f = go (r .some) (isAbove r s) refl refl
+    where
+      go : (a b : Bool) → r .some ≡ a → isAbove r s ≡ b → b ≡ false
+      go a false x g = refl
+      go false true x g = sym g ∙ rw x refl
+      go true true x g =
+          let y : q .some ≡ true = some-of-not-above r q x e in
+          let z : s .some ≡ true = some-of-not-above q s y f in
+          absurd (differ (above-of-isAbove r s x z g) (below-of-not-isAbove r q x y e) (below-of-not-isAbove q s y z f))
+        where
+          differ : Above r s → (r .least < q .least) ⊎ ((r .least ≡ q .least) × (r .sum ≤ q .sum))
+              → (q .least < s .least) ⊎ ((q .least ≡ s .least) × (q .sum ≤ s .sum)) → ⊥
+          differ (inl h) (inl k) (inl l) = omega arith
+          differ (inl h) (inl k) (inr l) = omega arith
+          differ (inl h) (inr k) (inl l) = omega arith
+          differ (inl h) (inr k) (inr l) = omega arith
+          differ (inr h) (inl k) (inl l) = omega arith
+          differ (inr h) (inl k) (inr l) = omega arith
+          differ (inr h) (inr k) (inl l) = omega arith
+          differ (inr h) (inr k) (inr l) = omega arith
+
+pub not-above-of-le : (r q : Rating) → r .some ≡ true → q .some ≡ true → r .least ≤ q .least → r .sum ≤ q .sum → isAbove r q ≡ false
+not-above-of-le r q some-r some-q h k = go (isAbove r q) refl
+  where
+    never : Above r q → ⊥
+    never (inl l) = omega arith
+    never (inr l) = omega arith
+
+    go : (t : Bool) → isAbove r q ≡ t → t ≡ false
+    go true e = absurd (never (above-of-isAbove r q some-r some-q e))
+    go false e = refl

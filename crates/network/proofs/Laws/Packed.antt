@@ -10,16 +10,20 @@ use lib.Arith.{lt-of-le-ne}
 use lib.Dec.{eqb, ltb, leb}
 use lib.ListN.{getD, List·getD-map}
 use Rattle.network.specs.declared.Call.{Call}
-use Rattle.network.specs.Network.{maxLines, maxStop, maxOffset}
+use Rattle.network.specs.Network.{Net, maxLines, maxStop, maxOffset}
 use Rattle.network.specs.Stored.{packed, callIn, callsIn}
 use Rattle.network.specs.Tidy.{notAfter}
-use Rattle.network.specs.Valid.{noCall}
+use Rattle.network.specs.Valid.{noCall, Valid}
+use Rattle.network.proofs.Laws.Members.{All}
 
 -- A call within the limits
 pub record InLimits (c : Call) : Type 0 where
   pub line : c .line < maxLines
   pub stop : c .stop ≤ maxStop
   pub offset : c .offset ≤ maxOffset
+
+pub limits : {n : Net} → Valid n → All noCall InLimits (n .calls)
+limits v k h = record { line = omega (arith, v .call-line k h, v .lines); stop = v .call-stop k h; offset = v .call-offset k h }
 
 -- A packed call is found again
 pub callIn-packed : (c : Call) → InLimits c → callIn (packed c) ≡ c
@@ -82,3 +86,18 @@ module _ (c d : Call) (h : InLimits c) (k : InLimits d) where
           lt-leb (packed c) (packed d) (omega (arith, eqb-true, less, k .offset))
       go false e true f false g true i true j = le-leb (packed c) (packed d) (omega (arith, eqb-true, leb-true))
       go false e true f false g true i false j = lt-leb (packed c) (packed d) (omega (arith, eqb-true, leb-false))
+
+-- ---- the parts of a packed call
+
+module _ (c : Call) (h : InLimits c) where
+  pub packed-line : packed c / 4194304 ≡ c .line
+  unfolding packed
+  packed-line = omega (arith, h .line, h .stop, h .offset)
+
+  pub packed-stop : packed c / 65536 % 64 ≡ c .stop
+  unfolding packed
+  packed-stop = omega (arith, h .line, h .stop, h .offset)
+
+  pub packed-offset : packed c % 65536 ≡ c .offset
+  unfolding packed
+  packed-offset = omega (arith, h .line, h .stop, h .offset)

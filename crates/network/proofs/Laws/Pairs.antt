@@ -1,27 +1,43 @@
 -- The gap of a stop with any list of calls: some pair of them attains it and none is closer, and nothing counts for it but the periods
 -- and the gaps of the pairs, by induction on the list. Assumes nothing.
-use Prim.Native.Nat.{ℕ, zero, suc, _/_, _≤_, _<_, suc-le-suc}
-use mathlib.Core.Path.{_≡_, refl, sym, ap, ap₂, subst}
-use mathlib.Core.List.{List, [], _∷_, _++_, map}
-use native.Mathlib.Nat.{le-trans, le-of-suc-le-suc, zero-lt-suc}
+use Prim.Native.Nat.{ℕ, _+_, _/_, _≤_, _<_, min}
+use mathlib.Core.Path.{_≡_, refl, sym, ap, ap₂, _∙_}
+use mathlib.Core.List.{List, [], _∷_, map}
+use native.Mathlib.Nat.{le-trans}
 use native.Mathlib.Omega.{arith}
 use native.Mathlib.Decide.{decLt}
-use lib.IntN.{ℤ}
-use lib.ListN.{length, getD, length-map}
+use lib.IntN.{ℤ, pos, _+ℤ_, _-ℤ_}
+use lib.ListN.{length, getD, List·getD-map}
 use Rattle.network.specs.declared.Call.{Call}
-use Rattle.network.specs.Lists.{leastOf, pairsOf}
+use Rattle.network.specs.Lists.{leastOf}
 use Rattle.network.specs.Network.{Net}
 use Rattle.network.specs.Divisor.{gcd}
 use Rattle.network.specs.Valid.{noCall}
-use Rattle.network.specs.Gap.{gapOf}
+use Rattle.network.specs.Gap.{residue, fold, gapOf}
 use Rattle.network.specs.Rating.{arrivalOf, periodOf, gapOfCalls, pairGaps, gapOfStop}
-use Rattle.network.proofs.Laws.Members.{Has, All, AllPairs, getD-map, has-append-left, has-append-right, all-append}
-use Rattle.network.proofs.Laws.Members.{pairs-head, pairs-tail, map-cong}
-use Rattle.network.proofs.Laws.Least.{leastOf-has, leastOf-le}
+use Rattle.network.specs.Scan.{leastFrom}
+use Rattle.network.proofs.Laws.Members.{All, AllPairs, IsOfPair, member-of-pairsOf, pair-of-pairsOf, pairsOf-few, pairsOf-some}
+use Rattle.network.proofs.Laws.Members.{pairsOf-same-places}
+use Rattle.network.proofs.Laws.Least.{leastOf-le, leastFrom-leastOf, leastFrom-nil, leastOf-member}
 use Rattle.network.proofs.Laws.Divisor.{gcd-comm}
 use Rattle.network.proofs.Laws.Gap.{gapOf-symmetric, gapOf-half}
 
+-- The start of a call's line and its offset, where starts are naturals
+pub arrivalOf-pos : (starts : List ℕ) (c : Call) → arrivalOf (map pos starts) c ≡ pos (getD starts (c .line) 0 + c .offset)
+unfolding arrivalOf
+arrivalOf-pos starts c = ap (λ (z : ℤ). z +ℤ pos (c .offset)) (List·getD-map pos starts (c .line) 0)
+
 module _ (n : Net) (starts : List ℤ) where
+  pub gapOfCalls-is-gapOf : (c d : Call) → gapOfCalls n starts c d ≡ gapOf (arrivalOf starts c) (periodOf n c) (arrivalOf starts d) (periodOf n d)
+  unfolding gapOfCalls
+  gapOfCalls-is-gapOf c d = refl
+
+  -- By any number that is the greatest common divisor of the periods
+  pub gapOfCalls-is-fold : (c d : Call) (g : ℕ) → g ≡ gcd (periodOf n c) (periodOf n d)
+      → fold g (residue (arrivalOf starts c -ℤ arrivalOf starts d) g) ≡ gapOfCalls n starts c d
+  unfolding gapOfCalls gapOf
+  gapOfCalls-is-fold c d g e = ap (λ (k : ℕ). fold k (residue (arrivalOf starts c -ℤ arrivalOf starts d) k)) e
+
   pub gapOfCalls-symmetric : (c d : Call) → 0 < periodOf n c → 0 < periodOf n d → gapOfCalls n starts c d ≡ gapOfCalls n starts d c
   unfolding gapOfCalls
   gapOfCalls-symmetric c d = gapOf-symmetric (arrivalOf starts c) (periodOf n c) (arrivalOf starts d) (periodOf n d)
@@ -30,49 +46,23 @@ module _ (n : Net) (starts : List ℤ) where
   unfolding gapOfCalls
   gapOfCalls-half c d = gapOf-half (arrivalOf starts c) (periodOf n c) (arrivalOf starts d) (periodOf n d)
 
-  -- The gaps of the pairs are those of all pairs ..
-  pairGaps-has : (cs : List Call) → AllPairs noCall (λ c d. Has 0 (pairGaps n starts cs) (gapOfCalls n starts c d)) cs
-  unfolding pairGaps pairsOf
-  pairGaps-has [] j k h l = absurd (omega arith)
-  pairGaps-has (c ∷ cs) j zero h l = absurd (omega arith)
-  pairGaps-has (c ∷ cs) zero (suc k) h l =
-      let m : k < length cs = le-of-suc-le-suc l in
-      has-append-left 0 (map (gapOfCalls n starts c) cs) (pairGaps n starts cs) _
-      (k, rw length-map m, getD-map (gapOfCalls n starts c) cs k noCall 0 m)
-  pairGaps-has (c ∷ cs) (suc j) (suc k) h l =
-      has-append-right 0 (map (gapOfCalls n starts c) cs) _ _ (pairGaps-has cs j k (le-of-suc-le-suc h) (le-of-suc-le-suc l))
-
-  -- .. and of nothing else
   abbrev pub IsPairGap : List Call → ℕ → Type 0
-  IsPairGap cs v = (j : ℕ) × (k : ℕ) × (j < k) × (k < length cs) × (gapOfCalls n starts (getD cs j noCall) (getD cs k noCall) ≡ v)
-
-  pairGaps-all : (cs : List Call) → All 0 (IsPairGap cs) (pairGaps n starts cs)
-  unfolding pairGaps pairsOf
-  pairGaps-all [] = λ i h. absurd (omega arith)
-  pairGaps-all (c ∷ cs) = all-append 0 (IsPairGap (c ∷ cs)) (map (gapOfCalls n starts c) cs) (pairGaps n starts cs) with-first
-      (λ i h. let (j, k, l, m, e) = pairGaps-all cs i h in (suc j, suc k, suc-le-suc l, suc-le-suc m, e))
-    where
-      with-first : All 0 (IsPairGap (c ∷ cs)) (map (gapOfCalls n starts c) cs)
-      with-first i h =
-          let l : i < length cs = rw length-map at h in
-          (0, suc i, zero-lt-suc i, suc-le-suc l, sym (getD-map (gapOfCalls n starts c) cs i noCall 0 l))
+  IsPairGap = IsOfPair (gapOfCalls n starts) noCall
 
   pub gapOfStop-le-pair : (cs : List Call) → AllPairs noCall (λ c d. gapOfStop n starts cs ≤ gapOfCalls n starts c d) cs
-  unfolding gapOfStop
+  unfolding gapOfStop pairGaps
   gapOfStop-le-pair [] j k h l = absurd (omega arith)
   gapOfStop-le-pair (c ∷ []) j k h l = absurd (omega arith)
   gapOfStop-le-pair (c ∷ d ∷ cs) j k h l =
-      let all : List ℕ = pairGaps n starts (c ∷ d ∷ cs) in
-      let (i, m, e) = pairGaps-has (c ∷ d ∷ cs) j k h l in
-      subst (λ v. leastOf all ≤ v) e (leastOf-le all i m)
+      leastOf-le (pairGaps n starts (c ∷ d ∷ cs)) (member-of-pairsOf (gapOfCalls n starts) noCall (c ∷ d ∷ cs) j k h l)
 
   pub gapOfStop-attained : (cs : List Call) → 1 < length cs → IsPairGap cs (gapOfStop n starts cs)
-  unfolding gapOfStop pairGaps pairsOf
+  unfolding gapOfStop pairGaps
   gapOfStop-attained [] h = absurd (omega arith)
   gapOfStop-attained (c ∷ []) h = absurd (omega arith)
   gapOfStop-attained (c ∷ d ∷ cs) h =
-      let (i, m, e) = leastOf-has (pairGaps n starts (c ∷ d ∷ cs)) (zero-lt-suc _) in
-      subst (IsPairGap (c ∷ d ∷ cs)) e (pairGaps-all (c ∷ d ∷ cs) i m)
+      pair-of-pairsOf (gapOfCalls n starts) noCall (c ∷ d ∷ cs)
+      (leastOf-member (pairGaps n starts (c ∷ d ∷ cs)) (pairsOf-some (gapOfCalls n starts) (c ∷ d ∷ cs) h))
 
   pub gapOfStop-none : (cs : List Call) → length cs ≡ 0 → gapOfStop n starts cs ≡ 0
   unfolding gapOfStop
@@ -96,24 +86,36 @@ module _ (n : Net) (starts : List ℤ) where
       go (yes m) = in-order j k m l
       go (no m) = rw (gcd-comm (periodOf n (getD cs j noCall))) (in-order k j (omega arith) h)
 
--- Where the periods and the gaps of all pairs agree, so does the gap of the stop
+-- Where the periods place by place and the gaps of each two places agree, so does the gap of the stop
 module _ (n m : Net) (starts moved : List ℤ) where
-  abbrev Agree : Call → Call → Type 0
-  Agree c d = gapOfCalls n starts c d ≡ gapOfCalls m moved c d
+  pub gapOfStop-same-places : (cs ds : List Call) → length cs ≡ length ds
+      → ((j : ℕ) → j < length cs → periodOf n (getD cs j noCall) ≡ periodOf m (getD ds j noCall))
+      → ((j k : ℕ) → j < k → k < length cs
+      → gapOfCalls n starts (getD cs j noCall) (getD cs k noCall) ≡ gapOfCalls m moved (getD ds j noCall) (getD ds k noCall))
+      → gapOfStop n starts cs ≡ gapOfStop m moved ds
+  unfolding gapOfStop pairGaps
+  gapOfStop-same-places [] [] l p g = refl
+  gapOfStop-same-places [] (d ∷ ds) l p g = absurd (omega (arith, l))
+  gapOfStop-same-places (c ∷ cs) [] l p g = absurd (omega (arith, l))
+  gapOfStop-same-places (c ∷ []) (d ∷ []) l p g = p 0 (omega arith)
+  gapOfStop-same-places (c ∷ []) (d ∷ e ∷ ds) l p g = absurd (omega (arith, l))
+  gapOfStop-same-places (b ∷ c ∷ cs) (d ∷ []) l p g = absurd (omega (arith, l))
+  gapOfStop-same-places (b ∷ c ∷ cs) (d ∷ e ∷ ds) l p g =
+      ap leastOf (pairsOf-same-places (gapOfCalls n starts) (gapOfCalls m moved) (b ∷ c ∷ cs) (d ∷ e ∷ ds) noCall l g)
 
-  pairGaps-cong : (cs : List Call) → AllPairs noCall Agree cs → pairGaps n starts cs ≡ pairGaps m moved cs
-  unfolding pairGaps pairsOf
-  pairGaps-cong [] f = refl
-  pairGaps-cong (c ∷ cs) f =
-      ap₂ _++_ (map-cong noCall (gapOfCalls n starts c) (gapOfCalls m moved c) cs (pairs-head noCall Agree c cs f))
-      (pairGaps-cong cs (pairs-tail noCall Agree c cs f))
+  pub gapOfStop-cong : (cs : List Call) → All noCall (λ c. periodOf n c ≡ periodOf m c) cs
+      → AllPairs noCall (λ c d. gapOfCalls n starts c d ≡ gapOfCalls m moved c d) cs → gapOfStop n starts cs ≡ gapOfStop m moved cs
+  gapOfStop-cong cs = gapOfStop-same-places cs cs refl
 
-  pub gapOfStop-cong : (cs : List Call) → All noCall (λ c. periodOf n c ≡ periodOf m c) cs → AllPairs noCall Agree cs
-      → gapOfStop n starts cs ≡ gapOfStop m moved cs
-  unfolding gapOfStop
-  gapOfStop-cong [] e f = refl
-  gapOfStop-cong (c ∷ []) e f = e 0 (zero-lt-suc 0)
-  gapOfStop-cong (c ∷ d ∷ cs) e f = ap leastOf (pairGaps-cong (c ∷ d ∷ cs) f)
+-- Of the starts only those of their lines count
+abbrev pub SameStart : List ℤ → List ℤ → Call → Type 0
+SameStart starts moved c = getD starts (c .line) (pos 0) ≡ getD moved (c .line) (pos 0)
+
+pub gapOfCalls-local : (n : Net) (starts moved : List ℤ) (c d : Call) → SameStart starts moved c → SameStart starts moved d
+    → gapOfCalls n starts c d ≡ gapOfCalls n moved c d
+unfolding gapOfCalls arrivalOf
+gapOfCalls-local n starts moved c d e f =
+    ap₂ (λ x y. gapOf (x +ℤ pos (c .offset)) (periodOf n c) (y +ℤ pos (d .offset)) (periodOf n d)) e f
 
 -- Of a network only the periods count
 pub gapOfStop-periods : (n m : Net) → n .periods ≡ m .periods → (starts : List ℤ) (cs : List Call)
@@ -126,3 +128,20 @@ gapOfStop-periods n m e starts cs = gapOfStop-cong n m starts starts cs (λ i h.
 
     agree : (c d : Call) → gapOfCalls n starts c d ≡ gapOfCalls m starts c d
     agree c d = ap₂ (λ t u. gapOf (arrivalOf starts c) t (arrivalOf starts d) u) (same c) (same d)
+
+-- ---- the gaps of all pairs beside a number, by which a pass over the calls computes
+
+module _ (n : Net) (starts : List ℤ) (v : ℕ) (cs : List Call) where
+  pub leastFrom-pairGaps-few : length cs ≤ 1 → leastFrom v (pairGaps n starts cs) ≡ v
+  unfolding pairGaps
+  leastFrom-pairGaps-few h = ap (leastFrom v) (pairsOf-few (gapOfCalls n starts) cs h) ∙ leastFrom-nil v
+
+  pub leastFrom-pairGaps-more : 1 < length cs → leastFrom v (pairGaps n starts cs) ≡ min v (gapOfStop n starts cs)
+  unfolding pairGaps gapOfStop
+  leastFrom-pairGaps-more h =
+      leastFrom-leastOf v (pairGaps n starts cs) (pairsOf-some (gapOfCalls n starts) cs h) ∙ ap (min v) (sym (of-pairs cs h))
+    where
+      of-pairs : (cs : List Call) → 1 < length cs → gapOfStop n starts cs ≡ leastOf (pairGaps n starts cs)
+      of-pairs [] h = absurd (omega arith)
+      of-pairs (c ∷ []) h = absurd (omega arith)
+      of-pairs (c ∷ d ∷ cs) h = refl

@@ -2,32 +2,26 @@
 -- stops and as many classes at most, and a sum has one gap for each served stop. Assumes nothing.
 use Prim.Native.Nat.{ℕ, suc, _*_, _≤_}
 use mathlib.Core.Path.{_≡_, subst}
-use mathlib.Core.List.{List, [], _∷_}
-use native.Mathlib.Nat.{zero-lt-suc}
+use mathlib.Core.List.{List}
+use native.Mathlib.Nat.{le-trans, mul-le-mul-right}
 use native.Mathlib.Omega.{arith}
 use lib.Dec.{eqb}
 use lib.IntN.{ℤ}
-use lib.ListN.{length, getD}
+use lib.ListN.{length}
 use Rattle.network.specs.declared.Call.{Call}
 use Rattle.network.specs.Lists.{sumOf}
 use Rattle.network.specs.Network.{Net, maxStop, maxPeriod, stopCount, isServed, callsAnywhere, servedStops}
 use Rattle.network.specs.Valid.{Valid, noCall}
 use Rattle.network.specs.Rating.{servedList, stopGap, rating}
 use Rattle.network.specs.Classes.{isLowest, classCount}
-use Rattle.network.proofs.Laws.Lists.{countBelow-le}
-use Rattle.network.proofs.Laws.Members.{All, has-any, all-tail}
-use Rattle.network.proofs.Laws.Least.{leastOf-map-has}
-use Rattle.network.proofs.Laws.Tables.{countBelow-length}
+use Rattle.network.proofs.Laws.Members.{member-of-any, place-of-member}
+use Rattle.network.proofs.Laws.Least.{leastOf-map-member}
+use Rattle.network.proofs.Laws.Tables.{countBelow-le, countBelow-length}
+use Rattle.network.proofs.Laws.Sums.{sumOf-le}
 use Rattle.network.proofs.Laws.Rating.{servedList-some, rating-least, rating-sum}
 use Rattle.network.proofs.Laws.Rate.{stopGap-le-maxPeriod}
 use Rattle.network.proofs.Laws.Classes.{classCount-length}
 use Rattle.network.proofs.Laws.Weighted.{lowestStops-some}
-
--- A sum of numbers none of which is above a bound
-sumOf-le : {A : Type 0} (f : A → ℕ) (bound : ℕ) (d : A) (xs : List A) → All d (λ a. f a ≤ bound) xs → sumOf f xs ≤ length xs * bound
-unfolding sumOf
-sumOf-le f bound d [] h = omega arith
-sumOf-le f bound d (x ∷ xs) h = omega (arith, h 0 (zero-lt-suc _), sumOf-le f bound d xs (all-tail d (λ a. f a ≤ bound) x xs h))
 
 servedList-length : (n : Net) → servedStops n ≡ length (servedList n)
 unfolding servedStops servedList
@@ -36,6 +30,12 @@ servedList-length n = countBelow-length (λ stop. isServed stop (n .calls)) (suc
 servedStops-le : (n : Net) → servedStops n ≤ stopCount
 unfolding servedStops
 servedStops-le n = countBelow-le (λ stop. isServed stop (n .calls)) (suc maxStop)
+
+-- A sum over the served stops of which none has more than the bound
+pub sumOf-served-le : (n : Net) (f : ℕ → ℕ) (bound : ℕ) → ((stop : ℕ) → f stop ≤ bound) → sumOf f (servedList n) ≤ stopCount * bound
+sumOf-served-le n f bound h =
+    le-trans (sumOf-le f bound (servedList n) (λ stop m. h stop))
+    (mul-le-mul-right bound (omega (arith, servedList-length n, servedStops-le n)))
 
 classCount-le : (n : Net) → classCount n ≤ stopCount
 unfolding classCount
@@ -52,22 +52,16 @@ module _ {n : Net} (valid : Valid n) where
   pub calls-some : 1 ≤ length (n .calls)
   unfolding callsAnywhere
   calls-some =
-      let (k, h, e) = has-any noCall (λ (c : Call). eqb (c .line) 0) (n .calls) (valid .every-line-calls 0 (valid .some-line)) in
+      let (c, m, e) = member-of-any (λ (c : Call). eqb (c .line) 0) (n .calls) (valid .every-line-calls 0 (valid .some-line)) in
+      let (k, h, f) = place-of-member (n .calls) noCall m in
       omega (arith, h)
 
   module _ (starts : List ℤ) where
     pub least-range : rating n starts .least ≤ maxPeriod
     least-range =
-        let (i, h, e) = leastOf-map-has (stopGap n starts) 0 (servedList n) (servedList-some valid) in
-        rw rating-least (subst (λ (v : ℕ). v ≤ maxPeriod) e (stopGap-le-maxPeriod valid starts (getD (servedList n) i 0)))
+        let (stop, m, e) = leastOf-map-member (stopGap n starts) (servedList n) (servedList-some valid) in
+        rw rating-least (subst (λ (v : ℕ). v ≤ maxPeriod) e (stopGap-le-maxPeriod valid starts stop))
 
     -- 92,160 is 64 times 1,440
     pub sum-range : rating n starts .sum ≤ 92160
-    sum-range =
-        omega (
-          arith,
-          rating-sum n starts,
-          sumOf-le (stopGap n starts) maxPeriod 0 (servedList n) (λ i h. stopGap-le-maxPeriod valid starts (getD (servedList n) i 0)),
-          servedList-length n,
-          served-range,
-        )
+    sum-range = omega (arith, rating-sum n starts, sumOf-served-le n (stopGap n starts) maxPeriod (stopGap-le-maxPeriod valid starts))

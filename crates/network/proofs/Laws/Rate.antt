@@ -1,9 +1,9 @@
 -- What the pass over the calls and the pass over the stops compute is the rating: the rows hold the stops' gaps, and count the stops that
 -- the definition counts. Assumes nothing.
 use Prim.Native.Nat.{ℕ, suc, _*_, _<_, _≤_}
-use mathlib.Core.Path.{_≡_, refl, ap, ap₂, _∙_}
+use mathlib.Core.Path.{_≡_, ap, ap₂, _∙_}
 use mathlib.Core.Bool.{true}
-use mathlib.Core.List.{List, [], _∷_, map, List·Memᴰ, List·Memᴰ·head, List·Memᴰ·tail, Memᴰ·of-map}
+use mathlib.Core.List.{List, [], _∷_, map, List·Memᴰ, Memᴰ·of-map}
 use native.Mathlib.Nat.{le-trans, zero-lt-suc}
 use native.Mathlib.Omega.{arith}
 use borrow.Author.Tests.{ltb-true}
@@ -27,13 +27,11 @@ use Rattle.network.specs.Rating.{
   ratingOver,
 }
 use Rattle.network.specs.Scan.{countedStops}
-use Rattle.network.proofs.Laws.Scan.{keep-all, gapOfStop-le-period}
-use Rattle.network.proofs.Laws.Tables.{below-of-member, below-same, sumOf-same}
-
--- Two functions that agree on a list's elements
-pub map-same : {A B : Type 0} (f g : A → B) (xs : List A) → ((x : A) → List·Memᴰ x xs → f x ≡ g x) → map f xs ≡ map g xs
-map-same f g [] h = refl
-map-same f g (x ∷ xs) h = ap₂ _∷_ (h x (List·Memᴰ·head refl)) (map-same f g xs (λ y m. h y (List·Memᴰ·tail m)))
+use Rattle.network.proofs.Laws.Lists.{map-same}
+use Rattle.network.proofs.Laws.Members.{keep-all}
+use Rattle.network.proofs.Laws.Tables.{below-of-member, below-same}
+use Rattle.network.proofs.Laws.Sums.{sumOf-same}
+use Rattle.network.proofs.Laws.Scan.{gapOfStop-le-period}
 
 -- A rating depends on the gaps of the stops that count alone
 pub ratingBy-same : (f g : ℕ → ℕ) (stops : List Counted) → ((s : Counted) → List·Memᴰ s stops → f (s .stop) ≡ g (s .stop)) → ratingBy f stops ≡ ratingBy g stops
@@ -90,4 +88,4 @@ pub stopGap-le-maxPeriod : {n : Net} → Valid n → (starts : List ℤ) (stop :
 unfolding stopGap callsOfStop periodOf
 stopGap-le-maxPeriod {n} v starts stop =
     gapOfStop-le-maxPeriod n starts (keep (λ (c : Call). eqb (c .stop) stop) (n .calls))
-    (keep-all (InRange n) (λ (c : Call). eqb (c .stop) stop) noCall (n .calls) (λ k h. (v .period-pos _ (v .call-line k h), v .period _ (v .call-line k h))))
+    (keep-all noCall (λ (c : Call). eqb (c .stop) stop) (InRange n) (n .calls) (λ k h e. (v .period-pos _ (v .call-line k h), v .period _ (v .call-line k h))))

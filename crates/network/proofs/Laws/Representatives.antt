@@ -10,12 +10,12 @@ use lib.Dec.{eqb}
 use borrow.Author.Tests.{eq-eqb}
 use Rattle.network.specs.Lists.{pick, below, sumOf, leastOf}
 use Rattle.network.proofs.Laws.Lists.{and-both}
-use Rattle.network.proofs.Laws.Tables.{below-of-member, member-of-below, sumOf-same, sumOf-add, sumOf-zero, sumOf-below-next}
-use Rattle.network.proofs.Laws.Tables.{sumOf-below-only}
-use Rattle.network.proofs.Laws.Membership.{leastOf-same-members}
+use Rattle.network.proofs.Laws.Least.{leastOf-same-members}
+use Rattle.network.proofs.Laws.Tables.{below-of-member, member-of-below}
+use Rattle.network.proofs.Laws.Sums.{sumOf-same, sumOf-add, sumOf-zero, sumOf-below-next, sumOf-below-only}
 
 -- For each number below the bound that passes such a number stands, and for that one it stands itself
-pub record Represents (p : ℕ → Bool) (rep : ℕ → ℕ) (n : ℕ) : Type 0 where
+pub record StandsForEach (p : ℕ → Bool) (rep : ℕ → ℕ) (n : ℕ) : Type 0 where
   pub bound : (i : ℕ) → i < n → p i ≡ true → rep i < n
   pub passes : (i : ℕ) → i < n → p i ≡ true → p (rep i) ≡ true
   pub itself : (i : ℕ) → i < n → p i ≡ true → rep (rep i) ≡ rep i
@@ -27,7 +27,7 @@ standsForItself p rep i = p i && eqb (rep i) i
 abbrev pub isStoodForBy : (ℕ → Bool) → (ℕ → ℕ) → ℕ → ℕ → Bool
 isStoodForBy p rep r i = p i && eqb (rep i) r
 
-module _ (p : ℕ → Bool) (rep : ℕ → ℕ) (n : ℕ) (h : Represents p rep n) where
+module _ (p : ℕ → Bool) (rep : ℕ → ℕ) (n : ℕ) (h : StandsForEach p rep n) where
   -- those below the bound that pass, and those that stand for themselves
   abbrev passing : List ℕ
   passing = below p n

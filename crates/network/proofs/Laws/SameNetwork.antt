@@ -3,7 +3,7 @@
 use Prim.Native.Nat.{ℕ, suc, _+_}
 use mathlib.Core.Path.{_≡_, refl, sym, ap, ap₂, subst, fun-ext, _∙_}
 use mathlib.Core.Bool.{Bool, _&&_}
-use mathlib.Core.List.{List, [], _∷_, Permᴰ·symm}
+use mathlib.Core.List.{List, [], _∷_, List·Permᴰ, Permᴰ·symm}
 use lib.Dec.{eqb}
 use lib.IntN.{ℤ}
 use lib.ListN.{length, getD}
@@ -16,13 +16,14 @@ use Rattle.network.specs.Divisor.{commonCycle}
 use Rattle.network.specs.Lists.{pick, allBelow, countBelow}
 use Rattle.network.specs.Network.{Net, netWith, maxStop, cycle, isServed, servedStops}
 use Rattle.network.specs.Rate.{ratingValues, onSheet, ratedOnSheet, rateOutcome}
-use Rattle.network.specs.Rating.{periodOf, callsOfStop, rating}
+use Rattle.network.specs.Rating.{periodOf, gapOfCalls, pairGaps, callsOfStop, counted, rating}
 use Rattle.network.specs.Reading.{Reading, accepted, values, refusal, readOutcome}
 use Rattle.network.specs.Tidy.{tidy}
 use Rattle.network.specs.Valid.{Valid, noCall}
 use Rattle.network.proofs.Laws.Archive.{tidied-valid}
 use Rattle.network.proofs.Laws.Classes.{lowest-rating}
-use Rattle.network.proofs.Laws.Permuted.{any-permuted, rating-permuted}
+use Rattle.network.proofs.Laws.Permutations.{any-permuted, keep-permuted}
+use Rattle.network.proofs.Laws.Permuted.{counted-permuted, rating-permuted}
 use Rattle.network.proofs.Laws.Tidy.{length-tidy, tidy-is-permutation, tidy-tidy, tidy-of-howOften, keep-tidy}
 
 -- One network, with its calls in order
@@ -58,6 +59,32 @@ on-sheet-tidied : {n : Net} (rates : Net → List ℤ → Rating) → ((sheet : 
 unfolding onSheet tidied
 on-sheet-tidied {n} rates same sheet =
     ap (λ (r : Rating). pick (eqb (length sheet) (length (n .periods))) (ratingValues r) (refusal 15 0)) (same sheet)
+
+-- ---- what the search looks at: the calls of a stop in another order, and only the periods of a network for given calls
+
+pub callsOfStop-tidied : (n : Net) (stop : ℕ) → List·Permᴰ (callsOfStop n stop) (callsOfStop (tidied n) stop)
+unfolding callsOfStop tidied
+callsOfStop-tidied n stop = keep-permuted (λ (c : Call). eqb (c .stop) stop) (Permᴰ·symm (tidy-is-permutation (n .calls)))
+
+pub periods-tidied : (n : Net) → tidied n .periods ≡ n .periods
+unfolding tidied
+periods-tidied n = refl
+
+pub cycle-tidied : (n : Net) → cycle (tidied n) ≡ cycle n
+unfolding cycle tidied
+cycle-tidied n = refl
+
+pub periodOf-tidied : (n : Net) → periodOf (tidied n) ≡ periodOf n
+unfolding periodOf tidied
+periodOf-tidied n = refl
+
+pub pairGaps-tidied : (n : Net) → pairGaps (tidied n) ≡ pairGaps n
+unfolding pairGaps gapOfCalls periodOf tidied
+pairGaps-tidied n = refl
+
+pub counted-tidied : {n : Net} → Valid n → counted (tidied n) ≡ counted n
+unfolding tidied
+counted-tidied {n} v = sym (counted-permuted n (tidied n) v refl (Permᴰ·symm (tidy-is-permutation (n .calls))))
 
 -- ---- classes
 

@@ -4,7 +4,7 @@ use Prim.Native.Nat.{ℕ, zero, suc, _+_, _*_, _-_, _<_, _≤_, min}
 use mathlib.Core.Path.{_≡_, refl, sym, ap, ap₂, _∙_}
 use mathlib.Core.Bool.{Bool, true, false}
 use mathlib.Core.List.{List, [], _∷_, _++_, map, append-nil, map-append}
-use native.Mathlib.Nat.{le-trans, min-comm, div-le-self, zero-lt-suc}
+use native.Mathlib.Nat.{le-trans, div-le-self, zero-lt-suc}
 use native.Mathlib.Decide.{ℕ-discrete}
 use native.Mathlib.Numerals.{add-one}
 use native.Mathlib.Omega.{arith}
@@ -12,48 +12,35 @@ use borrow.Author.Tests.{eq-eqb, ne-eqb, eqb-true, eqb-false, lt-ltb, le-ltb}
 use lib.Dec.{eqb, ltb}
 use lib.IntN.{ℤ}
 use lib.Arith.{lt-of-le-ne}
-use lib.ListN.{length, getD, take, set, length-append, length-set, replicate, length-replicate}
-use lib.Seq.{take-suc, getD-set-same, getD-set-other}
+use lib.ListN.{length, getD, take, set, length-append, length-take, length-set, replicate, length-replicate}
+use lib.Seq.{getD-take, getD-set-same, getD-set-other}
 use Rattle.network.specs.declared.Call.{Call}
 use Rattle.network.specs.Lists.{pick, keep, below, sumOf, leastOf, pairsOf}
 use Rattle.network.specs.Network.{Net}
 use Rattle.network.specs.Valid.{noCall}
-use Rattle.network.specs.Rating.{periodOf, gapOfCalls, pairGaps, gapOfStop, Counted, ratingBy}
+use Rattle.network.specs.declared.Network.{Network}
+use Rattle.network.specs.Stored.{netOf, callsIn}
+use Rattle.network.specs.Rating.{callsOfStop, periodOf, gapOfCalls, pairGaps, gapOfStop, Counted, ratingBy}
 use Rattle.network.specs.Scan.{lastAt, callsBefore, LeadsBack, leastFrom, ratingSoFar, withStop}
-use Rattle.network.proofs.Laws.Members as members
-use Rattle.network.proofs.Laws.Tables.{sumOf-append}
+use Rattle.network.proofs.Laws.Lists.{getD-zeros}
+use Rattle.network.proofs.Laws.Members.{All, keep-all, keep-nil, keep-take-next, length-keep-le}
+use Rattle.network.proofs.Laws.Least.{leastFrom-le, leastFrom-pairsOf-snoc, leastFrom-snoc, leastOf-leastFrom, leastOf-snoc}
+use Rattle.network.proofs.Laws.Sums.{sumOf-append}
 use Rattle.network.proofs.Laws.Divisor.{gcd-le-left}
 use Rattle.network.proofs.Laws.Gap.{gapOf-half}
-
-pub keep-append : {A : Type 0} (p : A → Bool) (xs ys : List A) → keep p (xs ++ ys) ≡ keep p xs ++ keep p ys
-unfolding keep
-keep-append p [] ys = refl
-keep-append p (x ∷ xs) ys = go (p x) (keep-append p xs ys)
-  where
-    go : (t : Bool) → keep p (xs ++ ys) ≡ keep p xs ++ keep p ys
-        → pick t (x ∷ keep p (xs ++ ys)) (keep p (xs ++ ys)) ≡ pick t (x ∷ keep p xs) (keep p xs) ++ keep p ys
-    go true e = ap (λ l. x ∷ l) e
-    go false e = e
 
 -- ---- back through the calls at a stop
 
 module _ (stop : ℕ) (l : List Call) where
   -- a call at the stop is one more of its calls
   pub callsBefore-hit : (k : ℕ) → k < length l → getD l k noCall .stop ≡ stop → callsBefore stop l (k + 1) ≡ callsBefore stop l k ++ (getD l k noCall ∷ [])
-  unfolding callsBefore keep
-  callsBefore-hit k h e =
-      rw (add-one, take-suc l k noCall)
-      (keep-append (λ (c : Call). eqb (c .stop) stop) (take k l) (getD l k noCall ∷ [])
-      ∙ ap (λ t. keep (λ (c : Call). eqb (c .stop) stop) (take k l) ++ pick t (getD l k noCall ∷ []) []) (eq-eqb _ _ e))
+  unfolding callsBefore
+  callsBefore-hit k h e = keep-take-next (λ (c : Call). eqb (c .stop) stop) l k noCall true h (eq-eqb _ _ e)
 
   -- any other call is none of them
   pub callsBefore-miss : (k : ℕ) → k < length l → (getD l k noCall .stop ≡ stop → ⊥) → callsBefore stop l (k + 1) ≡ callsBefore stop l k
-  unfolding callsBefore keep
-  callsBefore-miss k h f =
-      rw (add-one, take-suc l k noCall)
-      (keep-append (λ (c : Call). eqb (c .stop) stop) (take k l) (getD l k noCall ∷ [])
-      ∙ ap (λ t. keep (λ (c : Call). eqb (c .stop) stop) (take k l) ++ pick t (getD l k noCall ∷ []) []) (ne-eqb _ _ f)
-      ∙ append-nil _)
+  unfolding callsBefore
+  callsBefore-miss k h f = keep-take-next (λ (c : Call). eqb (c .stop) stop) l k noCall false h (ne-eqb _ _ f) ∙ append-nil _
 
   pub lastAt-hit : (k : ℕ) → getD l k noCall .stop ≡ stop → lastAt stop l (k + 1) ≡ k + 1
   unfolding lastAt
@@ -95,65 +82,71 @@ module _ (stop : ℕ) (l : List Call) where
       go true e f = refl
       go false e f = (rw add-one at (callsBefore-miss k (omega arith) (eqb-false _ _ e))) ∙ f
 
--- the same of a number that is it
+  pub callsBefore-none : callsBefore stop l 0 ≡ []
+  unfolding callsBefore
+  callsBefore-none = keep-nil (λ (c : Call). eqb (c .stop) stop)
+
+  pub callsBefore-is : (k : ℕ) → callsBefore stop l k ≡ keep (λ (c : Call). eqb (c .stop) stop) (take k l)
+  unfolding callsBefore
+  callsBefore-is k = refl
+
+  -- so many at most
+  pub length-callsBefore : (k : ℕ) → length (callsBefore stop l k) ≤ k
+  unfolding callsBefore
+  length-callsBefore k = omega (arith, length-keep-le (λ (c : Call). eqb (c .stop) stop) (take k l), length-take k l)
+
+  -- what holds of the first calls holds of those at the stop
+  pub callsBefore-all : (P : Call → Type 0) (k : ℕ) → ((j : ℕ) → j < k → j < length l → P (getD l j noCall)) → All noCall P (callsBefore stop l k)
+  unfolding callsBefore
+  callsBefore-all P k f =
+      keep-all noCall (λ (c : Call). eqb (c .stop) stop) P (take k l)
+      (λ j h e.
+      let b : j < min k (length l) = rw length-take at h in
+      rw (getD-take k l j noCall (omega arith)) (f j (omega arith) (omega arith)))
+
+-- The calls at a stop of the network that is held
+pub callsOfStop-held : (n : Network) (stop : ℕ) → callsOfStop (netOf n) stop ≡ callsBefore stop (callsIn (n .list)) (n .calls)
+unfolding callsOfStop callsBefore netOf
+callsOfStop-held n stop = refl
+
+-- ---- the row that leads back
+
+-- The latest call at a stop is found in the first calls alone
+lastAt-same : (stop : ℕ) (l m : List Call) (k : ℕ) → ((j : ℕ) → j < k → getD l j noCall ≡ getD m j noCall) → lastAt stop l k ≡ lastAt stop m k
+unfolding lastAt
+lastAt-same stop l m zero h = refl
+lastAt-same stop l m (suc k) h =
+    ap₂ (λ (c : Call) (v : ℕ). pick (eqb (c .stop) stop) (suc k) v) (h k (omega arith)) (lastAt-same stop l m k (λ j b. h j (omega (arith, b))))
+
+module _ (previous : List ℕ) (l : List Call) (k : ℕ) (leads : LeadsBack previous l k) where
+  pub leadsBack-at : (j : ℕ) → j < k → getD previous j 0 ≡ lastAt (getD l j noCall .stop) l j
+  unfolding LeadsBack
+  leadsBack-at j h = leads j h
+
+  pub leadsBack-fewer : (i : ℕ) → i ≤ k → LeadsBack previous l i
+  unfolding LeadsBack
+  leadsBack-fewer i h j b = leads j (omega arith)
+
+  pub leadsBack-same : (m : List Call) → ((j : ℕ) → j < k → getD l j noCall ≡ getD m j noCall) → LeadsBack previous m k
+  unfolding LeadsBack
+  leadsBack-same m h j b =
+      leads j b
+      ∙ ap (λ (c : Call). lastAt (c .stop) l j) (h j b)
+      ∙ lastAt-same (getD m j noCall .stop) l m j (λ i q. h i (omega (arith, q, b)))
+
+-- A number that is the latest call at a stop leads to a call there
 pub lastAt-landed : (l : List Call) (stop k j : ℕ) → j ≡ lastAt stop l k → 0 < j → getD l (j - 1) noCall .stop ≡ stop
 lastAt-landed l stop k j e h = ap (λ (i : ℕ). getD l (i - 1) noCall .stop) e ∙ lastAt-lands stop l k (rw e at h)
-
--- ---- the least of a number and a list
-
-pub leastFrom-append : (v : ℕ) (xs ys : List ℕ) → leastFrom v (xs ++ ys) ≡ leastFrom (leastFrom v xs) ys
-unfolding leastFrom
-leastFrom-append v [] ys = refl
-leastFrom-append v (x ∷ xs) ys = leastFrom-append (min v x) xs ys
-
-pub leastFrom-min : (v x : ℕ) (xs : List ℕ) → leastFrom (min v x) xs ≡ min (leastFrom v xs) x
-unfolding leastFrom
-leastFrom-min v x [] = refl
-leastFrom-min v x (y ∷ ys) = ap (λ (w : ℕ). leastFrom w ys) (omega arith) ∙ leastFrom-min (min v y) x ys
-
--- the last is as good as the first
-pub leastFrom-snoc : (v : ℕ) (xs : List ℕ) (x : ℕ) → leastFrom v (xs ++ (x ∷ [])) ≡ leastFrom (min v x) xs
-unfolding leastFrom
-leastFrom-snoc v xs x = leastFrom-append v xs (x ∷ []) ∙ sym (leastFrom-min v x xs)
-
-pub leastFrom-le : (v : ℕ) (xs : List ℕ) → leastFrom v xs ≤ v
-unfolding leastFrom
-leastFrom-le v [] = omega arith
-leastFrom-le v (x ∷ xs) = let h = leastFrom-le (min v x) xs in omega arith
-
-pub leastOf-cons : (x : ℕ) (xs : List ℕ) → leastOf (x ∷ xs) ≡ leastFrom x xs
-unfolding leastOf leastFrom
-leastOf-cons x [] = refl
-leastOf-cons x (y ∷ ys) =
-    ap (min x) (leastOf-cons y ys) ∙ min-comm x (leastFrom y ys) ∙ sym (leastFrom-min y x ys) ∙ ap (λ (w : ℕ). leastFrom w ys) (min-comm y x)
-
--- ---- one element more, whatever number a pair has
-
-module _ {A : Type 0} (f : A → A → ℕ) where
-  pub pairsOf-snoc :
-      (v : ℕ) (xs : List A) (a : A)
-      → leastFrom v (pairsOf f (xs ++ (a ∷ []))) ≡ leastFrom (leastFrom v (pairsOf f xs)) (map (λ x. f x a) xs)
-  unfolding pairsOf leastFrom
-  pairsOf-snoc v [] a = refl
-  pairsOf-snoc v (x ∷ xs) a =
-      let w = leastFrom v (map (f x) xs) in
-      leastFrom-append v (map (f x) (xs ++ (a ∷ []))) (pairsOf f (xs ++ (a ∷ [])))
-      ∙ ap (λ (u : ℕ). leastFrom u (pairsOf f (xs ++ (a ∷ []))))
-      (ap (leastFrom v) (map-append _ xs (a ∷ [])) ∙ leastFrom-append v (map (f x) xs) (f x a ∷ []))
-      ∙ pairsOf-snoc (min w (f x a)) xs a
-      ∙ ap (λ (u : ℕ). leastFrom u (map (λ y. f y a) xs))
-      (leastFrom-min w (f x a) (pairsOf f xs)
-      ∙ ap (λ (u : ℕ). min u (f x a)) (sym (leastFrom-append v (map (f x) xs) (pairsOf f xs))))
 
 -- ---- one call more at a stop
 
 module _ (n : Net) (starts : List ℤ) where
-  pub pairGaps-snoc :
+  pub leastFrom-pairGaps-snoc :
       (v : ℕ) (cs : List Call) (c : Call)
       → leastFrom v (pairGaps n starts (cs ++ (c ∷ [])))
       ≡ leastFrom (leastFrom v (pairGaps n starts cs)) (map (λ d. gapOfCalls n starts d c) cs)
   unfolding pairGaps
-  pairGaps-snoc v cs c = pairsOf-snoc (gapOfCalls n starts) v cs c
+  leastFrom-pairGaps-snoc v cs c = leastFrom-pairsOf-snoc (gapOfCalls n starts) v cs c
 
   pub gapOfCalls-le-period : (c d : Call) → 0 < periodOf n c → gapOfCalls n starts c d ≤ periodOf n c
   unfolding gapOfCalls
@@ -166,7 +159,7 @@ module _ (n : Net) (starts : List ℤ) where
   unfolding gapOfStop pairGaps leastFrom pairsOf
   gapOfStop-from c [] h = refl
   gapOfStop-from c (d ∷ cs) h =
-      leastOf-cons (gapOfCalls n starts c d) _
+      leastOf-leastFrom (gapOfCalls n starts c d) _
       ∙ ap (λ (w : ℕ). leastFrom w (map (gapOfCalls n starts c) cs ++ pairGaps n starts (d ∷ cs)))
       (let k = gapOfCalls-le-period c d h in omega arith)
 
@@ -177,7 +170,7 @@ module _ (n : Net) (starts : List ℤ) where
       → gapOfStop n starts ((c ∷ cs) ++ (d ∷ [])) ≡ leastFrom (gapOfStop n starts (c ∷ cs)) (map (λ e. gapOfCalls n starts e d) (c ∷ cs))
   gapOfStop-snoc c cs d h =
       gapOfStop-from c (cs ++ (d ∷ [])) h
-      ∙ pairGaps-snoc (periodOf n c) (c ∷ cs) d
+      ∙ leastFrom-pairGaps-snoc (periodOf n c) (c ∷ cs) d
       ∙ ap (λ (w : ℕ). leastFrom w (map (λ e. gapOfCalls n starts e d) (c ∷ cs))) (sym (gapOfStop-from c cs h))
 
   -- a stop's gap is at most the period of its first call
@@ -196,15 +189,6 @@ step-back g stop l k lesser h e =
     ∙ sym (leastFrom-snoc lesser (map g (callsBefore stop l k)) (g (getD l k noCall)))
     ∙ ap (leastFrom lesser) (sym (map-append g (callsBefore stop l k) (getD l k noCall ∷ [])))
     ∙ ap (λ cs. leastFrom lesser (map g cs)) (sym (callsBefore-hit stop l k h e))
-
--- What holds of every element holds of those that are kept
-pub keep-all :
-    {A : Type 0} (P : A → Type 0) (p : A → Bool) (d : A) (xs : List A)
-    → ((i : ℕ) → i < length xs → P (getD xs i d))
-    → (i : ℕ)
-    → i < length (keep p xs)
-    → P (getD (keep p xs) i d)
-keep-all P p d xs f = members.keep-all d p P xs (λ i h e. f i h)
 
 -- where a call at the stop is the last, there is one
 pub callsBefore-some : (stop : ℕ) (l : List Call) (k : ℕ) → 0 < k → k ≤ length l → getD l (k - 1) noCall .stop ≡ stop → 0 < length (callsBefore stop l k)
@@ -233,11 +217,6 @@ pub record Scanned (n : Net) (starts : List ℤ) (l : List Call) (counts gaps la
   pub last-is : (s : ℕ) → s < 64 → getD last s 0 ≡ lastAt s l i
   pub leads : LeadsBack previous l i
   pub gaps-are : (s : ℕ) → s < 64 → 0 < getD counts s 0 → getD gaps s 0 ≡ gapOfStop n starts (callsBefore s l i)
-
-pub getD-zeros : (k s : ℕ) → _≡_ {A = ℕ} (getD (replicate k 0) s 0) 0
-getD-zeros zero s = refl
-getD-zeros (suc k) zero = refl
-getD-zeros (suc k) (suc s) = getD-zeros k s
 
 pub scanned-none : (n : Net) (starts : List ℤ) (l : List Call) (counts : List ℕ) → Scanned n starts l counts (replicate 64 0) (replicate 64 0) (replicate 256 0) 0
 unfolding lastAt callsBefore keep gapOfStop LeadsBack
@@ -327,13 +306,6 @@ module _ (n : Net) (starts : List ℤ) (l : List Call) (counts gaps last previou
       uncounted s k e = omega (arith, rw (← e) at k, z)
 
 -- ---- the rating over the stops that count
-
-leastOf-snoc : (x : ℕ) (xs : List ℕ) (y : ℕ) → leastOf ((x ∷ xs) ++ (y ∷ [])) ≡ min (leastOf (x ∷ xs)) y
-leastOf-snoc x xs y =
-    leastOf-cons x (xs ++ (y ∷ []))
-    ∙ leastFrom-snoc x xs y
-    ∙ leastFrom-min x y xs
-    ∙ ap (λ (v : ℕ). min v y) (sym (leastOf-cons x xs))
 
 -- One stop more
 pub ratingSoFar-snoc :

@@ -13,10 +13,11 @@ use Rattle.network.specs.Network.{Net}
 use Rattle.network.specs.Valid.{noCall, Valid}
 use Rattle.network.specs.Gap.{residue, gapOf}
 use Rattle.network.specs.Rating.{arrivalOf, periodOf, gapOfCalls, callsOfStop, stopGap, rating}
+use Rattle.network.proofs.Laws.Lists.{getD-map}
+use Rattle.network.proofs.Laws.Members.{All, AllPairs, keep-pairs}
 use Rattle.network.proofs.Laws.Integers.{difference, difference-add, eq-of-difference}
-use Rattle.network.proofs.Laws.Gap.{residue-of-add, multiple-of-residue-eq, residue-eq-of-multiple}
-use Rattle.network.proofs.Laws.Gap.{gapOf-period-left, gapOf-period-right, gapOf-shift}
-use Rattle.network.proofs.Laws.Members.{All, AllPairs, getD-map, keep-pairs}
+use Rattle.network.proofs.Laws.Gap.{residue-of-add, multiple-of-residue-eq, residue-eq-of-multiple, gapOf-period-left}
+use Rattle.network.proofs.Laws.Gap.{gapOf-period-right, gapOf-shift}
 use Rattle.network.proofs.Laws.Pairs.{gapOfStop-cong}
 use Rattle.network.proofs.Laws.Rating.{rating-cong}
 

@@ -3,7 +3,7 @@
 use Prim.Native.Nat.{ℕ, zero, suc, _≤_, _<_}
 use mathlib.Core.Path.{_≡_, refl, sym, ap, ap₂, subst, subst₂, _∙_}
 use mathlib.Core.Bool.{Bool, true}
-use mathlib.Core.List.{List}
+use mathlib.Core.List.{List, List·Memᴰ}
 use native.Mathlib.Nat.{le-antisymm}
 use native.Mathlib.Omega.{arith}
 use native.Mathlib.Decide.{decLt}
@@ -12,12 +12,15 @@ use lib.Dec.{eqb}
 use lib.IntN.{ℤ}
 use lib.ListN.{length, getD}
 use Rattle.network.specs.declared.Call.{Call}
-use Rattle.network.specs.Network.{Net, isServed}
+use Rattle.network.specs.Network.{Net, isServed, maxPeriod, cycle}
+use Rattle.network.specs.Lists.{keep}
+use Rattle.network.specs.Divisor.{Divides}
 use Rattle.network.specs.Valid.{noCall, Valid}
 use Rattle.network.specs.Rating.{periodOf, CallsThere, IsCallsGap, IsStopGap, least-of-calls, period-of-call}
 use Rattle.network.specs.Rating.{gapOfCalls, gapOfStop, callsOfStop, stopGap}
-use Rattle.network.proofs.Laws.Members.{Has, HasPair, All, AllPairs, any-has, has-any}
-use Rattle.network.proofs.Laws.Members.{keep-all, keep-pairs, keep-has, keep-has-pair}
+use Rattle.network.proofs.Laws.Members.{HasPair, All, AllPairs, keep-all, keep-pairs, keep-has-pair, any-of-member, keep-of-member}
+use Rattle.network.proofs.Laws.Members.{member-of-any, member-of-place, place-of-member}
+use Rattle.network.proofs.Laws.Valid.{cycle-multiple}
 use Rattle.network.proofs.Laws.Gap.{theorem-3-1-2, IsGap-unique}
 use Rattle.network.proofs.Laws.Pairs.{gapOfCalls-symmetric, gapOfStop-le-pair, gapOfStop-attained, gapOfStop-single}
 
@@ -42,15 +45,18 @@ module _ (n : Net) (stop : ℕ) where
 
   pub served-of-call : {k : ℕ} → CallsThere n stop k → isServed stop (n .calls) ≡ true
   unfolding isServed
-  served-of-call {k = k} c = any-has noCall (isAt stop) (n .calls) k (c .stated) (is-at c)
+  served-of-call {k = k} c = any-of-member (isAt stop) (n .calls) (member-of-place (n .calls) noCall k (c .stated)) (is-at c)
 
   pub call-of-served : isServed stop (n .calls) ≡ true → (k : ℕ) × CallsThere n stop k
   unfolding isServed
-  call-of-served e = let (k, h, f) = has-any noCall (isAt stop) (n .calls) e in (k, number-of-call k h f .0)
+  call-of-served e =
+      let (c, m, f) = member-of-any (isAt stop) (n .calls) e in
+      let (k, h, d) = place-of-member (n .calls) noCall m in
+      (k, number-of-call k h (ap (isAt stop) d ∙ f) .0)
 
-  pub callsOfStop-has : {k : ℕ} → CallsThere n stop k → Has noCall (callsOfStop n stop) (callAt n k)
+  pub callsOfStop-member : {k : ℕ} → CallsThere n stop k → List·Memᴰ (callAt n k) (callsOfStop n stop)
   unfolding callsOfStop
-  callsOfStop-has {k = k} c = keep-has noCall (isAt stop) (n .calls) k (c .stated) (is-at c)
+  callsOfStop-member {k = k} c = keep-of-member (isAt stop) (n .calls) (member-of-place (n .calls) noCall k (c .stated)) (is-at c)
 
   callsOfStop-has-pair : {j k : ℕ} → j < k → CallsThere n stop j → CallsThere n stop k
       → HasPair noCall (callsOfStop n stop) (callAt n j) (callAt n k)
@@ -69,13 +75,42 @@ module _ (n : Net) (stop : ℕ) where
       keep-pairs noCall (isAt stop) (λ c d. (j : ℕ) × (k : ℕ) × (j < k) × IsNumber n stop c j × IsNumber n stop d k) (n .calls)
       (λ j k h l e f. (j, k, h, number-of-call j (omega arith) e, number-of-call k l f))
 
+  pub callsOfStop-is : callsOfStop n stop ≡ keep (λ (c : Call). eqb (c .stop) stop) (n .calls)
+  unfolding callsOfStop
+  callsOfStop-is = refl
+
+  pub stopGap-is : (starts : List ℤ) → stopGap n starts stop ≡ gapOfStop n starts (callsOfStop n stop)
+  unfolding stopGap
+  stopGap-is starts = refl
+
+pub periodOf-is : (n : Net) (c : Call) → periodOf n c ≡ getD (n .periods) (c .line) 0
+unfolding periodOf
+periodOf-is n c = refl
+
+-- ---- a call of a stated line
+
+pub period-divides-cycle : (n : Net) (c : Call) → c .line < length (n .periods) → Divides (periodOf n c) (cycle n)
+unfolding periodOf
+period-divides-cycle n c = cycle-multiple n (c .line)
+
 module _ {n : Net} (valid : Valid n) where
-  pub call-period-pos : {stop k : ℕ} → CallsThere n stop k → 0 < periodOf n (callAt n k)
+  pub periodOf-pos : (c : Call) → c .line < length (n .periods) → 0 < periodOf n c
   unfolding periodOf
-  call-period-pos {k = k} c = valid .period-pos (callAt n k .line) (valid .call-line k (c .stated))
+  periodOf-pos c = valid .period-pos (c .line)
+
+  pub periodOf-le : (c : Call) → c .line < length (n .periods) → periodOf n c ≤ maxPeriod
+  unfolding periodOf
+  periodOf-le c = valid .period (c .line)
+
+  pub callsOfStop-stated : (stop : ℕ) → All noCall (λ c. c .line < length (n .periods)) (callsOfStop n stop)
+  unfolding callsOfStop
+  callsOfStop-stated stop = keep-all noCall (isAt stop) (λ c. c .line < length (n .periods)) (n .calls) (λ k h e. valid .call-line k h)
+
+  pub call-period-pos : {stop k : ℕ} → CallsThere n stop k → 0 < periodOf n (callAt n k)
+  call-period-pos {k = k} c = periodOf-pos (callAt n k) (valid .call-line k (c .stated))
 
   pub callsOfStop-period-pos : (stop : ℕ) → All noCall (λ c. 0 < periodOf n c) (callsOfStop n stop)
-  callsOfStop-period-pos stop i h = let (k, (c, e)) = callsOfStop-all n stop i h in subst (λ c. 0 < periodOf n c) e (call-period-pos c)
+  callsOfStop-period-pos stop i h = periodOf-pos _ (callsOfStop-stated stop i h)
 
   module _ (starts : List ℤ) where
     abbrev pub gapAt : ℕ → ℕ → ℕ
@@ -140,7 +175,7 @@ pub stopGap-is-stop-gap : (n : Net) → Valid n → (starts : List ℤ) (stop : 
 stopGap-is-stop-gap n valid starts stop e = go (length (callsOfStop n stop)) refl
   where
     go : (l : ℕ) → length (callsOfStop n stop) ≡ l → IsStopGap n starts stop (stopGap n starts stop)
-    go zero f = let (k, c) = call-of-served n stop e in let (i, h, g) = callsOfStop-has n stop c in absurd (omega arith)
+    go zero f = let (k, c) = call-of-served n stop e in let (i, h, g) = place-of-member (callsOfStop n stop) noCall (callsOfStop-member n stop c) in absurd (omega arith)
     go (suc zero) f = stop-gap-of-one valid starts stop f
     go (suc (suc l)) f = stop-gap-of-pairs valid starts stop (omega arith)
 

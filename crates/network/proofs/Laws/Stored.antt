@@ -9,18 +9,19 @@ use native.Mathlib.Omega.{arith}
 use lib.ListN.{length, getD, take, set, length-set, length-map}
 use lib.Seq.{length-take-le, getD-take, getD-set-same, getD-set-other}
 use Rattle.network.specs.declared.Call.{Call}
-use Rattle.network.specs.declared.Check.the-variants.{Passes}
+use Rattle.network.specs.declared.Check.the-variants.{Passes, Refused}
 use Rattle.network.specs.declared.Network.{Network}
 use Rattle.network.specs.declared.Told.the-variants as told
-use Rattle.network.specs.Network.{netWith, SoFar, withNetwork, Command, statesLine, callsByOffset, callsByRide, ends, extend}
+use Rattle.network.specs.Network.{Net, netWith, SoFar, withNetwork, Command, statesLine, callsByOffset, callsByRide, ends, extend}
 use Rattle.network.specs.Network.{maxLines, maxCycle, maxStop, maxCalls, maxCallsAtStop, cycle, howOftenAt, word, callOf, withLine, withCall}
-use Rattle.network.specs.Valid.{Valid, noCall}
+use Rattle.network.specs.Valid.{Valid, IsBytes, noCall}
+use Rattle.network.specs.Reading.{accepted, refused}
 use Rattle.network.specs.Grounds.{first, grounds}
-use Rattle.network.specs.Stored.{netOf, packed, callIn, callsIn, Sound, HasSize, Tells}
-use Rattle.network.proofs.Laws.Divisor.{lcm-pos}
-use Rattle.network.proofs.Laws.Grounds.{CallFits, line-passes, offset-passes, ride-passes}
+use Rattle.network.specs.Stored.{netOf, packed, callIn, callsIn, Sound, HasSize, Tells, readingOf}
 use Rattle.network.proofs.Laws.Lists.{zero-ne-one, map-set, take-set-next}
+use Rattle.network.proofs.Laws.Divisor.{lcm-pos}
 use Rattle.network.proofs.Laws.Network.{cycle-withLine}
+use Rattle.network.proofs.Laws.Grounds.{CallFits, line-passes, offset-passes, ride-passes}
 
 pub held-lines : (n : Network) → Sound n → length (netOf n .periods) ≡ n .lines
 unfolding netOf
@@ -182,3 +183,56 @@ tells-call c f p behind call (passes, inl (is, made)) =
 tells-call c f p behind call (passes, inr (is, made)) =
     call-told c callsByRide f p behind call _ passes (λ e. zero-ne-one (cc)) is made refl
     (ride-passes f p behind (ap (λ (d : Command). first (grounds d f p behind)) (sym is) ∙ passes) .0)
+
+-- ---- what other crates read of the network that is held
+
+pub held-periods : (n : Network) → netOf n .periods ≡ take (n .lines) (n .periods)
+unfolding netOf
+held-periods n = refl
+
+-- without its calls
+abbrev pub callsDropped : Network → Network
+callsDropped n = record { lines = n .lines; periods = n .periods; calls = 0; list = n .list; cycle = n .cycle }
+
+pub netOf-callsDropped : (n : Network) → netOf (callsDropped n) ≡ netWith (netOf n .periods) []
+unfolding netOf
+netOf-callsDropped n = refl
+
+pub sound-callsDropped : (n : Network) → Sound n → Sound (callsDropped n)
+unfolding netOf cycle
+sound-callsDropped n s =
+    record {
+      periods-row = s .periods-row;
+      list-row = s .list-row;
+      packs = λ i h. absurd (omega (arith, h));
+      lines = s .lines;
+      calls = omega arith;
+      cycle-is = s .cycle-is;
+      cycle-pos = s .cycle-pos;
+      cycle-le = s .cycle-le;
+    }
+
+-- with a call more
+module _ (n m : Network) (c : Call) (is : netOf m ≡ withCall (netOf n) c) where
+  pub held-periods-withCall : netOf m .periods ≡ netOf n .periods
+  unfolding withCall
+  held-periods-withCall = ap (λ (k : Net). k .periods) is
+
+  pub held-calls-withCall : netOf m .calls ≡ netOf n .calls ++ (c ∷ [])
+  unfolding withCall
+  held-calls-withCall = ap (λ (k : Net). k .calls) is
+
+-- ---- what reading a file gives
+
+pub bytes-of : (file : List ℕ) → ((i : ℕ) → getD file i 0 < 256) → IsBytes file
+unfolding IsBytes
+bytes-of file h = h
+
+module _ (n : Network) where
+  pub readingOf-passes : readingOf Passes n ≡ accepted (netOf n)
+  unfolding readingOf
+  readingOf-passes = refl
+
+  pub readingOf-refused : (number place : ℕ) → readingOf (Refused number place) n ≡ refused number place
+  unfolding readingOf
+  readingOf-refused number place = refl

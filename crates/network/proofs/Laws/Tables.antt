@@ -1,25 +1,115 @@
--- Laws of what is computed over the numbers below a bound: tests, the first that passes, tables, the list of those that pass, and sums over
--- that list, each by one induction on the bound. Assumes nothing.
-use Prim.Native.Nat.{ℕ, zero, suc, _+_, _<_, _≤_}
-use mathlib.Core.Path.{_≡_, refl, sym, ap, ap₂, _∙_}
-use mathlib.Core.Bool.{Bool, true, false}
-use mathlib.Core.List.{List, [], _∷_, _++_, map, List·Memᴰ, List·Memᴰ·head, List·Memᴰ·tail, List·Memᴰ·not-nil, List·Memᴰ·eq-of-singleton}
+-- Laws of what is computed over the numbers below a bound: tests, how many pass, the first that does, the list of those that do,
+-- and tables, each by one induction on the bound. Assumes nothing.
+use Prim.Native.Nat.{ℕ, zero, suc, _+_, _*_, _%_, _<_, _≤_, min}
+use mathlib.Core.Path.{_≡_, refl, sym, ap, ap₂, fun-ext, _∙_}
+use mathlib.Core.Bool.{Bool, true, false, _&&_}
+use mathlib.Core.List.{List, [], _∷_, _++_, List·Memᴰ, List·Memᴰ·head, List·Memᴰ·not-nil, List·Memᴰ·eq-of-singleton}
 use mathlib.Core.List.{List·Memᴰ·append-cases, Memᴰ·append-left, Memᴰ·append-right}
 use mathlib.Core.Logic.{_⊎_, inl, inr}
-use native.Mathlib.Nat.{le-refl, le-of-suc-le-suc, eq-or-lt-of-le}
+use native.Mathlib.Nat.{le-refl, le-of-suc-le-suc, eq-or-lt-of-le, add-zero, add-suc, add-comm, zero-add, zero-mul, mod-eq-of-lt}
+use native.Mathlib.Numerals.{add-one}
 use native.Mathlib.Omega.{arith}
-use lib.Dec.{eqb}
+use lib.Dec.{eqb, ltb}
 use lib.ListN.{length, getD, length-append, List·getD-append}
 use lib.Seq.{getD-at}
-use borrow.Author.Tests.{eq-eqb, ne-eqb, eqb-true, eqb-false}
-use Rattle.network.specs.Lists.{pick, allBelow, countBelow, below, sumOf}
+use borrow.Author.Tests.{eqb-true, eqb-false, ltb-true, ltb-false}
+use Rattle.network.specs.Lists.{pick, allBelow, countBelow, below}
 use Rattle.network.specs.Classes.{firstBelow, table}
-use Rattle.network.proofs.Laws.Lists.{zero-ne-one, and-both}
+use Rattle.network.proofs.Laws.Lists.{zero-ne-one, and-both, and-not-left, and-not-right}
 
 pub allBelow-of-each : (p : ℕ → Bool) (n : ℕ) → ((i : ℕ) → i < n → p i ≡ true) → allBelow p n ≡ true
 unfolding allBelow
 allBelow-of-each p zero h = refl
 allBelow-of-each p (suc n) h = and-both _ _ (allBelow-of-each p n (λ i l. h i (omega arith))) (h n (le-refl _))
+
+-- Every number below `n` passes, so this one does
+pub allBelow-at : (p : ℕ → Bool) (n i : ℕ) → allBelow p n ≡ true → i < n → p i ≡ true
+unfolding allBelow
+allBelow-at p zero i e h = absurd (omega arith)
+allBelow-at p (suc n) i e h = go (allBelow p n) (allBelow-at p n i) e (eq-or-lt-of-le (le-of-suc-le-suc h))
+  where
+    go : (t : Bool) → (t ≡ true → i < n → p i ≡ true) → (t && p n) ≡ true → (i ≡ n) ⊎ (i < n) → p i ≡ true
+    go true f k (inl j) = ap p j ∙ k
+    go true f k (inr l) = f refl l
+    go false f k d = absurd (zero-ne-one (cc))
+
+-- One number more passes
+pub allBelow-next : (p : ℕ → Bool) (n : ℕ) → allBelow p n ≡ true → p n ≡ true → allBelow p (n + 1) ≡ true
+unfolding allBelow
+allBelow-next p n e f = rw add-one (and-both (allBelow p n) (p n) e f)
+
+-- One number below that doesn't pass is enough
+pub allBelow-fails : (p : ℕ → Bool) (n i : ℕ) → i < n → p i ≡ false → allBelow p n ≡ false
+unfolding allBelow
+allBelow-fails p zero i h e = absurd (omega arith)
+allBelow-fails p (suc n) i h e = go (allBelow-fails p n i) (eq-or-lt-of-le (le-of-suc-le-suc h))
+  where
+    go : (i < n → p i ≡ false → allBelow p n ≡ false) → (i ≡ n) ⊎ (i < n) → (allBelow p n && p n) ≡ false
+    go f (inl j) = and-not-right (allBelow p n) (p n) (sym (ap p j) ∙ e)
+    go f (inr l) = and-not-left (allBelow p n) (p n) (f l e)
+
+-- Two tests that agree below `n`
+pub allBelow-same : (p q : ℕ → Bool) (n : ℕ) → ((i : ℕ) → i < n → p i ≡ q i) → allBelow p n ≡ allBelow q n
+unfolding allBelow
+allBelow-same p q zero h = refl
+allBelow-same p q (suc n) h = ap₂ _&&_ (allBelow-same p q n (λ i l. h i (omega arith))) (h n (le-refl _))
+
+-- One number more is counted
+pub countBelow-next : (p : ℕ → Bool) (n : ℕ) → countBelow p (n + 1) ≡ countBelow p n + pick (p n) 1 0
+unfolding countBelow
+countBelow-next p n = rw add-one refl
+
+-- Tests that agree below `n` count alike
+pub countBelow-same : (p q : ℕ → Bool) (n : ℕ) → ((i : ℕ) → i < n → p i ≡ q i) → countBelow p n ≡ countBelow q n
+unfolding countBelow
+countBelow-same p q zero h = refl
+countBelow-same p q (suc n) h =
+    ap₂ (λ (k : ℕ) (t : Bool). k + pick t 1 0) (countBelow-same p q n (λ i l. h i (omega arith))) (h n (le-refl _))
+
+-- At most all of them pass
+pub countBelow-le : (p : ℕ → Bool) (n : ℕ) → countBelow p n ≤ n
+unfolding countBelow
+countBelow-le p zero = omega arith
+countBelow-le p (suc n) = let ih = countBelow-le p n in go (p n) ih
+  where
+    go : (t : Bool) → countBelow p n ≤ n → countBelow p n + pick t 1 0 ≤ suc n
+    go true h = omega arith
+    go false h = omega arith
+
+-- ---- how many pass
+
+pub countBelow-zero : (p : ℕ → Bool) (n : ℕ) → ((i : ℕ) → i < n → p i ≡ false) → countBelow p n ≡ 0
+unfolding countBelow
+countBelow-zero p zero h = refl
+countBelow-zero p (suc n) h = ap₂ (λ (k : ℕ) (t : Bool). k + pick t 1 0) (countBelow-zero p n (λ i l. h i (omega arith))) (h n (le-refl _))
+
+pub countBelow-add : (p : ℕ → Bool) (m n : ℕ) → countBelow p (m + n) ≡ countBelow p m + countBelow (λ i. p (m + i)) n
+unfolding countBelow
+countBelow-add p m zero = simp add-zero
+countBelow-add p m (suc n) = rw add-suc (omega (arith, countBelow-add p m n))
+
+-- a test that is the same `t` further on
+module _ (p : ℕ → Bool) (t : ℕ) (periodic : (i : ℕ) → p (t + i) ≡ p i) where
+  countBelow-periods : (k c : ℕ) → countBelow p (k * t + c) ≡ k * countBelow p t + countBelow p c
+  countBelow-periods zero c = simp (zero-mul, zero-add)
+  countBelow-periods (suc k) c =
+      let e : countBelow p (suc k * t + c) ≡ countBelow p (t + (k * t + c)) = ap (countBelow p) (omega arith) in
+      let f = ap (λ (q : ℕ → Bool). countBelow q (k * t + c)) (fun-ext periodic) in
+      omega (arith, countBelow-add p t (k * t + c), countBelow-periods k c)
+
+  pub countBelow-periods-from : (k c : ℕ) → countBelow (λ i. p (c + i)) (k * t) ≡ k * countBelow p t
+  countBelow-periods-from k c =
+      omega (arith, countBelow-add p c (k * t), countBelow-periods k c, ap (countBelow p) (add-comm c (k * t)))
+
+pub countBelow-remainder-lt : (t δ n : ℕ) → n ≤ t → countBelow (λ i. ltb (i % t) δ) n ≡ min n δ
+unfolding countBelow
+countBelow-remainder-lt t δ zero h = omega arith
+countBelow-remainder-lt t δ (suc n) h = rw (mod-eq-of-lt h) (go (ltb n δ) refl (countBelow-remainder-lt t δ n (omega arith)))
+  where
+    go : (b : Bool) → ltb n δ ≡ b → countBelow (λ i. ltb (i % t) δ) n ≡ min n δ
+        → countBelow (λ i. ltb (i % t) δ) n + pick b 1 0 ≡ min (suc n) δ
+    go true e ih = omega (arith, ltb-true n δ e)
+    go false e ih = omega (arith, ltb-false n δ e)
 
 -- ---- the first that passes
 
@@ -115,65 +205,3 @@ countBelow-length p (suc n) = go (p n) (countBelow-length p n)
     go : (t : Bool) → countBelow p n ≡ length (below p n) → countBelow p n + pick t 1 0 ≡ length (below p n ++ pick t (n ∷ []) [])
     go true e = omega (arith, length-append (below p n) (n ∷ []))
     go false e = omega (arith, length-append (below p n) [])
-
--- ---- sums
-
-module _ {A : Type 0} where
-  pub sumOf-append : (f : A → ℕ) (xs ys : List A) → sumOf f (xs ++ ys) ≡ sumOf f xs + sumOf f ys
-  unfolding sumOf
-  sumOf-append f [] ys = omega arith
-  sumOf-append f (x ∷ xs) ys = omega (arith, sumOf-append f xs ys)
-
-  pub sumOf-same : (f g : A → ℕ) (xs : List A) → ((x : A) → List·Memᴰ x xs → f x ≡ g x) → sumOf f xs ≡ sumOf g xs
-  unfolding sumOf
-  sumOf-same f g [] h = refl
-  sumOf-same f g (x ∷ xs) h = ap₂ _+_ (h x (List·Memᴰ·head refl)) (sumOf-same f g xs (λ y m. h y (List·Memᴰ·tail m)))
-
-  pub sumOf-add : (f g : A → ℕ) (xs : List A) → sumOf (λ x. f x + g x) xs ≡ sumOf f xs + sumOf g xs
-  unfolding sumOf
-  sumOf-add f g [] = refl
-  sumOf-add f g (x ∷ xs) = omega (arith, sumOf-add f g xs)
-
-  pub sumOf-zero : (f : A → ℕ) (xs : List A) → ((x : A) → List·Memᴰ x xs → f x ≡ 0) → sumOf f xs ≡ 0
-  unfolding sumOf
-  sumOf-zero f [] h = refl
-  sumOf-zero f (x ∷ xs) h = omega (arith, h x (List·Memᴰ·head refl), sumOf-zero f xs (λ y m. h y (List·Memᴰ·tail m)))
-
-  pub sumOf-one : (xs : List A) → sumOf (λ _. 1) xs ≡ length xs
-  unfolding sumOf
-  sumOf-one [] = refl
-  sumOf-one (x ∷ xs) = omega (arith, sumOf-one xs)
-
-  pub sumOf-map : {B : Type 0} (f : A → ℕ) (g : B → A) (xs : List B) → sumOf f (map g xs) ≡ sumOf (λ x. f (g x)) xs
-  unfolding sumOf
-  sumOf-map f g [] = refl
-  sumOf-map f g (x ∷ xs) = ap (λ (k : ℕ). f (g x) + k) (sumOf-map f g xs)
-
--- one number more
-pub sumOf-below-next : (f : ℕ → ℕ) (p : ℕ → Bool) (n : ℕ) → sumOf f (below p (suc n)) ≡ sumOf f (below p n) + pick (p n) (f n) 0
-unfolding below sumOf
-sumOf-below-next f p n = sumOf-append f (below p n) (pick (p n) (n ∷ []) []) ∙ go (p n)
-  where
-    go : (t : Bool) → sumOf f (below p n) + sumOf f (pick t (n ∷ []) []) ≡ sumOf f (below p n) + pick t (f n) 0
-    go true = omega arith
-    go false = refl
-
--- one number alone counts
-pub sumOf-below-only : (f : ℕ → ℕ) (p : ℕ → Bool) (n k : ℕ) → k < n → p k ≡ true → sumOf (λ i. pick (eqb k i) (f i) 0) (below p n) ≡ f k
-sumOf-below-only f p zero k h e = absurd (omega arith)
-sumOf-below-only f p (suc n) k h e =
-    sumOf-below-next (λ i. pick (eqb k i) (f i) 0) p n ∙ go (sumOf-below-only f p n k) (eq-or-lt-of-le (le-of-suc-le-suc h))
-  where
-    others : k ≡ n → (i : ℕ) → List·Memᴰ i (below p n) → pick (eqb k i) (f i) 0 ≡ 0
-    others d i m = let r = below-of-member p n m in rw (ne-eqb k i (λ c. omega arith))
-
-    neither : (t : Bool) → pick t (pick false (f n) 0) 0 ≡ 0
-    neither true = refl
-    neither false = refl
-
-    go : (k < n → p k ≡ true → sumOf (λ i. pick (eqb k i) (f i) 0) (below p n) ≡ f k) → (k ≡ n) ⊎ (k < n)
-        → sumOf (λ i. pick (eqb k i) (f i) 0) (below p n) + pick (p n) (pick (eqb k n) (f n) 0) 0 ≡ f k
-    go ih (inl d) =
-        let z : sumOf (λ i. pick (eqb k i) (f i) 0) (below p n) ≡ 0 = sumOf-zero _ (below p n) (others d) in
-        rw (z, ← d, e, eq-eqb k k refl) (omega arith)
-    go ih (inr l) = rw (ih l e, ne-eqb k n (λ c. omega arith)) (omega (arith, neither (p n)))

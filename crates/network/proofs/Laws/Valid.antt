@@ -17,14 +17,15 @@ use Rattle.network.specs.Grounds.{first, grounds}
 use Rattle.network.specs.Reading.{Reading, readFile, accepted, refused, Outcome, values, refusal, readOutcome}
 use Rattle.network.specs.Gives.{Reached, start, next, Gives, accepts}
 use Rattle.network.specs.Valid.{IsBytes, noCall, Valid}
-use Rattle.network.proofs.Laws.Lists.{zero-ne-one, snoc-all}
-use Rattle.network.proofs.Laws.Often.{often-more}
+use Rattle.network.proofs.Laws.Lists.{zero-ne-one}
+use Rattle.network.proofs.Laws.Members.{all-snoc}
 use Rattle.network.proofs.Laws.Divisor.{commonCycle-snoc, period-divides-commonCycle, commonCycle-least, commonCycle-pos}
 use Rattle.network.proofs.Laws.Grounds.{LineFits, CallFits, line-passes, offset-passes, ride-passes, end-passes}
 use Rattle.network.proofs.Laws.Reading.{reached-within, readFile-gives}
+use Rattle.network.proofs.Laws.Often.{often-more}
 
 -- What `Valid` asks of a network on the way, besides the numbers of lines and calls
-record Sound (n : Net) : Type 0 where
+record ValidSoFar (n : Net) : Type 0 where
   period-pos : (i : ℕ) → i < length (n .periods) → 0 < getD (n .periods) i 0
   period : (i : ℕ) → i < length (n .periods) → getD (n .periods) i 0 ≤ maxPeriod
   cycle-max : cycle n ≤ maxCycle
@@ -33,17 +34,17 @@ record Sound (n : Net) : Type 0 where
   call-offset : (k : ℕ) → k < length (n .calls) → getD (n .calls) k noCall .offset ≤ maxOffset
   often : (line stop : ℕ) → howOftenAt line stop (n .calls) ≤ maxCallsAtStop
 
-sound-empty : Sound emptyNet
+validSoFar-empty : ValidSoFar emptyNet
 unfolding cycle commonCycle cycleFrom howOftenAt keep
-sound-empty = omega arith
+validSoFar-empty = omega arith
 
-sound-line : (n : Net) (behind : List ℕ) → LineFits n behind → Sound n → Sound (withLine n (word behind 0))
+validSoFar-line : (n : Net) (behind : List ℕ) → LineFits n behind → ValidSoFar n → ValidSoFar (withLine n (word behind 0))
 unfolding withLine cycle
-sound-line n behind f s =
+validSoFar-line n behind f s =
     let t : ℕ = word behind 0 in
     record {
-      period-pos = snoc-all t 0 (λ q. 0 < q) (n .periods) (s .period-pos) (f .period-pos);
-      period = snoc-all t 0 (λ q. q ≤ maxPeriod) (n .periods) (s .period) (f .period);
+      period-pos = all-snoc 0 (λ q. 0 < q) (n .periods) (s .period-pos) (f .period-pos);
+      period = all-snoc 0 (λ q. q ≤ maxPeriod) (n .periods) (s .period) (f .period);
       cycle-max = rw (commonCycle-snoc (n .periods) t) (f .cycle-max);
       call-line = λ k h. omega (arith, s .call-line k h, length-append (n .periods) (t ∷ []));
       call-stop = s .call-stop;
@@ -51,18 +52,18 @@ sound-line n behind f s =
       often = s .often;
     }
 
-sound-call : (c : Command) (n : Net) (behind : List ℕ) (offset : ℕ) → CallFits c n behind → offset ≤ maxOffset → Sound n
-    → Sound (withCall n (callOf behind offset))
+validSoFar-call : (c : Command) (n : Net) (behind : List ℕ) (offset : ℕ) → CallFits c n behind → offset ≤ maxOffset → ValidSoFar n
+    → ValidSoFar (withCall n (callOf behind offset))
 unfolding withCall callOf cycle
-sound-call c n behind offset f o s =
+validSoFar-call c n behind offset f o s =
     let call : Call = callOf behind offset in
     record {
       period-pos = s .period-pos;
       period = s .period;
       cycle-max = s .cycle-max;
-      call-line = snoc-all call noCall (λ d. d .line < length (n .periods)) (n .calls) (s .call-line) (f .line);
-      call-stop = snoc-all call noCall (λ d. d .stop ≤ maxStop) (n .calls) (s .call-stop) (f .stop);
-      call-offset = snoc-all call noCall (λ d. d .offset ≤ maxOffset) (n .calls) (s .call-offset) o;
+      call-line = all-snoc noCall (λ d. d .line < length (n .periods)) (n .calls) (s .call-line) (f .line);
+      call-stop = all-snoc noCall (λ d. d .stop ≤ maxStop) (n .calls) (s .call-stop) (f .stop);
+      call-offset = all-snoc noCall (λ d. d .offset ≤ maxOffset) (n .calls) (s .call-offset) o;
       often = λ line stop. often-more line stop (n .calls) call (s .often line stop) (f .often);
     }
 
@@ -70,15 +71,15 @@ stated-max : (bs : List ℕ) → IsBytes bs → statedOffset bs ≤ maxOffset
 unfolding IsBytes statedOffset word
 stated-max bs h = omega (arith, h 2, h 3)
 
-sound-next : (c : Command) (f : SoFar) (p : ℕ) (behind : List ℕ) → first (grounds c f p behind) ≡ Passes → (c ≡ ends → ⊥)
-    → IsBytes behind → Sound (f .network) → Sound (extend c f behind .network)
+validSoFar-next : (c : Command) (f : SoFar) (p : ℕ) (behind : List ℕ) → first (grounds c f p behind) ≡ Passes → (c ≡ ends → ⊥)
+    → IsBytes behind → ValidSoFar (f .network) → ValidSoFar (extend c f behind .network)
 unfolding extend grounds first
-sound-next statesLine f p behind e h b s = sound-line (f .network) behind (line-passes f p behind e) s
-sound-next callsByOffset f p behind e h b s =
-    sound-call callsByOffset (f .network) behind _ (offset-passes f p behind e) (stated-max behind b) s
-sound-next callsByRide f p behind e h b s = let fits = ride-passes f p behind e in sound-call callsByRide (f .network) behind _ (fits .0) (fits .1) s
-sound-next ends f p behind e h b s = absurd (h refl)
-sound-next unknown f p behind e h b s = absurd (zero-ne-one (cc))
+validSoFar-next statesLine f p behind e h b s = validSoFar-line (f .network) behind (line-passes f p behind e) s
+validSoFar-next callsByOffset f p behind e h b s =
+    validSoFar-call callsByOffset (f .network) behind _ (offset-passes f p behind e) (stated-max behind b) s
+validSoFar-next callsByRide f p behind e h b s = let fits = ride-passes f p behind e in validSoFar-call callsByRide (f .network) behind _ (fits .0) (fits .1) s
+validSoFar-next ends f p behind e h b s = absurd (h refl)
+validSoFar-next unknown f p behind e h b s = absurd (zero-ne-one (cc))
 
 module _ {file : List ℕ} (bytes : IsBytes file) where
   reached-bytes : {f : SoFar} {p : ℕ} {rest : List ℕ} → Reached file f p rest → IsBytes rest
@@ -87,15 +88,15 @@ module _ {file : List ℕ} (bytes : IsBytes file) where
   reached-bytes (next {b = b} {behind = behind} r e c) =
       λ i. rw (getD-drop (operandBytes (command b)) behind i 0) (reached-bytes r (suc (operandBytes (command b) + i)))
 
-  reached-sound : {f : SoFar} {p : ℕ} {rest : List ℕ} → Reached file f p rest → Sound (f .network)
+  reached-validSoFar : {f : SoFar} {p : ℕ} {rest : List ℕ} → Reached file f p rest → ValidSoFar (f .network)
   unfolding IsBytes
-  reached-sound start = sound-empty
-  reached-sound (next {f = f} {p = p} {b = b} {behind = behind} r e c) =
-      sound-next (command b) f p behind e c (λ i. reached-bytes r (suc i)) (reached-sound r)
+  reached-validSoFar start = validSoFar-empty
+  reached-validSoFar (next {f = f} {p = p} {b = b} {behind = behind} r e c) =
+      validSoFar-next (command b) f p behind e c (λ i. reached-bytes r (suc i)) (reached-validSoFar r)
 
   gives-valid : {n : Net} → Gives file (accepted n) → Valid n
   gives-valid (accepts {f = f} {p = p} {behind = behind} r i e) =
-      let s : Sound (f .network) = reached-sound r in
+      let s : ValidSoFar (f .network) = reached-validSoFar r in
       let end = end-passes f p behind (rw i at e) in
       record {
         some-line = end .some-line;

@@ -21,13 +21,13 @@ use Rattle.network.specs.Rating.{Counted, IsRatingOver, IsRating, rating
 use Rattle.network.specs.Scan.{countedStops}
 use Rattle.network.specs.Classes.{lowestAlike, isLowest, classRow, weightRow, classCount, lowestStops}
 use Rattle.network.specs.ClassCall.{rowsFit, classOutcome, classRowAfter, weightRowAfter, weightedRating, weightedOutcome}
-use Rattle.network.proofs.Laws.Lists.{countBelow-le}
-use Rattle.network.proofs.Laws.Membership.{any-of-member, member-of-any, place-of-member}
-use Rattle.network.proofs.Laws.Tables.{below-of-member, member-of-below, below-same}
-use Rattle.network.proofs.Laws.Rating.{ratingOver-is-rating, IsRatingOver-same, rating-is-rating, IsRating-unique}
+use Rattle.network.proofs.Laws.Members.{any-of-member, member-of-any, place-of-member}
+use Rattle.network.proofs.Laws.Tables.{countBelow-le, below-of-member, member-of-below, below-same}
 use Rattle.network.proofs.Laws.Valid.{accepted-valid}
+use Rattle.network.proofs.Laws.Rating.{ratingOver-is-rating, IsRatingOver-same, rating-is-rating, IsRating-unique}
 use Rattle.network.proofs.Laws.Alike.{served-le-maxStop}
-use Rattle.network.proofs.Laws.Classes.{lowestAlike-le, lowestAlike-isLowest, isInClassOf, classRow-at, weightRow-at, lowestStops-rows, lowest-rating}
+use Rattle.network.proofs.Laws.Classes.{lowestAlike-le, lowestAlike-isLowest, isInClassOf, classRow-at, weightRow-at}
+use Rattle.network.proofs.Laws.Classes.{lowestStops-rows, lowest-rating}
 
 -- ---- the class call
 

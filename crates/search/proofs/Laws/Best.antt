@@ -13,38 +13,38 @@ use lib.ListN.{length}
 use Rattle.network.specs.declared.Rating.{Rating}
 use Rattle.network.specs.Rating.{noRating}
 use Rattle.network.proofs.Laws.Lists.{zero-ne-one}
-use Rattle.network.proofs.Laws.Gaps.{All}
+use Rattle.network.proofs.Laws.Members.{All}
 use Rattle.search.specs.Walk.{State, Rule, atFirst, tryMade, stop, becomesBest, walk}
-use Rattle.search.proofs.Laws.Walk.{Chosen, none-left, next, eachStart-holds, oneTry-cases, walk-keeps}
+use Rattle.search.proofs.Laws.Walk.{ChosenBelow, none-left, next, eachStart-holds, oneTry-cases, walk-keeps}
 
 -- ---- what a rule keeps
 
 -- A try that is dropped has no completion that isn't
 abbrev pub DropsCompletions : (List ℤ → Rating) → Rule → List ℕ → Type 0
 DropsCompletions upper rule all =
-    (placed tail : List ℤ) → Chosen all (placed ++ tail) → (b : Rating) → rule .drops (upper placed) b ≡ true → rule .drops (upper (placed ++ tail)) b ≡ true
+    (placed tail : List ℤ) → ChosenBelow all (placed ++ tail) → (b : Rating) → rule .drops (upper placed) b ≡ true → rule .drops (upper (placed ++ tail)) b ≡ true
 
 -- Of a rule that goes on to the end besides: what is dropped beside a best is dropped beside a full timetable that isn't; and a full timetable
 -- is dropped beside itself
 pub record Cuts (upper : List ℤ → Rating) (rule : Rule) (all : List ℕ) : Type 0 where
   pub goes-on : rule .endsAtFirst ≡ false
   pub completions : DropsCompletions upper rule all
-  pub better : (starts : List ℤ) → Chosen all starts → (r b : Rating)
+  pub better : (starts : List ℤ) → ChosenBelow all starts → (r b : Rating)
       → rule .drops (upper starts) b ≡ false → rule .drops r b ≡ true → rule .drops r (upper starts) ≡ true
-  pub itself : (starts : List ℤ) → Chosen all starts → rule .drops (upper starts) (upper starts) ≡ true
+  pub itself : (starts : List ℤ) → ChosenBelow all starts → rule .drops (upper starts) (upper starts) ≡ true
 
 -- ---- what holds of a partial timetable's completions, by the line that is next
 
 module _ (N : List ℤ → Type 0) (placed : List ℤ) where
-  completions-none-left : N placed → (tail : List ℤ) → Chosen [] tail → N (placed ++ tail)
+  completions-none-left : N placed → (tail : List ℤ) → ChosenBelow [] tail → N (placed ++ tail)
   completions-none-left h _ none-left = rw append-nil h
 
-  completions-none-tried : (rest : List ℕ) (tail : List ℤ) → Chosen (0 ∷ rest) tail → N (placed ++ tail)
+  completions-none-tried : (rest : List ℕ) (tail : List ℤ) → ChosenBelow (0 ∷ rest) tail → N (placed ++ tail)
   completions-none-tried rest _ (next h c) = absurd (omega arith)
 
-  completions-next : (x : ℕ) (rest : List ℕ) → ((tail : List ℤ) → Chosen (x ∷ rest) tail → N (placed ++ tail))
-      → ((tail : List ℤ) → Chosen rest tail → N (placed ++ (pos x ∷ []) ++ tail))
-      → (tail : List ℤ) → Chosen (suc x ∷ rest) tail → N (placed ++ tail)
+  completions-next : (x : ℕ) (rest : List ℕ) → ((tail : List ℤ) → ChosenBelow (x ∷ rest) tail → N (placed ++ tail))
+      → ((tail : List ℤ) → ChosenBelow rest tail → N (placed ++ (pos x ∷ []) ++ tail))
+      → (tail : List ℤ) → ChosenBelow (suc x ∷ rest) tail → N (placed ++ tail)
   completions-next x rest f g _ (next {x = y} {starts = tail} h c) = go (eq-or-lt-of-le (le-of-suc-le-suc h))
     where
       go : (y ≡ x) ⊎ (y < x) → N (placed ++ (pos y ∷ tail))
@@ -56,11 +56,11 @@ module _ (N : List ℤ → Type 0) (placed : List ℤ) where
 -- From one state of the walk to another, if it has no best: it has none as before and, if it hasn't stopped, every completion was dropped
 record Unmet (upper : List ℤ → Rating) (rule : Rule) (counts : List ℕ) (placed : List ℤ) (s t : State) : Type 0 where
   kept : t .best .some ≡ false → t .best ≡ s .best
-  met : t .stopped ≡ false → t .best .some ≡ false → (tail : List ℤ) → Chosen counts tail → rule .drops (upper (placed ++ tail)) (s .best) ≡ true
+  met : t .stopped ≡ false → t .best .some ≡ false → (tail : List ℤ) → ChosenBelow counts tail → rule .drops (upper (placed ++ tail)) (s .best) ≡ true
 
 module _ (upper : List ℤ → Rating) (rule : Rule) (budget : ℕ) (all : List ℕ) (rates : (starts : List ℤ) → upper starts .some ≡ true)
     (completions : DropsCompletions upper rule all) where
-  walk-unmet : (counts : List ℕ) (placed : List ℤ) → ((tail : List ℤ) → Chosen counts tail → Chosen all (placed ++ tail))
+  walk-unmet : (counts : List ℕ) (placed : List ℤ) → ((tail : List ℤ) → ChosenBelow counts tail → ChosenBelow all (placed ++ tail))
       → (s : State) → Unmet upper rule counts placed s (walk upper rule budget counts placed s)
   unfolding walk becomesBest stop tryMade
   walk-unmet [] placed fits s =
@@ -70,7 +70,7 @@ module _ (upper : List ℤ → Rating) (rule : Rule) (budget : ℕ) (all : List 
       (record { kept = λ n. refl; met = λ e n. completions-none-tried (λ starts. rule .drops (upper starts) (s .best) ≡ true) placed rest })
       (λ x l t w.
       let placed′ : List ℤ = placed ++ (pos x ∷ []) in
-      let fits′ : (tail : List ℤ) → Chosen rest tail → Chosen all (placed′ ++ tail)
+      let fits′ : (tail : List ℤ) → ChosenBelow rest tail → ChosenBelow all (placed′ ++ tail)
       = λ tail c. rw append-assoc (fits (pos x ∷ tail) (next l c)) in
       oneTry-cases rule budget (Unmet upper rule (suc x ∷ rest) placed s) _ _ t
       (λ e. record { kept = w .kept; met = λ f n. absurd (zero-ne-one (cc)) })
@@ -96,12 +96,12 @@ module _ (upper : List ℤ → Rating) (rule : Rule) (budget : ℕ) (all : List 
 
   -- A walk that hasn't stopped and has no best has dropped every choice ..
   pub finished-none-stands : walk upper rule budget all [] atFirst .stopped ≡ false → walk upper rule budget all [] atFirst .best .some ≡ false
-      → (starts : List ℤ) → Chosen all starts → rule .drops (upper starts) noRating ≡ true
+      → (starts : List ℤ) → ChosenBelow all starts → rule .drops (upper starts) noRating ≡ true
   finished-none-stands = walk-unmet all [] (λ tail c. c) atFirst .met
 
   -- .. so that with a choice that stands it has a best
   pub finished-has-best : walk upper rule budget all [] atFirst .stopped ≡ false
-      → (starts : List ℤ) → Chosen all starts → rule .drops (upper starts) noRating ≡ false
+      → (starts : List ℤ) → ChosenBelow all starts → rule .drops (upper starts) noRating ≡ false
       → walk upper rule budget all [] atFirst .best .some ≡ true
   finished-has-best finished starts c stands = go (walk upper rule budget all [] atFirst .best .some) refl
     where
@@ -112,29 +112,29 @@ module _ (upper : List ℤ → Rating) (rule : Rule) (budget : ℕ) (all : List 
 -- ---- a walk that goes on to the end
 
 -- From one state of the walk to another what was dropped stays so; and if the walk hasn't stopped, every completion is dropped beside the best
-record Covered (upper : List ℤ → Rating) (rule : Rule) (counts : List ℕ) (placed : List ℤ) (s t : State) : Type 0 where
+record CoveredBy (upper : List ℤ → Rating) (rule : Rule) (counts : List ℕ) (placed : List ℤ) (s t : State) : Type 0 where
   kept : (r : Rating) → rule .drops r (s .best) ≡ true → rule .drops r (t .best) ≡ true
-  met : t .stopped ≡ false → (tail : List ℤ) → Chosen counts tail → rule .drops (upper (placed ++ tail)) (t .best) ≡ true
+  met : t .stopped ≡ false → (tail : List ℤ) → ChosenBelow counts tail → rule .drops (upper (placed ++ tail)) (t .best) ≡ true
 
 module _ (upper : List ℤ → Rating) (rule : Rule) (budget : ℕ) (all : List ℕ) (cuts : Cuts upper rule all) where
-  walk-covers : (counts : List ℕ) (placed : List ℤ) → ((tail : List ℤ) → Chosen counts tail → Chosen all (placed ++ tail))
+  walk-covers : (counts : List ℕ) (placed : List ℤ) → ((tail : List ℤ) → ChosenBelow counts tail → ChosenBelow all (placed ++ tail))
       → (s : State) → (length counts ≡ 0 → rule .drops (upper placed) (s .best) ≡ false)
-      → Covered upper rule counts placed s (walk upper rule budget counts placed s)
+      → CoveredBy upper rule counts placed s (walk upper rule budget counts placed s)
   unfolding walk becomesBest stop tryMade
   walk-covers [] placed fits s stands =
-      let full : Chosen all placed = rw append-nil at (fits [] none-left) in
+      let full : ChosenBelow all placed = rw append-nil at (fits [] none-left) in
       record {
         kept = λ r h. cuts .better placed full r (s .best) (stands refl) h;
         met = λ e. completions-none-left (λ starts. rule .drops (upper starts) (upper placed) ≡ true) placed (cuts .itself placed full);
       }
   walk-covers (count ∷ rest) placed fits s stands =
-      eachStart-holds _ (λ x. Covered upper rule (x ∷ rest) placed s) count s
+      eachStart-holds _ (λ x. CoveredBy upper rule (x ∷ rest) placed s) count s
       (record { kept = λ r h. h; met = λ e. completions-none-tried (λ starts. rule .drops (upper starts) (s .best) ≡ true) placed rest })
       (λ x l t w.
       let placed′ : List ℤ = placed ++ (pos x ∷ []) in
-      let fits′ : (tail : List ℤ) → Chosen rest tail → Chosen all (placed′ ++ tail)
+      let fits′ : (tail : List ℤ) → ChosenBelow rest tail → ChosenBelow all (placed′ ++ tail)
       = λ tail c. rw append-assoc (fits (pos x ∷ tail) (next l c)) in
-      oneTry-cases rule budget (Covered upper rule (suc x ∷ rest) placed s) _ _ t
+      oneTry-cases rule budget (CoveredBy upper rule (suc x ∷ rest) placed s) _ _ t
       (λ e. record { kept = w .kept; met = λ f. absurd (zero-ne-one (cc)) })
       (λ e e′. absurd (zero-ne-one (cc (cuts .goes-on))))
       (λ e e′. record { kept = w .kept; met = λ f. absurd (zero-ne-one (cc)) })
@@ -146,7 +146,7 @@ module _ (upper : List ℤ → Rating) (rule : Rule) (budget : ℕ) (all : List 
       })
       (λ e e′ d.
       let u : State = walk upper rule budget rest placed′ (tryMade t) in
-      let v : Covered upper rule rest placed′ (tryMade t) u = walk-covers rest placed′ fits′ (tryMade t) (λ z. d) in
+      let v : CoveredBy upper rule rest placed′ (tryMade t) u = walk-covers rest placed′ fits′ (tryMade t) (λ z. d) in
       record {
         kept = λ r h. v .kept r (w .kept r h);
         met = λ f. completions-next (λ starts. rule .drops (upper starts) (u .best) ≡ true) placed x rest
@@ -155,7 +155,7 @@ module _ (upper : List ℤ → Rating) (rule : Rule) (budget : ℕ) (all : List 
 
   -- After such a walk that hasn't stopped every choice is dropped beside the best
   pub finished-drops-all : (length all ≡ 0 → rule .drops (upper []) noRating ≡ false) → walk upper rule budget all [] atFirst .stopped ≡ false
-      → (starts : List ℤ) → Chosen all starts → rule .drops (upper starts) (walk upper rule budget all [] atFirst .best) ≡ true
+      → (starts : List ℤ) → ChosenBelow all starts → rule .drops (upper starts) (walk upper rule budget all [] atFirst .best) ≡ true
   finished-drops-all stands = walk-covers all [] (λ tail c. c) atFirst stands .met
 
 -- ---- the best
@@ -163,7 +163,7 @@ module _ (upper : List ℤ → Rating) (rule : Rule) (budget : ℕ) (all : List 
 -- A best is the upper rating of the starts beside it, which are a choice; without a best there are no starts
 pub record BestIsChosen (upper : List ℤ → Rating) (counts : List ℕ) (best : Rating) (starts : List ℤ) : Type 0 where
   pub rated : best .some ≡ true → best ≡ upper starts
-  pub chosen : best .some ≡ true → Chosen counts starts
+  pub chosen : best .some ≡ true → ChosenBelow counts starts
   pub none : best .some ≡ false → starts ≡ []
 
 -- While there is no best, the walk is at a line's first start, and has tries for this line and those behind it

@@ -1,30 +1,31 @@
 -- Laws of the search call: before the first try each stop's upper value is its cap, the rows in line order hold the network, and the walk
 -- over a network is the tries of its first line. Assumes nothing.
-use Prim.Native.Nat.{ℕ, zero, suc, _+_, _*_, _<_, _≤_}
+use Prim.Native.Nat.{ℕ, _+_, _*_, _<_, _≤_}
 use mathlib.Core.Path.{_≡_, refl, sym, ap, ap₂, fun-ext, _∙_}
 use mathlib.Core.Bool.{Bool, true, false, _&&_}
 use mathlib.Core.List.{List, [], _∷_, map}
 use native.Mathlib.Omega.{arith}
 use borrow.Author.Tests.{le-ltb, eq-eqb, ne-eqb}
-use lib.Dec.{eqb, ltb}
+use lib.Dec.{ltb}
 use lib.IntN.{ℤ}
 use lib.ListN.{length, getD, replicate, length-replicate}
 use Rattle.network.specs.declared.Call.{Call}
 use Rattle.network.specs.declared.Network.{Network}
 use Rattle.network.specs.declared.Rating.{Rating}
 use Rattle.network.specs.Divisor.{gcd}
-use Rattle.network.specs.Lists.{pick, below, sumOf, leastOf, pairsOf}
+use Rattle.network.specs.Lists.{pick, sumOf, leastOf}
 use Rattle.network.specs.Network.{Net, isServed, maxStop, maxPeriod}
 use Rattle.network.specs.Rating.{pairGaps, callsOfStop, servedList, counted, ratingBy, noRating}
 use Rattle.network.specs.Reading.{accepted}
-use Rattle.network.specs.Scan.{leastFrom, lastAt, LeadsBack, countedStops}
+use Rattle.network.specs.Scan.{leastFrom, LeadsBack, countedStops}
 use Rattle.network.specs.Stored.{netOf, callsIn, Sound, packed}
 use Rattle.network.specs.Valid.{Valid, noCall}
-use Rattle.network.proofs.Laws.Gaps.{ratingBy-same, counted-of-member, counted-served, ratingBy-counted}
-use Rattle.network.proofs.Laws.Gaps.{getD-zeros}
+use Rattle.network.proofs.Laws.Lists.{getD-zeros}
+use Rattle.network.proofs.Laws.Members.{keep-none}
 use Rattle.network.proofs.Laws.Packed.{call-in-row}
 use Rattle.network.proofs.Laws.Stored.{held-lines, held-calls, held-period, held-call}
-use Rattle.network.proofs.Laws.Tables.{sumOf-append}
+use Rattle.network.proofs.Laws.Gaps.{ratingBy-same, counted-of-member, counted-served, ratingBy-counted, leadsBack-fewer, leadsBack-same}
+use Rattle.network.proofs.Laws.Gaps.{leastFrom-pairGaps-few, sumOf-served-le}
 use Rattle.search.specs.declared.Walk as code
 use Rattle.search.specs.Caps.{cap, placedCalls, upperValue, upperRating}
 use Rattle.search.specs.Held.{Represents, Laid, firstIn, countIn, startsOf, stateOf, walkFrom, tryAt, withReciprocal}
@@ -32,35 +33,25 @@ use Rattle.search.specs.Layout.{byLine, inLineOrder}
 use Rattle.search.specs.Search.{startCounts, aboveBest, searched, refusal, outcomeOf, searchOutcome, startRowAfter}
 use Rattle.search.specs.Walk.{State, atFirst, eachStart}
 use Rattle.search.proofs.Laws.CapScan.{cap-le}
-use Rattle.search.proofs.Laws.Layout.{keep-none, length-byLine-all}
+use Rattle.search.proofs.Laws.Layout.{length-byLine-all}
 use Rattle.search.proofs.Laws.Linked.{byLine-all}
 use Rattle.search.proofs.Laws.Tries.{walkFrom-next}
 
 -- ---- no line placed
 
 upperValue-none : (n : Net) (caps : ℕ → ℕ) (stop : ℕ) → upperValue n caps [] stop ≡ caps stop
-unfolding upperValue placedCalls pairGaps leastFrom pairsOf
+unfolding upperValue placedCalls
 upperValue-none n caps stop =
     ap (λ (cs : List Call). leastFrom (caps stop) (pairGaps n [] cs))
     (keep-none (λ (c : Call). ltb (c .line) 0) (λ c. le-ltb (c .line) 0 (omega arith)) (callsOfStop n stop))
-
--- A sum over the numbers below `n`, none of them above a period
-sumOf-below-le : (f : ℕ → ℕ) (p : ℕ → Bool) (n : ℕ) → ((s : ℕ) → f s ≤ maxPeriod) → sumOf f (below p n) ≤ n * 1440
-unfolding below sumOf
-sumOf-below-le f p zero h = omega arith
-sumOf-below-le f p (suc n) h = rw (sumOf-append f (below p n) (pick (p n) (n ∷ []) [])) (go (p n) (sumOf-below-le f p n h))
-  where
-    go : (t : Bool) → sumOf f (below p n) ≤ n * 1440 → sumOf f (below p n) + sumOf f (pick t (n ∷ []) []) ≤ suc n * 1440
-    go true ih = omega (arith, ih, h n)
-    go false ih = omega (arith, ih)
+    ∙ leastFrom-pairGaps-few n [] (caps stop) [] (omega arith)
 
 module _ (n : Net) (valid : Valid n) where
   abbrev ratingOfCaps : Rating
   ratingOfCaps = ratingBy (cap n) (counted n)
 
   sum-of-caps-low : sumOf (cap n) (servedList n) ≤ 4194240
-  unfolding servedList
-  sum-of-caps-low = omega (arith, sumOf-below-le (cap n) (λ stop. isServed stop (n .calls)) (suc maxStop) (cap-le n valid))
+  sum-of-caps-low = omega (arith, sumOf-served-le n (cap n) maxPeriod (cap-le n valid))
 
   caps-rating-is : ratingOfCaps ≡ record { some = true; least = leastOf (map (cap n) (servedList n)); sum = sumOf (cap n) (servedList n) }
   caps-rating-is = ratingBy-counted (cap n) n
@@ -99,44 +90,26 @@ module _ (n : Net) (valid : Valid n) where
 
 -- ---- the rows of the calls in line order
 
--- The latest call at a stop is found in the first calls alone
-lastAt-same : (stop : ℕ) (l m : List Call) (k : ℕ) → ((j : ℕ) → j < k → getD l j noCall ≡ getD m j noCall) → lastAt stop l k ≡ lastAt stop m k
-unfolding lastAt
-lastAt-same stop l m zero h = refl
-lastAt-same stop l m (suc k) h =
-    ap₂ (λ (c : Call) (v : ℕ). pick (eqb (c .stop) stop) (suc k) v) (h k (omega arith)) (lastAt-same stop l m k (λ j b. h j (omega (arith, b))))
-
-leads-same :
-    (previous : List ℕ) (l m : List Call) (k : ℕ)
-    → ((j : ℕ) → j < k → getD l j noCall ≡ getD m j noCall)
-    → LeadsBack previous l k
-    → LeadsBack previous m k
-unfolding LeadsBack
-leads-same previous l m k h leads j b =
-    leads j b
-    ∙ ap (λ (c : Call). lastAt (c .stop) l j) (h j b)
-    ∙ lastAt-same (getD m j noCall .stop) l m j (λ i q. h i (omega (arith, q, b)))
-
 module _
     (network by : Network)
     (sound : Sound network)
     (valid : Valid (netOf network))
     (by-sound : Sound by)
     (ordered : netOf by ≡ inLineOrder (netOf network .periods) (netOf network .calls) (length (netOf network .periods))) where
-  abbrev inOrder : List Call
-  inOrder = byLine (netOf network .calls) (length (netOf network .periods))
+  abbrev callsInOrder : List Call
+  callsInOrder = byLine (netOf network .calls) (length (netOf network .periods))
 
-  calls-are : netOf by .calls ≡ inOrder
+  calls-are : netOf by .calls ≡ callsInOrder
   unfolding inLineOrder
   calls-are = ap (λ (m : Net). m .calls) ordered
 
-  length-inOrder : length inOrder ≡ length (netOf network .calls)
+  length-inOrder : length callsInOrder ≡ length (netOf network .calls)
   length-inOrder = length-byLine-all (netOf network .calls) (length (netOf network .periods)) (valid .call-line)
 
   pub count-is : by .calls ≡ length (netOf network .calls)
   count-is = sym (held-calls by by-sound) ∙ ap (λ (cs : List Call). length cs) calls-are ∙ length-inOrder
 
-  pub call-at : (i : ℕ) → i < length (netOf network .calls) → getD (callsIn (by .list)) i noCall ≡ getD inOrder i noCall
+  pub call-at : (i : ℕ) → i < length (netOf network .calls) → getD (callsIn (by .list)) i noCall ≡ getD callsInOrder i noCall
   call-at i h = sym (held-call by i (omega (arith, h, count-is))) ∙ ap (λ (cs : List Call). getD cs i noCall) calls-are
 
   pub stops-low : (i : ℕ) → i < by .calls → getD (callsIn (by .list)) i noCall .stop < 64
@@ -158,9 +131,10 @@ module _
       (divisor-of : (i j : ℕ) → i < 16 → j < 16 → getD divisors (i * 16 + j) 0 ≡ withReciprocal (gcd (getD (network .periods) j 0) (getD (network .periods) i 0)))
       (first-of : (k : ℕ) → k ≤ length (netOf network .periods) → firstIn (getD lines k 0) ≡ length (byLine (netOf network .calls) k))
       (count-of : (k : ℕ) → k < length (netOf network .periods) → countIn (getD lines k 0) ≡ getD (startCounts (netOf network .periods)) k 0) where
-    pub leads-in-order : LeadsBack previous inOrder (length (netOf network .calls))
-    unfolding LeadsBack
-    leads-in-order = leads-same previous (callsIn (by .list)) inOrder (length (netOf network .calls)) call-at (λ j b. leads j (omega (arith, b, count-is)))
+    pub leads-in-order : LeadsBack previous callsInOrder (length (netOf network .calls))
+    leads-in-order =
+        leadsBack-same previous (callsIn (by .list)) (length (netOf network .calls))
+        (leadsBack-fewer previous (callsIn (by .list)) (by .calls) leads (length (netOf network .calls)) (omega (arith, count-is))) callsInOrder call-at
 
     pub divisor-in-order :
         (i j : ℕ)

@@ -1,5 +1,5 @@
--- The parts of a packed number stand above each other, each below the next one's unit, so that they come out again: line, stop and offset of
--- a call, and first call and number of starts of a line. Assumes nothing.
+-- The parts of a packed number stand above each other, each below the next one's unit, so that the first call and the number of starts of a
+-- line come out again. Assumes nothing.
 use Prim.Native.Nat.{ℕ, _+_, _*_, _/_, _%_, _≤_, _<_}
 use mathlib.Core.Path.{_≡_}
 use mathlib.Core.Bool.{Bool, true, false}
@@ -8,12 +8,10 @@ use native.Mathlib.Omega.{arith}
 use borrow.Author.Tests.{lt-ltb}
 use lib.Dec.{ltb}
 use lib.ListN.{getD}
-use Rattle.network.specs.declared.Call.{Call}
 use Rattle.network.specs.Lists.{pick}
-use Rattle.network.specs.Stored.{packed}
-use Rattle.network.proofs.Laws.Packed.{InLimits}
 use Rattle.search.specs.Held.{firstIn, countIn}
 
+-- Line, stop and offset of a packed call
 abbrev pub lineIn : ℕ → ℕ
 lineIn code = code / 4194304
 
@@ -22,19 +20,6 @@ stopIn code = code / 65536 % 64
 
 abbrev pub offsetIn : ℕ → ℕ
 offsetIn code = code % 65536
-
-module _ (c : Call) (h : InLimits c) where
-  pub line-of-packed : lineIn (packed c) ≡ c .line
-  unfolding packed
-  line-of-packed = omega (arith, h .line, h .stop, h .offset)
-
-  pub stop-of-packed : stopIn (packed c) ≡ c .stop
-  unfolding packed
-  stop-of-packed = omega (arith, h .line, h .stop, h .offset)
-
-  pub offset-of-packed : offsetIn (packed c) ≡ c .offset
-  unfolding packed
-  offset-of-packed = omega (arith, h .line, h .stop, h .offset)
 
 -- ---- a line
 

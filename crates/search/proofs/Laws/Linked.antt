@@ -5,23 +5,24 @@ use mathlib.Core.List.{List, map}
 use native.Mathlib.Nat.{le-trans}
 use native.Mathlib.Omega.{arith}
 use lib.Dec.{eqb}
-use lib.IntN.{ℤ, pos, _+ℤ_, _-ℤ_}
-use lib.ListN.{length, getD, List·getD-map}
+use lib.IntN.{ℤ, pos, _-ℤ_}
+use lib.ListN.{length, getD}
 use Rattle.network.specs.declared.Call.{Call}
 use Rattle.network.specs.Divisor.{gcd}
 use Rattle.network.specs.Network.{maxPeriod, maxStop, maxOffset}
 use Rattle.network.specs.Valid.{noCall}
-use Rattle.network.specs.Gap.{fold, residue, gapOf}
+use Rattle.network.specs.Gap.{fold, residue}
 use Rattle.network.specs.Rating.{arrivalOf, periodOf, gapOfCalls}
 use Rattle.network.proofs.Laws.Members.{All, all-append, keep-all}
 use Rattle.network.proofs.Laws.Divisor.{gcd-pos-left, gcd-le-left}
-use Rattle.network.proofs.Laws.Gaps.{residue-eq-of-multiple}
 use Rattle.network.proofs.Laws.Integers.{difference-pos, difference-sub, difference-add-multiple, eq-of-difference}
+use Rattle.network.proofs.Laws.Packed.{InLimits, packed-line, packed-offset, packed-stop}
+use Rattle.network.proofs.Laws.Gaps.{residue-eq-of-multiple, arrivalOf-pos, gapOfCalls-is-fold, periodOf-is, periodOf-le, periodOf-pos}
+use Rattle.network.proofs.Laws.Gaps.{residue-pos}
 use Rattle.search.specs.Layout.{byLine}
-use Rattle.network.proofs.Laws.Packed.{InLimits}
 use Rattle.search.specs.Held.{Linked, callsByLine, reciprocal, withReciprocal}
 use Rattle.search.proofs.Laws.Layout.{length-byLine-all, byLine-line-lt}
-use Rattle.search.proofs.Laws.Codes.{lineIn, stopIn, offsetIn, line-of-packed, stop-of-packed, offset-of-packed}
+use Rattle.search.proofs.Laws.Codes.{lineIn, stopIn, offsetIn}
 use Rattle.search.proofs.Laws.Reciprocal.{divisor-part, reciprocal-part}
 
 -- What holds of every call holds of every call in line order
@@ -32,16 +33,14 @@ byLine-all P calls h (suc k) = all-append noCall P (byLine calls k) _ (byLine-al
 
 -- A difference reduced by a divisor, computed with naturals
 pub residue-of-difference : (g a b m : ℕ) → b ≤ g * m → (a + g * m - b) % g ≡ residue (pos a -ℤ pos b) g
-unfolding residue
 residue-of-difference g a b m h =
-    residue-eq-of-multiple (pos (a + g * m - b)) (pos a -ℤ pos b) (pos m) g
+    sym (residue-pos (a + g * m - b) g)
+    ∙ residue-eq-of-multiple (pos (a + g * m - b)) (pos a -ℤ pos b) (pos m) g
     (eq-of-difference (difference-pos (a + g * m - b)) (difference-add-multiple (difference-sub (difference-pos a) (difference-pos b)) (difference-pos m) g)
     (omega arith))
 
 arrival-of : (starts : List ℕ) (line offset : ℕ) (c : Call) → line ≡ c .line → offset ≡ c .offset → pos (getD starts line 0 + offset) ≡ arrivalOf (map pos starts) c
-unfolding arrivalOf
-arrival-of starts line offset c e f =
-    ap₂ (λ (a b : ℕ). pos (getD starts a 0 + b)) e f ∙ ap (λ (z : ℤ). z +ℤ pos (c .offset)) (sym (List·getD-map pos starts (c .line) 0))
+arrival-of starts line offset c e f = ap₂ (λ (a b : ℕ). pos (getD starts a 0 + b)) e f ∙ sym (arrivalOf-pos starts c)
 
 module _ {codes previous divisors : List ℕ} (l : Linked codes previous divisors) where
   -- all calls are in line order
@@ -69,13 +68,13 @@ module _ {codes previous divisors : List ℕ} (l : Linked codes previous divisor
         }
 
     pub line-of : lineIn (getD codes i 0) ≡ getD (callsByLine l) i noCall .line
-    line-of = ap lineIn (l .code-of i h) ∙ line-of-packed _ in-limits
+    line-of = ap lineIn (l .code-of i h) ∙ packed-line _ in-limits
 
     pub stop-of : stopIn (getD codes i 0) ≡ getD (callsByLine l) i noCall .stop
-    stop-of = ap stopIn (l .code-of i h) ∙ stop-of-packed _ in-limits
+    stop-of = ap stopIn (l .code-of i h) ∙ packed-stop _ in-limits
 
     offset-of : offsetIn (getD codes i 0) ≡ getD (callsByLine l) i noCall .offset
-    offset-of = ap offsetIn (l .code-of i h) ∙ offset-of-packed _ in-limits
+    offset-of = ap offsetIn (l .code-of i h) ∙ packed-offset _ in-limits
 
     line-row-low : lineIn (getD codes i 0) < length (l .net .periods)
     line-row-low = rw line-of line-low
@@ -88,21 +87,19 @@ module _ {codes previous divisors : List ℕ} (l : Linked codes previous divisor
     word-is :
         getD divisors (lineIn (getD codes i 0) * 16 + lineIn (getD codes j 0)) 0
         ≡ withReciprocal (gcd (periodOf (l .net) (getD (callsByLine l) j noCall)) (periodOf (l .net) (getD (callsByLine l) i noCall)))
-    unfolding periodOf
     word-is =
         l .divisor-of (lineIn (getD codes i 0)) (lineIn (getD codes j 0)) (line-row-low i hi) (line-row-low j hj)
         ∙ ap₂ (λ (a b : ℕ). withReciprocal (gcd (getD (l .net .periods) a 0) (getD (l .net .periods) b 0))) (line-of j hj) (line-of i hi)
+        ∙ sym (ap₂ (λ (a b : ℕ). withReciprocal (gcd a b)) (periodOf-is (l .net) _) (periodOf-is (l .net) _))
 
     period-pos : 0 < periodOf (l .net) (getD (callsByLine l) j noCall)
-    unfolding periodOf
-    period-pos = l .valid .period-pos _ (line-low j hj)
+    period-pos = periodOf-pos (l .valid) _ (line-low j hj)
 
     period-le : periodOf (l .net) (getD (callsByLine l) j noCall) ≤ maxPeriod
-    unfolding periodOf
-    period-le = l .valid .period _ (line-low j hj)
+    period-le = periodOf-le (l .valid) _ (line-low j hj)
 
-    gcd-pos : 0 < gcd (periodOf (l .net) (getD (callsByLine l) j noCall)) (periodOf (l .net) (getD (callsByLine l) i noCall))
-    gcd-pos = gcd-pos-left _ _ period-pos
+    divisor-of-calls-pos : 0 < gcd (periodOf (l .net) (getD (callsByLine l) j noCall)) (periodOf (l .net) (getD (callsByLine l) i noCall))
+    divisor-of-calls-pos = gcd-pos-left _ _ period-pos
 
     gcd-low : gcd (periodOf (l .net) (getD (callsByLine l) j noCall)) (periodOf (l .net) (getD (callsByLine l) i noCall)) ≤ 1440
     gcd-low = le-trans (gcd-le-left _ _ period-pos) period-le
@@ -110,17 +107,17 @@ module _ {codes previous divisors : List ℕ} (l : Linked codes previous divisor
     divisor-is :
         getD divisors (lineIn (getD codes i 0) * 16 + lineIn (getD codes j 0)) 0 % 2048
         ≡ gcd (periodOf (l .net) (getD (callsByLine l) j noCall)) (periodOf (l .net) (getD (callsByLine l) i noCall))
-    divisor-is = ap (λ (w : ℕ). w % 2048) word-is ∙ divisor-part _ gcd-pos (omega (arith, gcd-low))
+    divisor-is = ap (λ (w : ℕ). w % 2048) word-is ∙ divisor-part _ divisor-of-calls-pos (omega (arith, gcd-low))
 
     pub divisor-pos : 0 < getD divisors (lineIn (getD codes i 0) * 16 + lineIn (getD codes j 0)) 0 % 2048
-    divisor-pos = rw divisor-is gcd-pos
+    divisor-pos = rw divisor-is divisor-of-calls-pos
 
     pub divisor-le : getD divisors (lineIn (getD codes i 0) * 16 + lineIn (getD codes j 0)) 0 % 2048 ≤ 1440
     divisor-le = rw divisor-is gcd-low
 
     pub reciprocal-is :
         getD divisors (lineIn (getD codes i 0) * 16 + lineIn (getD codes j 0)) 0 / 2048 ≡ reciprocal (getD divisors (lineIn (getD codes i 0) * 16 + lineIn (getD codes j 0)) 0 % 2048)
-    reciprocal-is = ap (λ (w : ℕ). w / 2048) word-is ∙ reciprocal-part _ gcd-pos (omega (arith, gcd-low)) ∙ ap reciprocal (sym divisor-is)
+    reciprocal-is = ap (λ (w : ℕ). w / 2048) word-is ∙ reciprocal-part _ divisor-of-calls-pos (omega (arith, gcd-low)) ∙ ap reciprocal (sym divisor-is)
 
     -- the gap of two calls, by their arrivals and that divisor
     pub gap-of-rows :
@@ -129,14 +126,11 @@ module _ {codes previous divisors : List ℕ} (l : Linked codes previous divisor
         (residue (pos (getD starts (lineIn (getD codes j 0)) 0 + offsetIn (getD codes j 0)) -ℤ pos (getD starts (lineIn (getD codes i 0)) 0 + offsetIn (getD codes i 0)))
         (getD divisors (lineIn (getD codes i 0) * 16 + lineIn (getD codes j 0)) 0 % 2048))
         ≡ gapOfCalls (l .net) (map pos starts) (getD (callsByLine l) j noCall) (getD (callsByLine l) i noCall)
-    unfolding gapOfCalls gapOf
     gap-of-rows starts =
-        ap (λ (g : ℕ). fold g (residue (pos (getD starts (lineIn (getD codes j 0)) 0 + offsetIn (getD codes j 0)) -ℤ pos (getD starts (lineIn (getD codes i 0)) 0 + offsetIn (getD codes i 0))) g))
-        divisor-is
-        ∙ ap₂ (λ (a b : ℤ). fold (gcd (periodOf (l .net) (getD (callsByLine l) j noCall)) (periodOf (l .net) (getD (callsByLine l) i noCall)))
-        (residue (a -ℤ b) (gcd (periodOf (l .net) (getD (callsByLine l) j noCall)) (periodOf (l .net) (getD (callsByLine l) i noCall)))))
+        ap₂ (λ (a b : ℤ). fold (getD divisors (lineIn (getD codes i 0) * 16 + lineIn (getD codes j 0)) 0 % 2048) (residue (a -ℤ b) (getD divisors (lineIn (getD codes i 0) * 16 + lineIn (getD codes j 0)) 0 % 2048)))
         (arrives j hj)
         (arrives i hi)
+        ∙ gapOfCalls-is-fold (l .net) (map pos starts) (getD (callsByLine l) j noCall) (getD (callsByLine l) i noCall) _ divisor-is
       where
         arrives : (k : ℕ) → k < length (l .net .calls) → pos (getD starts (lineIn (getD codes k 0)) 0 + offsetIn (getD codes k 0)) ≡ arrivalOf (map pos starts) (getD (callsByLine l) k noCall)
         arrives k h = arrival-of starts (lineIn (getD codes k 0)) (offsetIn (getD codes k 0)) (getD (callsByLine l) k noCall) (line-of k h) (offset-of k h)

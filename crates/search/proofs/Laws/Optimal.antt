@@ -11,8 +11,9 @@ use lib.ListN.{length, drop}
 use Rattle.network.specs.declared.Rating.{Rating}
 use Rattle.network.specs.Network.{Net}
 use Rattle.network.specs.Valid.{Valid}
-use Rattle.network.specs.Rating.{IsRating, ratingBy, ratingOver, rating, isAbove}
-use Rattle.network.proofs.Laws.Gaps.{All, rating-is-rating, IsRating-unique, below-of-not-isAbove}
+use Rattle.network.specs.Rating.{IsRating, rating, isAbove}
+use Rattle.network.proofs.Laws.Members.{All}
+use Rattle.network.proofs.Laws.Gaps.{rating-is-rating, IsRating-unique, below-of-not-isAbove, rating-some}
 use Rattle.search.specs.Caps.{cap, upperRating}
 use Rattle.search.specs.Walk.{atFirst, mostTries}
 use Rattle.search.specs.Search.{startCounts, aboveBest, searched, triesBound}
@@ -20,7 +21,7 @@ use Rattle.search.specs.Search.{stopped, productsFrom}
 use Rattle.search.proofs.Laws.Upper.{upper-is-upper, upper-full, upperRating-some}
 use Rattle.search.proofs.Laws.Reduced.{reduced, reduced-length, reduced-chosen, reduced-rating}
 use Rattle.search.proofs.Laws.Tries.{length-startCounts}
-use Rattle.search.proofs.Laws.Walk.{Chosen-length, Chosen-exists, walk-tries-le, walk-tries-le-budget, walk-stopped-at-budget, walk-finishes}
+use Rattle.search.proofs.Laws.Walk.{ChosenBelow-length, ChosenBelow-exists, walk-tries-le, walk-tries-le-budget, walk-stopped-at-budget, walk-finishes}
 use Rattle.search.proofs.Laws.Best.{best-is-chosen}
 use Rattle.search.proofs.Laws.Rules.{none-above-best, aboveBest-has-best}
 
@@ -61,13 +62,13 @@ module _ {n : Net} (valid : Valid n) (budget : ℕ) (some : searched n budget .b
   unfolding searched
   searched-rated =
       let b = best-is-chosen (upperRating n (cap n)) aboveBest budget (upperRating-some n (cap n)) (startCounts (n .periods)) in
-      b .rated some ∙ upper-full valid _ (Chosen-length (b .chosen some) ∙ length-startCounts (n .periods))
+      b .rated some ∙ upper-full valid _ (ChosenBelow-length (b .chosen some) ∙ length-startCounts (n .periods))
 
   pub searched-length : length (searched n budget .starts) ≡ length (n .periods)
   unfolding searched
   searched-length =
       let b = best-is-chosen (upperRating n (cap n)) aboveBest budget (upperRating-some n (cap n)) (startCounts (n .periods)) in
-      Chosen-length (b .chosen some) ∙ length-startCounts (n .periods)
+      ChosenBelow-length (b .chosen some) ∙ length-startCounts (n .periods)
 
   pub searched-rating : IsRating n (searched n budget .starts) (searched n budget .best .least) (searched n budget .best .sum)
   searched-rating = rw searched-rated (rating-is-rating n valid (searched n budget .starts))
@@ -76,7 +77,7 @@ module _ {n : Net} (valid : Valid n) (budget : ℕ) (ended : searched n budget .
   pub searched-some : searched n budget .best .some ≡ true
   unfolding searched
   searched-some =
-      let (starts, c) = Chosen-exists (startCounts (n .periods)) (startCounts-pos (n .periods) (valid .period-pos)) in
+      let (starts, c) = ChosenBelow-exists (startCounts (n .periods)) (startCounts-pos (n .periods) (valid .period-pos)) in
       aboveBest-has-best (upperRating n (cap n)) budget (startCounts (n .periods)) (upperRating-some n (cap n))
       (upper-is-upper n (cap n) (startCounts (n .periods))) ended starts c
 
@@ -92,10 +93,9 @@ module _ {n : Net} (valid : Valid n) (budget : ℕ) (ended : searched n budget .
 
   pub searched-best : (starts : List ℤ) → length starts ≡ length (n .periods) → {least sum : ℕ} → IsRating n starts least sum
       → (least < searched n budget .best .least) ⊎ ((least ≡ searched n budget .best .least) × (sum ≤ searched n budget .best .sum))
-  unfolding rating ratingOver ratingBy
   searched-best starts e r =
       let (l, s) = IsRating-unique valid r in
-      rw (l, s) (below-of-not-isAbove (rating n starts) (searched n budget .best) refl searched-some (searched-none-above starts e))
+      rw (l, s) (below-of-not-isAbove (rating n starts) (searched n budget .best) (rating-some n starts) searched-some (searched-none-above starts e))
 
 -- ---- the bound
 

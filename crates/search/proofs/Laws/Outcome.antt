@@ -31,7 +31,7 @@ module _ (n : Net) (row : List ℤ) (budget : ℕ) (fits : length row ≡ length
 
 -- ---- what an answer with a best tells
 
-pub record Told (n : Net) (row budget least sum tries : ℕ) (ends : Bool) : Type 0 where
+pub record AnswerTells (n : Net) (row budget least sum tries : ℕ) (ends : Bool) : Type 0 where
   pub fits : row ≡ length (n .periods)
   pub stops : searched n budget .stopped ≡ ends
   pub its-least : searched n budget .best .least ≡ least
@@ -40,39 +40,39 @@ pub record Told (n : Net) (row budget least sum tries : ℕ) (ends : Bool) : Typ
 
 module _ (n : Net) (row budget : ℕ) where
   -- By the tests that the answer goes by: the row fits, the walk stopped, it has a best
-  cases : (P : SearchOutcome → Type 0)
+  outcome-cases : (P : SearchOutcome → Type 0)
       → ((row ≡ length (n .periods) → ⊥) → P (refusal 16 0))
       → ((a b : Bool) → row ≡ length (n .periods) → searched n budget .stopped ≡ a → searched n budget .best .some ≡ b → P (walkOutcome a b (searched n budget)))
       → P (searchOutcome (accepted n) row budget)
   unfolding searchOutcome outcomeOf
-  cases P f g = go (eqb row (length (n .periods))) refl
+  outcome-cases P f g = go (eqb row (length (n .periods))) refl
     where
       go : (t : Bool) → eqb row (length (n .periods)) ≡ t → P (pick t (walkOutcome (searched n budget .stopped) (searched n budget .best .some) (searched n budget)) (refusal 16 0))
       go false e = f (eqb-false _ _ e)
       go true e = g _ _ (eqb-true _ _ e) refl refl
 
   pub told-of-finished : {least sum tries : ℕ} → searchOutcome (accepted n) row budget ≡ finished least sum tries
-      → Told n row budget least sum tries false
+      → AnswerTells n row budget least sum tries false
   unfolding walkOutcome
   told-of-finished {least} {sum} {tries} =
-      cases (λ o. o ≡ finished least sum tries → Told n row budget least sum tries false) (λ f e. absurd (zero-ne-one (cc))) go
+      outcome-cases (λ o. o ≡ finished least sum tries → AnswerTells n row budget least sum tries false) (λ f e. absurd (zero-ne-one (cc))) go
     where
       go : (a b : Bool) → row ≡ length (n .periods) → searched n budget .stopped ≡ a → searched n budget .best .some ≡ b
-          → walkOutcome a b (searched n budget) ≡ finished least sum tries → Told n row budget least sum tries false
+          → walkOutcome a b (searched n budget) ≡ finished least sum tries → AnswerTells n row budget least sum tries false
       go true true f x y e = absurd (zero-ne-one (cc))
       go true false f x y e = absurd (zero-ne-one (cc))
       go false b f x y e = record { fits = f; stops = x; its-least = cc; its-sum = cc; its-tries = cc }
 
   pub told-of-stopped : {least sum tries : ℕ} → searchOutcome (accepted n) row budget ≡ stopped least sum tries
-      → Told n row budget least sum tries true × (searched n budget .best .some ≡ true)
+      → AnswerTells n row budget least sum tries true × (searched n budget .best .some ≡ true)
   unfolding walkOutcome
   told-of-stopped {least} {sum} {tries} =
-      cases (λ o. o ≡ stopped least sum tries → Told n row budget least sum tries true × (searched n budget .best .some ≡ true))
+      outcome-cases (λ o. o ≡ stopped least sum tries → AnswerTells n row budget least sum tries true × (searched n budget .best .some ≡ true))
       (λ f e. absurd (zero-ne-one (cc))) go
     where
       go : (a b : Bool) → row ≡ length (n .periods) → searched n budget .stopped ≡ a → searched n budget .best .some ≡ b
           → walkOutcome a b (searched n budget) ≡ stopped least sum tries
-          → Told n row budget least sum tries true × (searched n budget .best .some ≡ true)
+          → AnswerTells n row budget least sum tries true × (searched n budget .best .some ≡ true)
       go true true f x y e = (record { fits = f; stops = x; its-least = cc; its-sum = cc; its-tries = cc }, y)
       go true false f x y e = absurd (zero-ne-one (cc))
       go false b f x y e = absurd (zero-ne-one (cc))
@@ -82,7 +82,7 @@ module _ (n : Net) (row budget : ℕ) where
       → (row ≡ length (n .periods)) × (searched n budget .stopped ≡ true) × (searched n budget .best .some ≡ false) × (searched n budget .tries ≡ tries)
   unfolding walkOutcome
   told-of-none {tries} =
-      cases (λ o. o ≡ stoppedWithNone tries → (row ≡ length (n .periods)) × (searched n budget .stopped ≡ true) × (searched n budget .best .some ≡ false) × (searched n budget .tries ≡ tries))
+      outcome-cases (λ o. o ≡ stoppedWithNone tries → (row ≡ length (n .periods)) × (searched n budget .stopped ≡ true) × (searched n budget .best .some ≡ false) × (searched n budget .tries ≡ tries))
       (λ f e. absurd (zero-ne-one (cc))) go
     where
       go : (a b : Bool) → row ≡ length (n .periods) → searched n budget .stopped ≡ a → searched n budget .best .some ≡ b
@@ -97,7 +97,7 @@ module _ (n : Net) (row budget : ℕ) where
   -- An answer reports the walk's tries, a refusal none
   reported : (P : ℕ → Type 0) → P 0 → P (searched n budget .tries) → P (triesOf (searchOutcome (accepted n) row budget))
   unfolding walkOutcome
-  reported P none some = cases (λ o. P (triesOf o)) (λ f. none) go
+  reported P none some = outcome-cases (λ o. P (triesOf o)) (λ f. none) go
     where
       go : (a b : Bool) → row ≡ length (n .periods) → searched n budget .stopped ≡ a → searched n budget .best .some ≡ b
           → P (triesOf (walkOutcome a b (searched n budget)))
@@ -125,8 +125,8 @@ walk-answers true true s e = zero-ne-one (cc)
 walk-answers true false s e = zero-ne-one (cc)
 walk-answers false b s e = zero-ne-one (cc)
 
-same-refusal : {number place number′ place′ : ℕ} → refusal number place ≡ refusal number′ place′ → refused number place ≡ refused number′ place′
-same-refusal e = ap₂ refused (cc) (cc)
+refused-of-refusal : {number place number′ place′ : ℕ} → refusal number place ≡ refusal number′ place′ → refused number place ≡ refused number′ place′
+refused-of-refusal e = ap₂ refused (cc) (cc)
 
 module _ (file : List ℕ) (row : List ℤ) (budget : ℕ) where
   pub search-refuses : {number place : ℕ} → Refuses file 16 (Unfit row) number place
@@ -140,7 +140,7 @@ module _ (file : List ℕ) (row : List ℤ) (budget : ℕ) where
   search-refused : {number place : ℕ} (read : Reading) → readFile file ≡ read → searchOutcome read (length row) budget ≡ refusal number place
       → Refuses file 16 (Unfit row) number place × (startRowAfter read budget row ≡ row)
   unfolding searchOutcome outcomeOf startRowAfter
-  search-refused (refused number′ place′) e h = (by-file (e ∙ same-refusal h), refl)
+  search-refused (refused number′ place′) e h = (by-file (e ∙ refused-of-refusal h), refl)
   search-refused {number} {place} (accepted n) e h = go (eqb (length row) (length (n .periods))) refl h
     where
       go : (t : Bool) → eqb (length row) (length (n .periods)) ≡ t

@@ -4,22 +4,21 @@ use Prim.Native.Nat.{ℕ, _+_, _-_, _<_, _≤_, min}
 use mathlib.Core.Path.{_≡_, refl, sym, ap, subst, fun-ext, _∙_}
 use mathlib.Core.Bool.{true}
 use mathlib.Core.List.{List, [], _∷_, _++_, map, map-append}
-use borrow.Author.Tests.{eq-eqb}
 use native.Mathlib.Decide.{ℕ-discrete}
 use native.Mathlib.Numerals.{add-one}
 use native.Mathlib.Omega.{arith}
 use lib.IntN.{ℤ, pos}
 use lib.ListN.{length, getD, take, set, length-set, length-map, length-append, List·getD-map}
-use lib.Dec.{eqb}
-use lib.Seq.{getD-set-same, getD-set-other, getD-take, length-take-le, take-length}
+use lib.Seq.{getD-set-same, getD-set-other, getD-take, length-take-le}
 use Rattle.network.specs.declared.Call.{Call}
 use Rattle.network.specs.declared.Rating.{Rating}
 use Rattle.network.specs.Network.{Net, isServed, maxPeriod}
 use Rattle.network.specs.Rating.{gapOfCalls, counted, ratingBy}
 use Rattle.network.specs.Scan.{leastFrom, callsBefore}
 use Rattle.network.specs.Valid.{Valid, noCall}
-use Rattle.network.proofs.Laws.Lists.{take-set-next, any-take-found}
-use Rattle.network.proofs.Laws.Gaps.{leastFrom-le}
+use Rattle.network.proofs.Laws.Lists.{take-set-next}
+use Rattle.network.proofs.Laws.Least.{leastFrom-le}
+use Rattle.network.proofs.Laws.Gaps.{served-of-call, ratingBy-least-mono, ratingBy-sum-mono}
 use Rattle.search.specs.declared.Cut.{Cut}
 use Rattle.search.specs.declared.Placed.{Placed}
 use Rattle.search.specs.Caps.{cap, upperValue, upperRating}
@@ -28,7 +27,6 @@ use Rattle.search.specs.Held.{isShort, startsOf, withStart, Represents}
 use Rattle.search.proofs.Laws.Layout.{byLine-line-lt, length-byLine-all, length-byLine-le}
 use Rattle.search.proofs.Laws.Linked.{byLine-all}
 use Rattle.search.proofs.Laws.Values.{value-hit, value-miss, value-falls, value-placed, value-local}
-use Rattle.search.proofs.Laws.Upper.{ratingBy-least-le, ratingBy-sum-le}
 use Rattle.search.proofs.Laws.Cuts.{short-below}
 use Rattle.search.proofs.Laws.Lowered.{value-le-sum, rating-lowered}
 
@@ -200,8 +198,8 @@ pub given-up :
 unfolding upperRating
 given-up cut n valid line start p h rep values least sum i now l short =
     short-below cut _ _ least sum
-    (omega (arith, ap (λ (r : Rating). r .least) at-end, ap (λ (r : Rating). r .least) (now .rating-of), ratingBy-least-le (after end) (after i) falls (counted n)))
-    (omega (arith, ap (λ (r : Rating). r .sum) at-end, ap (λ (r : Rating). r .sum) (now .rating-of), ratingBy-sum-le (after end) (after i) falls (counted n)))
+    (omega (arith, ap (λ (r : Rating). r .least) at-end, ap (λ (r : Rating). r .least) (now .rating-of), ratingBy-least-mono (after end) (after i) falls (counted n)))
+    (omega (arith, ap (λ (r : Rating). r .sum) at-end, ap (λ (r : Rating). r .sum) (now .rating-of), ratingBy-sum-mono (after end) (after i) falls (counted n)))
     short
   where
     starts : List ℕ
@@ -230,15 +228,9 @@ given-up cut n valid line start p h rep values least sum i now l short =
 
 -- ---- facts of the calls in line order
 
-served-each : (calls : List Call) (k : ℕ) → k < length calls → isServed (getD calls k noCall .stop) calls ≡ true
-unfolding isServed
-served-each calls k h =
-    rw (take-length calls) at
-    (any-take-found (λ (c : Call). eqb (c .stop) (getD calls k noCall .stop)) calls k (length calls) noCall h h (eq-eqb (getD calls k noCall .stop) _ refl))
-
 pub stop-served : (n : Net) → Valid n → (i : ℕ) → i < length (inOrder n) → isServed (getD (inOrder n) i noCall .stop) (n .calls) ≡ true
 stop-served n valid i h =
-    byLine-all (λ (c : Call). isServed (c .stop) (n .calls) ≡ true) (n .calls) (served-each (n .calls)) (length (n .periods)) i h
+    byLine-all (λ (c : Call). isServed (c .stop) (n .calls) ≡ true) (n .calls) (λ k h. served-of-call n _ {k = k} (record { stated = h; at-stop = refl })) (length (n .periods)) i h
 
 -- A start that is below the longest period in a row of such
 pub set-low : (starts : List ℕ) (line start : ℕ) → length starts ≡ 16 → line < 16 → start < maxPeriod → ((i : ℕ) → getD starts i 0 < maxPeriod)

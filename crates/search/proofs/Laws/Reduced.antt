@@ -12,10 +12,9 @@ use Rattle.network.specs.Valid.{Valid}
 use Rattle.network.specs.Gap.{residue}
 use Rattle.network.specs.Rating.{rating}
 use Rattle.network.proofs.Laws.Members.{All, all-tail}
-use Rattle.network.proofs.Laws.Gaps.{residue-lt, rating-residues, rating-moved-together}
+use Rattle.network.proofs.Laws.Gaps.{residue-lt, rating-residues, rating-moved-together, residue-of-residue, residue-pos}
 use Rattle.search.specs.Search.{startCounts}
-use Rattle.search.proofs.Laws.Cover.{residue-of-residue}
-use Rattle.search.proofs.Laws.Walk.{Chosen, none-left, next}
+use Rattle.search.proofs.Laws.Walk.{ChosenBelow, none-left, next}
 
 -- Each start reduced by its line's period
 residues : List ℕ → List ℤ → List ℤ
@@ -47,7 +46,7 @@ residues-same (t ∷ periods) (x ∷ starts) f e (suc i) h =
     residues-same periods starts (all-tail 0 (λ t. 0 < t) t periods f) (omega arith) i (le-of-suc-le-suc h)
 
 chosen-residues : (periods : List ℕ) (starts : List ℤ) → All 0 (λ t. 0 < t) periods → length starts ≡ length periods
-    → Chosen periods (residues periods starts)
+    → ChosenBelow periods (residues periods starts)
 unfolding residues
 chosen-residues [] starts f e = none-left
 chosen-residues (t ∷ periods) [] f e = absurd (omega arith)
@@ -55,12 +54,12 @@ chosen-residues (t ∷ periods) (x ∷ starts) f e =
     next (residue-lt x t (f 0 (zero-lt-suc _))) (chosen-residues periods starts (all-tail 0 (λ t. 0 < t) t periods f) (omega arith))
 
 chosen-reduced : (periods : List ℕ) (starts : List ℤ) → All 0 (λ t. 0 < t) periods → length starts ≡ length periods
-    → Chosen (startCounts periods) (reduced periods starts)
-unfolding reduced fromFirst residues startCounts residue
+    → ChosenBelow (startCounts periods) (reduced periods starts)
+unfolding reduced fromFirst residues startCounts
 chosen-reduced [] starts f e = none-left
 chosen-reduced (t ∷ periods) [] f e = absurd (omega arith)
 chosen-reduced (t ∷ periods) (x ∷ starts) f e =
-    let first = ap (λ y. residue y t) (+ℤ-invr x) in
+    let first = ap (λ y. residue y t) (+ℤ-invr x) ∙ residue-pos 0 t in
     next {x = residue (x +ℤ negℤ x) t} {count = 1} (omega (arith, first, zero-mod t))
     (chosen-residues periods (map (λ y. y +ℤ negℤ x) starts) (all-tail 0 (λ t. 0 < t) t periods f) (rw length-map (omega arith)))
 
@@ -73,7 +72,7 @@ module _ {n : Net} (valid : Valid n) (starts : List ℤ) (fits : length starts �
   unfolding reduced
   reduced-length = length-residues (n .periods) (fromFirst starts) fits-moved
 
-  pub reduced-chosen : Chosen (startCounts (n .periods)) (reduced (n .periods) starts)
+  pub reduced-chosen : ChosenBelow (startCounts (n .periods)) (reduced (n .periods) starts)
   reduced-chosen = chosen-reduced (n .periods) starts (valid .period-pos) fits
 
   pub reduced-rating : rating n (reduced (n .periods) starts) ≡ rating n starts

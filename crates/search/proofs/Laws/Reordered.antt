@@ -2,8 +2,9 @@
 -- of g and gaps are those of a pair whichever comes first, and a sum is that of its terms. Assumes nothing.
 use Prim.Native.Nat.{ℕ, zero, suc, _/_, _<_, min}
 use mathlib.Core.Path.{_≡_, refl, sym, ap, ap₂, fun-ext, _∙_}
-use mathlib.Core.Bool.{Bool, _&&_}
-use mathlib.Core.List.{List, [], _∷_, List·Permᴰ, Permᴰ·symm}
+use mathlib.Core.Bool.{_&&_}
+use mathlib.Core.List.{List, [], _∷_, List·Permᴰ}
+use native.Mathlib.Decide.{decLt}
 use native.Mathlib.Omega.{arith}
 use lib.Dec.{eqb, ltb}
 use lib.IntN.{ℤ}
@@ -12,23 +13,22 @@ use Rattle.network.specs.declared.Call.{Call}
 use Rattle.network.specs.declared.Rating.{Rating}
 use Rattle.network.specs.Archive.{tidied, SameNetwork}
 use Rattle.network.specs.Divisor.{gcd}
-use Rattle.network.specs.Lists.{pick, keep, leastOf, pairsOf, sumOf}
+use Rattle.network.specs.Lists.{pick, leastOf, pairsOf, sumOf}
 use Rattle.network.specs.Network.{Net, cycle}
-use Rattle.network.specs.Rating.{periodOf, gapOfCalls, gapOfStop, pairGaps, callsOfStop, counted, ratingBy}
+use Rattle.network.specs.Rating.{periodOf, pairGaps, callsOfStop, ratingBy}
 use Rattle.network.specs.Reading.{accepted}
 use Rattle.network.specs.Scan.{leastFrom}
-use Rattle.network.specs.Tidy.{tidy}
 use Rattle.network.specs.Valid.{noCall, Valid}
 use Rattle.network.proofs.Laws.Divisor.{gcd-comm}
-use Rattle.network.proofs.Laws.Gaps.{counted-permuted, gapOfStop-permuted, callsOfStop-period-pos}
+use Rattle.network.proofs.Laws.Gaps.{gapOfStop-permuted, leastFrom-pairGaps-few, leastFrom-pairGaps-more, callsOfStop-period-pos}
+use Rattle.network.proofs.Laws.Gaps.{tidied-same, callsOfStop-tidied, periods-tidied, cycle-tidied, periodOf-tidied, pairGaps-tidied, counted-tidied}
+use Rattle.network.proofs.Laws.Least.{leastOf-permuted}
 use Rattle.network.proofs.Laws.Members.{All, keep-all}
-use Rattle.network.proofs.Laws.Permuted.{length-permuted, keep-permuted, sumOf-permuted, pairsOf-permuted, leastOf-permuted}
-use Rattle.network.proofs.Laws.SameNetwork.{tidied-same}
-use Rattle.network.proofs.Laws.Tidy.{tidy-is-permutation}
+use Rattle.network.proofs.Laws.Permutations.{length-permuted, keep-permuted, sumOf-permuted, pairsOf-permuted}
+use Rattle.network.proofs.Laws.Sums.{sumOf-nil, sumOf-snoc}
 use Rattle.search.specs.Caps.{halves, evenSpacing, capOfCalls, cap, placedCalls, upperValue, upperRating}
-use Rattle.search.specs.Search.{aboveBest, startCounts, searched, outcomeOf, SearchOutcome, refusal, searchOutcome, startRowAfter}
+use Rattle.search.specs.Search.{aboveBest, startCounts, searched, outcomeOf, refusal, searchOutcome, startRowAfter}
 use Rattle.search.specs.Walk.{State, atFirst, walk}
-use Rattle.search.proofs.Laws.Upper.{leastFrom-pairs}
 
 -- ---- caps
 
@@ -50,9 +50,9 @@ module _ (n : Net) where
   capBy (suc (suc k)) cs = min (leastOf (halves n cs)) (evenSpacing n cs)
 
   capBy-is : (cs : List Call) → capOfCalls n cs ≡ capBy (length cs) cs
-  unfolding capOfCalls capBy sumOf
+  unfolding capOfCalls capBy
   capBy-is [] = refl
-  capBy-is (c ∷ []) = omega arith
+  capBy-is (c ∷ []) = omega (arith, sumOf-snoc (periodOf n) [] c, sumOf-nil (periodOf n))
   capBy-is (c ∷ d ∷ cs) = refl
 
   capBy-permuted : (k : ℕ) {cs ds : List Call} → List·Permᴰ cs ds → capBy k cs ≡ capBy k ds
@@ -65,71 +65,54 @@ module _ (n : Net) where
   capOfCalls-permuted {cs} {ds} π =
       capBy-is cs ∙ ap (λ (k : ℕ). capBy k cs) (length-permuted π) ∙ capBy-permuted (length ds) π ∙ sym (capBy-is ds)
 
--- ---- upper values
+-- ---- the least of a number and the gaps of all pairs
 
-module _ (n : Net) (starts : List ℤ) (v : ℕ) where
-  leastBy : ℕ → List Call → ℕ
-  leastBy zero cs = v
-  leastBy (suc zero) cs = v
-  leastBy (suc (suc k)) cs = min v (gapOfStop n starts cs)
-
-  leastBy-is : (cs : List Call) → leastFrom v (pairGaps n starts cs) ≡ leastBy (length cs) cs
-  unfolding leastBy leastFrom pairGaps pairsOf
-  leastBy-is [] = refl
-  leastBy-is (c ∷ []) = refl
-  leastBy-is (c ∷ d ∷ cs) = leastFrom-pairs n starts v c d cs
-
-  leastBy-permuted : (k : ℕ) {cs ds : List Call} → List·Permᴰ cs ds → All noCall (λ c. 0 < periodOf n c) cs → leastBy k cs ≡ leastBy k ds
-  unfolding leastBy
-  leastBy-permuted zero π positive = refl
-  leastBy-permuted (suc zero) π positive = refl
-  leastBy-permuted (suc (suc k)) π positive = ap (min v) (gapOfStop-permuted n starts π positive)
-
-  leastFrom-permuted : {cs ds : List Call} → List·Permᴰ cs ds → All noCall (λ c. 0 < periodOf n c) cs
-      → leastFrom v (pairGaps n starts cs) ≡ leastFrom v (pairGaps n starts ds)
-  leastFrom-permuted {cs} {ds} π positive =
-      leastBy-is cs ∙ ap (λ (k : ℕ). leastBy k cs) (length-permuted π) ∙ leastBy-permuted (length ds) π positive ∙ sym (leastBy-is ds)
+leastFrom-permuted : (n : Net) (starts : List ℤ) (v : ℕ) {cs ds : List Call} → List·Permᴰ cs ds → All noCall (λ c. 0 < periodOf n c) cs
+    → leastFrom v (pairGaps n starts cs) ≡ leastFrom v (pairGaps n starts ds)
+leastFrom-permuted n starts v {cs} {ds} π positive = go (decLt 1 (length cs))
+  where
+    go : Dec (1 < length cs) → leastFrom v (pairGaps n starts cs) ≡ leastFrom v (pairGaps n starts ds)
+    go (yes h) =
+        leastFrom-pairGaps-more n starts v cs h
+        ∙ ap (min v) (gapOfStop-permuted n starts π positive)
+        ∙ sym (leastFrom-pairGaps-more n starts v ds (rw (← length-permuted π) h))
+    go (no h) =
+        leastFrom-pairGaps-few n starts v cs (omega arith) ∙ sym (leastFrom-pairGaps-few n starts v ds (omega (arith, length-permuted π)))
 
 -- ---- a network with its calls in order
 
 module _ {n : Net} (valid : Valid n) where
-  at-stop : (stop : ℕ) → List·Permᴰ (callsOfStop n stop) (callsOfStop (tidied n) stop)
-  unfolding callsOfStop tidied
-  at-stop stop = keep-permuted (λ (c : Call). eqb (c .stop) stop) (Permᴰ·symm (tidy-is-permutation (n .calls)))
-
-  -- only the periods of a network count for given calls
   capOfCalls-tidied : (cs : List Call) → capOfCalls (tidied n) cs ≡ capOfCalls n cs
-  unfolding capOfCalls halves evenSpacing cycle periodOf tidied
+  unfolding capOfCalls halves evenSpacing
   capOfCalls-tidied [] = refl
-  capOfCalls-tidied (c ∷ []) = refl
-  capOfCalls-tidied (c ∷ d ∷ cs) = refl
-
-  pairGaps-tidied : (starts : List ℤ) (cs : List Call) → pairGaps (tidied n) starts cs ≡ pairGaps n starts cs
-  unfolding pairGaps gapOfCalls periodOf tidied
-  pairGaps-tidied starts cs = refl
+  capOfCalls-tidied (c ∷ []) = ap (λ (period : Call → ℕ). period c) (periodOf-tidied n)
+  capOfCalls-tidied (c ∷ d ∷ cs) =
+      ap₂ (λ (period : Call → ℕ) (common : ℕ).
+      min (leastOf (pairsOf (λ (c d : Call). gcd (period c) (period d) / 2) (c ∷ d ∷ cs)))
+      (common / sumOf (λ (c : Call). common / period c) (c ∷ d ∷ cs)))
+      (periodOf-tidied n) (cycle-tidied n)
 
   cap-tidied : (stop : ℕ) → cap (tidied n) stop ≡ cap n stop
   unfolding cap
-  cap-tidied stop = capOfCalls-tidied (callsOfStop (tidied n) stop) ∙ sym (capOfCalls-permuted n (at-stop stop))
+  cap-tidied stop = capOfCalls-tidied (callsOfStop (tidied n) stop) ∙ sym (capOfCalls-permuted n (callsOfStop-tidied n stop))
 
   upperValue-tidied : (starts : List ℤ) (stop : ℕ) → upperValue (tidied n) (cap (tidied n)) starts stop ≡ upperValue n (cap n) starts stop
   unfolding upperValue placedCalls
   upperValue-tidied starts stop =
-      ap₂ leastFrom (cap-tidied stop) (pairGaps-tidied starts (placedCalls starts (callsOfStop (tidied n) stop)))
+      ap₂ (λ (v : ℕ) (gaps : List ℤ → List Call → List ℕ). leastFrom v (gaps starts (placedCalls starts (callsOfStop (tidied n) stop)))) (cap-tidied stop) (pairGaps-tidied n)
       ∙ sym
-      (leastFrom-permuted n starts (cap n stop) (keep-permuted (λ (c : Call). ltb (c .line) (length starts)) (at-stop stop))
+      (leastFrom-permuted n starts (cap n stop) (keep-permuted (λ (c : Call). ltb (c .line) (length starts)) (callsOfStop-tidied n stop))
       (keep-all noCall (λ (c : Call). ltb (c .line) (length starts)) (λ c. 0 < periodOf n c) (callsOfStop n stop)
       (λ i h _. callsOfStop-period-pos valid stop i h)))
 
   upperRating-tidied : upperRating (tidied n) (cap (tidied n)) ≡ upperRating n (cap n)
-  unfolding upperRating tidied
-  upperRating-tidied =
-      fun-ext (λ starts.
-      ap₂ ratingBy (fun-ext (upperValue-tidied starts)) (sym (counted-permuted n (tidied n) valid refl (Permᴰ·symm (tidy-is-permutation (n .calls))))))
+  unfolding upperRating
+  upperRating-tidied = fun-ext (λ starts. ap₂ ratingBy (fun-ext (upperValue-tidied starts)) (counted-tidied valid))
 
   searched-tidied : (budget : ℕ) → searched (tidied n) budget ≡ searched n budget
-  unfolding searched tidied
-  searched-tidied budget = ap (λ (upper : List ℤ → Rating). walk upper aboveBest budget (startCounts (n .periods)) [] atFirst) upperRating-tidied
+  unfolding searched
+  searched-tidied budget =
+      ap₂ (λ (upper : List ℤ → Rating) (periods : List ℕ). walk upper aboveBest budget (startCounts periods) [] atFirst) upperRating-tidied (periods-tidied n)
 
 -- Two files of one network: answer, tries and start row
 module _ {m n : Net} (v : Valid m) (w : Valid n) (same : SameNetwork m n) where

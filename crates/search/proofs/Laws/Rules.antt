@@ -13,11 +13,12 @@ use lib.ListN.{length}
 use Rattle.network.specs.declared.Rating.{Rating}
 use Rattle.network.specs.Rating.{noRating, isAbove}
 use Rattle.network.proofs.Laws.Lists.{zero-ne-one}
-use Rattle.network.proofs.Laws.Gaps.{All, isAbove-none, isAbove-irreflexive}
+use Rattle.network.proofs.Laws.Members.{All}
+use Rattle.network.proofs.Laws.Gaps.{isAbove-none, isAbove-irreflexive, not-above-of-above, not-above-transitive}
 use Rattle.search.specs.Walk.{State, atFirst, walk}
 use Rattle.search.specs.Search.{notAbove, aboveBest, atLeast, bySum}
-use Rattle.search.proofs.Laws.Walk.{Chosen}
-use Rattle.search.proofs.Laws.Bounds.{not-above-of-above, not-above-transitive, IsUpper, BoundsEach}
+use Rattle.search.proofs.Laws.Walk.{ChosenBelow}
+use Rattle.search.proofs.Laws.Bounds.{IsUpper, BoundsEach}
 use Rattle.search.proofs.Laws.Best.{DropsCompletions, Cuts, finished-none-stands, finished-has-best, finished-drops-all}
 use Rattle.search.proofs.Laws.Best.{first-descent, best-stood, ended-unstopped}
 
@@ -43,7 +44,7 @@ module _ (upper : List ℤ → Rating) (budget : ℕ) (counts : List ℕ) (rates
   aboveBest-stands starts = rw (isAbove-none (upper starts) ∙ rates starts) refl
 
   -- After a walk that hasn't stopped no choice is above the best; and if there is a choice, there is a best
-  module _ (sound : IsUpper upper counts) (finished : walked .stopped ≡ false) (starts : List ℤ) (choice : Chosen counts starts) where
+  module _ (sound : IsUpper upper counts) (finished : walked .stopped ≡ false) (starts : List ℤ) (choice : ChosenBelow counts starts) where
     pub none-above-best : isAbove (upper starts) (walked .best) ≡ false
     unfolding aboveBest notAbove
     none-above-best =
@@ -74,7 +75,7 @@ module _ (upper : List ℤ → Rating) (wanted budget : ℕ) (counts : List ℕ)
 
   -- A walk that hasn't stopped and has none tells that no choice reaches it
   pub atLeast-none-reaches : BoundsEach upper counts → found .stopped ≡ false → found .best .some ≡ false
-      → (starts : List ℤ) → Chosen counts starts → upper starts .least < wanted
+      → (starts : List ℤ) → ChosenBelow counts starts → upper starts .least < wanted
   unfolding atLeast
   atLeast-none-reaches bounds finished none starts c =
       ltb-true _ _
@@ -158,7 +159,7 @@ module _ (upper : List ℤ → Rating) (floor budget : ℕ) (counts : List ℕ) 
 
   module _ (bounds : BoundsEach upper counts) (finished : summed .stopped ≡ false) where
     -- After a walk that hasn't stopped no choice that reaches the floor has a larger sum than the best ..
-    pub bySum-largest-sum : 0 < length counts → (starts : List ℤ) → Chosen counts starts → floor ≤ upper starts .least
+    pub bySum-largest-sum : 0 < length counts → (starts : List ℤ) → ChosenBelow counts starts → floor ≤ upper starts .least
         → (summed .best .some ≡ true) × (upper starts .sum ≤ summed .best .sum)
     bySum-largest-sum some starts c h =
         go (bySum-dropped floor (upper starts) (summed .best)
@@ -170,7 +171,7 @@ module _ (upper : List ℤ → Rating) (floor budget : ℕ) (counts : List ℕ) 
         go (inr r) = r
 
     -- .. and without a best none reaches it
-    pub bySum-none-reaches : summed .best .some ≡ false → (starts : List ℤ) → Chosen counts starts → upper starts .least < floor
+    pub bySum-none-reaches : summed .best .some ≡ false → (starts : List ℤ) → ChosenBelow counts starts → upper starts .least < floor
     bySum-none-reaches none starts c =
         go (bySum-dropped floor (upper starts) noRating
         (finished-none-stands upper (bySum floor) budget counts rates (bySum-cuts upper floor counts rates bounds .completions) finished none starts c))

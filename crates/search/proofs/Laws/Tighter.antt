@@ -12,10 +12,11 @@ use lib.IntN.{ℤ, pos}
 use Rattle.network.specs.declared.Rating.{Rating}
 use Rattle.network.specs.Rating.{isAbove}
 use Rattle.network.proofs.Laws.Lists.{zero-ne-one}
+use Rattle.network.proofs.Laws.Gaps.{not-above-transitive}
 use Rattle.search.specs.Walk.{State, Rule, atFirst, tryMade, stop, becomesBest, oneTry, eachStart, walk}
 use Rattle.search.specs.Search.{notAbove, aboveBest, atLeast, bySum}
-use Rattle.search.proofs.Laws.Walk.{Chosen, none-left, next, Due, eachStart-holds, over-of-ended, oneTry-cases, oneTry-over, walk-tries-le-budget}
-use Rattle.search.proofs.Laws.Bounds.{not-above-transitive, IsUpper, BoundsEach}
+use Rattle.search.proofs.Laws.Walk.{ChosenBelow, none-left, next, Due, eachStart-holds, over-of-ended, oneTry-cases, oneTry-over, walk-tries-le-budget}
+use Rattle.search.proofs.Laws.Bounds.{IsUpper, BoundsEach}
 use Rattle.search.proofs.Laws.Best.{DropsCompletions}
 use Rattle.search.proofs.Laws.Rules.{aboveBest-cuts, atLeast-drops-completions, bySum-cuts, bySum-drops-below}
 
@@ -49,7 +50,7 @@ record OnlyTries (t u : State) : Type 0 where
 module _ (upper : List ℤ → Rating) (rule : Rule) (budget : ℕ) where
   -- A walk all of whose completions are dropped beside the best makes only tries
   walk-only-tries : (counts : List ℕ) (placed : List ℤ) (t : State)
-      → ((tail : List ℤ) → Chosen counts tail → rule .drops (upper (placed ++ tail)) (t .best) ≡ true)
+      → ((tail : List ℤ) → ChosenBelow counts tail → rule .drops (upper (placed ++ tail)) (t .best) ≡ true)
       → rule .drops (upper placed) (t .best) ≡ false → OnlyTries t (walk upper rule budget counts placed t)
   unfolding walk stop tryMade
   walk-only-tries [] placed t below stands = absurd (zero-ne-one (cc (rw append-nil at (below [] none-left))))
@@ -80,11 +81,11 @@ pub record SameWithNoMoreTries (tighter other : State) : Type 0 where
   pub no-more-tries : tighter .tries ≤ other .tries
 
 -- As long as the other hasn't stopped, the tighter walk is so beside it, within the budget
-abbrev Beside : ℕ → State → State → Type 0
-Beside budget t s = t .stopped ≡ false → SameWithNoMoreTries s t × (t .tries ≤ budget)
+abbrev StandsBeside : ℕ → State → State → Type 0
+StandsBeside budget t s = t .stopped ≡ false → SameWithNoMoreTries s t × (t .tries ≤ budget)
 
 -- A try that both make
-beside-made : (budget : ℕ) (t s : State) → (t .tries ≡ budget → ⊥) → Beside budget t s → Beside budget (tryMade t) (tryMade s)
+beside-made : (budget : ℕ) (t s : State) → (t .tries ≡ budget → ⊥) → StandsBeside budget t s → StandsBeside budget (tryMade t) (tryMade s)
 unfolding tryMade
 beside-made budget t s n f e =
     let h = f e in (
@@ -98,21 +99,21 @@ beside-made budget t s n f e =
     )
 
 -- A try that is due in the one walk is due in the other
-beside-due : (rule : Rule) (budget : ℕ) (t s : State) → Due rule t → Beside budget t s → Due rule s
+beside-due : (rule : Rule) (budget : ℕ) (t s : State) → Due rule t → StandsBeside budget t s → Due rule s
 beside-due rule budget t s e f =
     let h = f (e .unstopped) in
     record { unstopped = h .0 .unstopped; unended = λ ends. rw (h .0 .same-best) (e .unended ends) }
 
 module _ (tight loose : List ℤ → Rating) (rule : Rule) (budget : ℕ) (all : List ℕ) (completions : DropsCompletions tight rule all)
     (sooner : (placed : List ℤ) (b : Rating) → rule .drops (loose placed) b ≡ true → rule .drops (tight placed) b ≡ true)
-    (agree : (starts : List ℤ) → Chosen all starts → tight starts ≡ loose starts) where
+    (agree : (starts : List ℤ) → ChosenBelow all starts → tight starts ≡ loose starts) where
   -- Both walks are over, both drop a try, both go on below it, or only the tighter walk drops it, where the other makes only tries
-  walk-beside : (counts : List ℕ) (placed : List ℤ) → ((tail : List ℤ) → Chosen counts tail → Chosen all (placed ++ tail))
-      → (t s : State) → Beside budget t s
-      → Beside budget (walk loose rule budget counts placed t) (walk tight rule budget counts placed s)
+  walk-beside : (counts : List ℕ) (placed : List ℤ) → ((tail : List ℤ) → ChosenBelow counts tail → ChosenBelow all (placed ++ tail))
+      → (t s : State) → StandsBeside budget t s
+      → StandsBeside budget (walk loose rule budget counts placed t) (walk tight rule budget counts placed s)
   unfolding walk becomesBest stop tryMade
   walk-beside [] placed fits t s f =
-      let full : Chosen all placed = rw append-nil at (fits [] none-left) in
+      let full : ChosenBelow all placed = rw append-nil at (fits [] none-left) in
       λ e. (
         record {
           unstopped = f e .0 .unstopped;
@@ -123,24 +124,24 @@ module _ (tight loose : List ℤ → Rating) (rule : Rule) (budget : ℕ) (all :
         f e .1,
       )
   walk-beside (count ∷ rest) placed fits t₀ s₀ f₀ =
-      eachStart-both _ _ (Beside budget) count t₀ s₀ f₀
+      eachStart-both _ _ (StandsBeside budget) count t₀ s₀ f₀
       (λ x l t s f.
       let placed′ : List ℤ = placed ++ (pos x ∷ []) in
-      let fits′ : (tail : List ℤ) → Chosen rest tail → Chosen all (placed′ ++ tail)
+      let fits′ : (tail : List ℤ) → ChosenBelow rest tail → ChosenBelow all (placed′ ++ tail)
       = λ tail c. rw append-assoc (fits (pos x ∷ tail) (next l c)) in
-      oneTry-cases rule budget (λ u. Beside budget u (oneTry rule budget (tight placed′) (walk tight rule budget rest placed′) s)) _ _ t
+      oneTry-cases rule budget (λ u. StandsBeside budget u (oneTry rule budget (tight placed′) (walk tight rule budget rest placed′) s)) _ _ t
       (λ e g. absurd (zero-ne-one (cc)))
       (λ e e′ g. rw (oneTry-over rule budget (tight placed′) (walk tight rule budget rest placed′) s (over-of-ended rule s e (rw (f g .0 .same-best) e′))) (f g))
       (λ e n g. absurd (zero-ne-one (cc)))
       (λ e n d.
       let h = f (e .unstopped) in
-      oneTry-made rule budget (Beside budget (tryMade t)) _ _ s (beside-due rule budget t s e f) (omega arith)
+      oneTry-made rule budget (StandsBeside budget (tryMade t)) _ _ s (beside-due rule budget t s e f) (omega arith)
       (λ d′. beside-made budget t s n f)
       (λ d′. absurd (zero-ne-one (cc (sooner placed′ (t .best) d)))))
       (λ e n d.
       let h = f (e .unstopped) in
       let u : State = walk loose rule budget rest placed′ (tryMade t) in
-      oneTry-made rule budget (Beside budget u) _ _ s (beside-due rule budget t s e f) (omega arith)
+      oneTry-made rule budget (StandsBeside budget u) _ _ s (beside-due rule budget t s e f) (omega arith)
       (λ d′ g.
       let d″ : rule .drops (tight placed′) (t .best) ≡ true = cc in
       let o : OnlyTries (tryMade t) u
@@ -165,7 +166,7 @@ module _ (tight loose : List ℤ → Rating) (rule : Rule) (budget : ℕ) (all :
 
 -- ---- by each rule
 
-module _ (tight loose : List ℤ → Rating) (budget : ℕ) (all : List ℕ) (agree : (starts : List ℤ) → Chosen all starts → tight starts ≡ loose starts) where
+module _ (tight loose : List ℤ → Rating) (budget : ℕ) (all : List ℕ) (agree : (starts : List ℤ) → ChosenBelow all starts → tight starts ≡ loose starts) where
   -- A tighter upper rating, sound and equal on full timetables, changes nothing of a finished search but its tries
   pub tighter-upper-same : ((placed : List ℤ) → isAbove (tight placed) (loose placed) ≡ false)
       → IsUpper tight all

@@ -13,7 +13,6 @@ use lib.IntN.{ℤ, pos}
 use lib.ListN.{length, getD, drop}
 use Rattle.network.specs.declared.Rating.{Rating}
 use Rattle.network.specs.Network.{Net, maxPeriod}
-use Rattle.network.specs.Rating.{ratingBy}
 use Rattle.network.specs.Valid.{Valid}
 use Rattle.network.proofs.Laws.Lists.{zero-ne-one}
 use Rattle.search.specs.declared.Walk as code
@@ -25,6 +24,7 @@ use Rattle.search.specs.declared.Cut.{Cut}
 use Rattle.search.specs.declared.Placed.{Placed}
 use Rattle.search.specs.declared.Task.{Task}
 use Rattle.search.proofs.Laws.Walk.{eachStart-split, eachStart-one}
+use Rattle.search.proofs.Laws.Upper.{upperRating-numbers}
 
 -- ---- the numbers of starts
 
@@ -200,11 +200,11 @@ module _ {n : Net} {task : Task} {line : ℕ} {p : Placed} (can : CanTry n task 
       → isShort cut (r .least) (r .sum) ≡ true
       → stateOf n (record { tries = w .tries + 1; stopped = w .stopped; best = w .best; starts = w .starts })
       ≡ tryAt n (ruleOf (task .rule)) (task .budget) line (startsOf line (p .starts)) start (stateOf n w)
-  unfolding upperRating ratingBy
   dropped-or-given-up w e o b is-cut (inl more-placed) f =
       judged-dropped can more-placed w e o b (sym (is-cut (r .least) (r .sum)) ∙ f)
   dropped-or-given-up w e o b is-cut (inr given-up) f =
-      try-dropped n (ruleOf (task .rule)) (task .budget) line (startsOf line (p .starts)) start w e o b (sym (is-cut _ _) ∙ given-up .upper)
+      try-dropped n (ruleOf (task .rule)) (task .budget) line (startsOf line (p .starts)) start w e o b
+      (sym (ap (λ (q : Rating). ruleOf (task .rule) .drops q (w .best)) (upperRating-numbers n (cap n) (withStart line start p))) ∙ sym (is-cut _ _) ∙ given-up .upper)
 
 -- ---- a line's starts in two halves
 
@@ -215,9 +215,9 @@ none-left step from count s e = rw e refl
 pub one-left : (step : ℕ → State → State) (from count : ℕ) (s : State) → count ≡ 1 → eachStart step from count s ≡ step from s
 one-left step from count s e = ap (λ (k : ℕ). eachStart step from k s) e ∙ eachStart-one step from s
 
-pub halves : (step : ℕ → State → State) (from a count : ℕ) (s t u : State) → a ≤ count → t ≡ eachStart step from a s
+pub two-halves : (step : ℕ → State → State) (from a count : ℕ) (s t u : State) → a ≤ count → t ≡ eachStart step from a s
     → u ≡ eachStart step (from + a) (count - a) t → u ≡ eachStart step from count s
-halves step from a count s t u l e f =
+two-halves step from a count s t u l e f =
     f
     ∙ ap (eachStart step (from + a) (count - a)) e
     ∙ sym (eachStart-split step from a (count - a) s)
@@ -227,5 +227,5 @@ halves step from a count s t u l e f =
 pub one-more : (step : ℕ → State → State) (from start : ℕ) (s t u : State) → from ≤ start → t ≡ eachStart step from (start - from) s → u ≡ step start t
     → u ≡ eachStart step from (start + 1 - from) s
 one-more step from start s t u l e f =
-    halves step from (start - from) (start + 1 - from) s t u (omega (arith, l)) e
+    two-halves step from (start - from) (start + 1 - from) s t u (omega (arith, l)) e
     (f ∙ ap (λ (k : ℕ). step k t) (omega (arith, l)) ∙ sym (one-left step (from + (start - from)) (start + 1 - from - (start - from)) t (omega (arith, l))))

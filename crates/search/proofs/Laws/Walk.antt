@@ -13,23 +13,23 @@ use lib.IntN.{ℤ, pos}
 use lib.ListN.{length}
 use Rattle.network.specs.declared.Rating.{Rating}
 use Rattle.network.proofs.Laws.Lists.{zero-ne-one}
-use Rattle.network.proofs.Laws.Gaps.{All}
+use Rattle.network.proofs.Laws.Members.{All}
 use Rattle.search.specs.Walk.{State, Rule, isOver, tryMade, stop, becomesBest, unless, stopIf, oneTry, eachStart, walk, mostTries}
 
 -- One start for each line that is left, below the number it is tried at
-pub data Chosen : List ℕ → List ℤ → Type 0 where
-  none-left : Chosen [] []
-  next : {x count : ℕ} {counts : List ℕ} {starts : List ℤ} → x < count → Chosen counts starts → Chosen (count ∷ counts) (pos x ∷ starts)
+pub data ChosenBelow : List ℕ → List ℤ → Type 0 where
+  none-left : ChosenBelow [] []
+  next : {x count : ℕ} {counts : List ℕ} {starts : List ℤ} → x < count → ChosenBelow counts starts → ChosenBelow (count ∷ counts) (pos x ∷ starts)
 
-pub Chosen-length : {counts : List ℕ} {starts : List ℤ} → Chosen counts starts → length starts ≡ length counts
-Chosen-length none-left = refl
-Chosen-length (next h c) = ap suc (Chosen-length c)
+pub ChosenBelow-length : {counts : List ℕ} {starts : List ℤ} → ChosenBelow counts starts → length starts ≡ length counts
+ChosenBelow-length none-left = refl
+ChosenBelow-length (next h c) = ap suc (ChosenBelow-length c)
 
 -- Where every line has a start, there is a choice
-pub Chosen-exists : (counts : List ℕ) → All 0 (λ count. 0 < count) counts → (starts : List ℤ) × Chosen counts starts
-Chosen-exists [] f = ([], none-left)
-Chosen-exists (count ∷ rest) f =
-    let c = Chosen-exists rest (λ i h. f (suc i) (omega arith)) in
+pub ChosenBelow-exists : (counts : List ℕ) → All 0 (λ count. 0 < count) counts → (starts : List ℤ) × ChosenBelow counts starts
+ChosenBelow-exists [] f = ([], none-left)
+ChosenBelow-exists (count ∷ rest) f =
+    let c = ChosenBelow-exists rest (λ i h. f (suc i) (omega arith)) in
     (pos 0 ∷ c .0, next (f 0 (zero-lt-suc _)) (c .1))
 
 -- ---- a line's starts
@@ -146,19 +146,19 @@ module _ (rule : Rule) (budget : ℕ) where
 -- ---- the tries
 
 -- The tries from one state of the walk to another are at most so many, and under a budget that leaves so many it doesn't stop between
-record Within (budget most : ℕ) (s t : State) : Type 0 where
+record TriesWithin (budget most : ℕ) (s t : State) : Type 0 where
   few : t .tries ≤ s .tries + most
   enough : s .stopped ≡ false → s .tries + most ≤ budget → t .stopped ≡ false
 
 module _ (upper : List ℤ → Rating) (rule : Rule) (budget : ℕ) where
   walk-within : (counts : List ℕ) (placed : List ℤ) (s : State)
-      → Within budget (mostTries counts) s (walk upper rule budget counts placed s)
+      → TriesWithin budget (mostTries counts) s (walk upper rule budget counts placed s)
   unfolding walk mostTries becomesBest stop tryMade
   walk-within [] placed s = record { few = omega arith; enough = λ e h. e }
   walk-within (count ∷ rest) placed s =
-      eachStart-holds _ (λ x. Within budget (x * (1 + mostTries rest)) s) count s
+      eachStart-holds _ (λ x. TriesWithin budget (x * (1 + mostTries rest)) s) count s
       (record { few = omega arith; enough = λ e h. e })
-      (λ x l t w. oneTry-cases rule budget (Within budget (suc x * (1 + mostTries rest)) s) _ _ t
+      (λ x l t w. oneTry-cases rule budget (TriesWithin budget (suc x * (1 + mostTries rest)) s) _ _ t
       (λ e. record { few = omega arith; enough = λ f h. w .enough f (omega arith) })
       (λ e e′. record { few = omega arith; enough = λ f h. w .enough f (omega arith) })
       (λ e e′. record { few = omega arith; enough = λ f h. absurd (omega arith) })
@@ -181,7 +181,7 @@ module _ (upper : List ℤ → Rating) (rule : Rule) (budget : ℕ) where
       (made : (s : State) → Due rule s → (s .tries ≡ budget → ⊥) → I s → I (tryMade s))
       (stands : (placed : List ℤ) (s : State) → Due rule s → rule .drops (upper placed) (s .best) ≡ false → Brought placed (tryMade s)) where
     pub walk-keeps : (counts : List ℕ) (placed : List ℤ)
-        → ((tail : List ℤ) → Chosen counts tail → (s : State) → Brought (placed ++ tail) s → I s → I (becomesBest (upper (placed ++ tail)) (placed ++ tail) s))
+        → ((tail : List ℤ) → ChosenBelow counts tail → (s : State) → Brought (placed ++ tail) s → I s → I (becomesBest (upper (placed ++ tail)) (placed ++ tail) s))
         → (s : State) → (length counts ≡ 0 → Brought placed s) → I s → I (walk upper rule budget counts placed s)
     unfolding walk
     walk-keeps [] placed full s b i =

@@ -9,7 +9,7 @@ use lib.ListN.{length, replicate}
 use lib.Seq.{length-take-le}
 use Rattle.network.specs.Rate.{rateAnswer}
 use Rattle.network.specs.Reading.{readFile}
-use Rattle.network.proofs.Laws.Valid.{accepted-valid}
+use Rattle.network.proofs.Laws.Gaps.{accepted-valid}
 use Rattle.search.specs.Search.{SearchOutcome, searchOutcome}
 use Rattle.examination.specs.Sheets as sheets
 use Rattle.examination.proofs.Laws.Chosen.{RatedOn, rated-on, mark-refused, mark-rated}

@@ -2,9 +2,9 @@
 use mathlib.Core.Path.{sym, ap, _∙_}
 use mathlib.Core.Bool.{Bool}
 use borrow.Author.Needs.{needs}
-use Rattle.network.specs.Rating.{isEqual}
-use Rattle.search.specs.declared.SearchAnswer.{SearchAnswer}
-use Rattle.search.specs.Search.{searchAnswer}
+use Rattle.network.proofs.Laws.Gaps.{isEqual-numbers}
+use Rattle.search.specs.Search.{SearchOutcome, searchAnswer}
+use Rattle.search.proofs.Laws.Answers.{searchAnswer-finished, searchAnswer-stopped, searchAnswer-none, searchAnswer-refused}
 use Rattle.examination.specs.Sheets as sheets
 use Rattle.examination.proofs.marking.marked.Statement.{statement}
 use Rattle.examination.proofs.marking.marked.Tie as tie
@@ -24,29 +24,29 @@ enum-known-answer-3 c = search needs
 enum-known-answer-4 : tie.Need-enum-known-answer-4
 enum-known-answer-4 c = search needs
 
--- What the definition says of the answer at hand
-abbrev wanted : (s : tie.Start) → SearchAnswer → sheets.MarkOutcome
-wanted s answer = sheets.marked (s .args .least) (s .args .sum) (searchAnswer answer)
+-- What the definition says of an outcome of the search
+abbrev wanted : (s : tie.Start) → SearchOutcome → sheets.MarkOutcome
+wanted s outcome = sheets.marked (s .args .least) (s .args .sum) outcome
 
 returns : tie.Need-returns
-unfolding sheets.markAnswer sheets.marked searchAnswer isEqual
+unfolding sheets.markAnswer sheets.marked
 returns c =
     let s = c .before .before .before .before in
     let g = c .before .before .answer .given in
-    ap (λ (b : Bool). sheets.decided (s .args .least) (s .args .sum) (g .0 .0) (g .0 .1 .0) b (g .0 .1 .1 .0)) (c .is-equal .ensures)
-    ∙ sym (ap (wanted s) (g .1))
+    ap (λ (b : Bool). sheets.decided (s .args .least) (s .args .sum) (g .0 .0) (g .0 .1 .0) b (g .0 .1 .1 .0)) (c .is-equal .ensures ∙ isEqual-numbers _ _ _ _)
+    ∙ sym (ap (wanted s) (ap searchAnswer (g .1) ∙ searchAnswer-finished _ _ _))
 
 returns-2 : tie.Need-returns-2
-unfolding sheets.markAnswer sheets.marked searchAnswer
-returns-2 c = sym (ap (wanted (c .before .before .before)) (c .before .answer2 .given .1))
+unfolding sheets.markAnswer sheets.marked
+returns-2 c = sym (ap (wanted (c .before .before .before)) (ap searchAnswer (c .before .answer2 .given .1) ∙ searchAnswer-stopped _ _ _))
 
 returns-3 : tie.Need-returns-3
-unfolding sheets.markAnswer sheets.marked searchAnswer
-returns-3 c = sym (ap (wanted (c .before .before .before)) (c .before .answer3 .given .1))
+unfolding sheets.markAnswer sheets.marked
+returns-3 c = sym (ap (wanted (c .before .before .before)) (ap searchAnswer (c .before .answer3 .given .1) ∙ searchAnswer-none _))
 
 returns-4 : tie.Need-returns-4
-unfolding sheets.markAnswer sheets.marked searchAnswer
-returns-4 c = sym (ap (wanted (c .before .before .before)) (c .before .answer4 .given .1))
+unfolding sheets.markAnswer sheets.marked
+returns-4 c = sym (ap (wanted (c .before .before .before)) (ap searchAnswer (c .before .answer4 .given .1) ∙ searchAnswer-refused _ _))
 
 pub marked-spec : {M : Type 1} → statement M
 marked-spec =

@@ -13,17 +13,17 @@ use Rattle.network.specs.Lists.{countBelow}
 use Rattle.network.specs.Classes.{isLowest}
 use Rattle.network.specs.Placed.{CountsOf, Placed}
 use Rattle.network.specs.Stored.{netOf}
-use Rattle.network.proofs.Laws.Lists.{countBelow-le}
-use Rattle.network.proofs.Laws.Classes.{isInClassOf}
-use Rattle.network.proofs.Laws.ClassRows.{classAt, classAt-byte, Filled, filled-none, zeroed-is, at-le, count-next, filled-served, filled-unserved}
-use Rattle.network.proofs.Laws.ClassRows.{filled-classes, filled-weights, filled-count}
+use Rattle.network.proofs.Laws.Tables.{countBelow-le}
 use Rattle.network.proofs.Laws.Stored.{held-lines, held-period}
+use Rattle.network.proofs.Laws.Classes.{isInClassOf}
+use Rattle.network.proofs.Laws.ClassRows.{classAt, classAt-byte, ClassesFilled, classes-filled-none, zeroed-is, at-le, count-next}
+use Rattle.network.proofs.Laws.ClassRows.{filled-served, filled-unserved, filled-classes, filled-weights, filled-count}
 use Rattle.network.proofs.classes.fill_rows.Statement.{statement}
 use Rattle.network.proofs.classes.fill_rows.Tie as tie
 
 abbrev Inv-loop : tie.InvT-loop
 Inv-loop class-row₀ weight-row₀ placed counts periods count₀ stop₀ class-row weight-row count stop =
-    (h : Placed (placed .codes) periods) → CountsOf (h .net) counts → Filled (h .net) class-row weight-row count stop
+    (h : Placed (placed .codes) periods) → CountsOf (h .net) counts → ClassesFilled (h .net) class-row weight-row count stop
 
 abbrev μ-loop : tie.MeasureT-loop
 μ-loop class-row₀ weight-row₀ placed counts periods count₀ stop₀ class-row weight-row count stop = 64 - stop
@@ -32,7 +32,7 @@ place-calls-requires : tie.Need-place-calls-requires Inv-loop μ-loop
 place-calls-requires c κs = let s = c .before .before in (s .pre .0, s .pre .1)
 
 loop-holds : tie.Need-loop-holds Inv-loop μ-loop
-loop-holds c h n = let s = c .before .before .before .before .before in filled-none _ _ _ (s .pre .2) (s .pre .3)
+loop-holds c h n = let s = c .before .before .before .before .before in classes-filled-none _ _ _ (s .pre .2) (s .pre .3)
 
 -- The rows are those of the network
 module _ (p : tie.After-place-calls Inv-loop μ-loop) where
@@ -80,13 +80,13 @@ module _ (k : tie.After-class-of Inv-loop μ-loop) where
 
   -- in each network that has these rows
   module _ (h : Placed (made .place-calls .result .codes) (start made .args .network .periods)) (n : CountsOf (h .net) (made .place-calls .result .counts)) where
-    filled : Filled (h .net) classes weights count stop
+    filled : ClassesFilled (h .net) classes weights count stop
     filled = k .before .before .before .before .before .before .loop .inv h n
 
     is : at ≡ classAt (h .net) stop
     is = k .class-of .ensures h n
 
-  filled-here : Filled (netOf (start made .args .network)) classes weights count stop
+  filled-here : ClassesFilled (netOf (start made .args .network)) classes weights count stop
   unfolding rows
   filled-here = filled (rows made) (counted made)
 
@@ -163,13 +163,13 @@ loop-again c h n =
 -- Behind the loop all stops are passed
 all-filled :
     (c : tie.After-loop Inv-loop μ-loop)
-    → Filled (netOf (c .before .before .before .before .before .before .before .args .network)) (c .before .loop .class-row) (c .before .loop .weight-row) (c .before .loop .count) 64
+    → ClassesFilled (netOf (c .before .before .before .before .before .before .before .args .network)) (c .before .loop .class-row) (c .before .loop .weight-row) (c .before .loop .count) 64
 unfolding rows
 all-filled c =
     let l = c .before .loop in
     let p = c .before .before .before .before in
     let f = l .inv (rows p) (counted p) in
-    subst (λ (k : ℕ). Filled (netOf (start p .args .network)) (l .class-row) (l .weight-row) (l .count) k) (le-antisymm (f .low) (c .loop-test .left)) f
+    subst (λ (k : ℕ). ClassesFilled (netOf (start p .args .network)) (l .class-row) (l .weight-row) (l .count) k) (le-antisymm (f .low) (c .loop-test .left)) f
 
 same-length : tie.Need-same-length Inv-loop μ-loop
 same-length c = omega (arith, all-filled c .class-row, c .before .before .before .before .before .before .before .pre .2)

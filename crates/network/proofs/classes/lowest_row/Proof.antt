@@ -11,7 +11,7 @@ use lib.Arith.{lt-of-le-ne}
 use lib.Dec.{eqb, ltb}
 use lib.ListN.{length, getD, set, length-set}
 use lib.Seq.{getD-set-same, getD-set-other}
-use Rattle.network.proofs.Laws.Scan.{getD-zeros}
+use Rattle.network.proofs.Laws.Lists.{getD-zeros}
 use Rattle.network.proofs.classes.lowest_row.Statement.{statement}
 use Rattle.network.proofs.classes.lowest_row.Tie as tie
 

@@ -1,14 +1,12 @@
 -- `network::ratings::gap_with` meets its contract: where no call stood at the stop its gap is the period, and otherwise the least of what it
 -- was and the gaps to those before. Assumes nothing.
 use Prim.Native.Nat.{ℕ, _<_, _≤_}
-use mathlib.Core.Path.{_≡_, sym, ap, _∙_}
+use mathlib.Core.Path.{sym, ap, _∙_}
 use mathlib.Core.List.{List, [], _∷_, _++_, map}
 use native.Mathlib.Nat.{pos-of-ne-zero}
 use native.Mathlib.Omega.{arith}
 use borrow.Author.Needs.{needs}
-use lib.Dec.{eqb}
-use lib.ListN.{length, getD, take}
-use lib.Seq.{getD-take, length-take-le}
+use lib.ListN.{length, getD}
 use Rattle.network.specs.declared.Call.{Call}
 use Rattle.network.specs.declared.Network.{Network}
 use Rattle.network.specs.Lists.{keep}
@@ -16,27 +14,20 @@ use Rattle.network.specs.Rating.{periodOf, gapOfCalls, gapOfStop}
 use Rattle.network.specs.Scan.{callsBefore, leastFrom}
 use Rattle.network.specs.Stored.{netOf, callsIn, Sound}
 use Rattle.network.specs.Valid.{Valid, noCall}
-use Rattle.network.proofs.Laws.Scan.{keep-all, callsBefore-some, gapOfStop-next}
 use Rattle.network.proofs.Laws.Stored.{length-held, held-lines, held-period, held-call-line, held-period-pos}
+use Rattle.network.proofs.Laws.Scan.{callsBefore-some, gapOfStop-next, callsBefore-all}
 use Rattle.network.proofs.ratings.gap_with.Statement.{statement}
 use Rattle.network.proofs.ratings.gap_with.Tie as tie
 
 -- In a network that the rows hold, the calls that stand at the stop have periods of at least 1
 module _ (n : Network) (sound : Sound n) (valid : Valid (netOf n)) (stop k : ℕ) (within : k ≤ n .calls) where
-  length-taken : length (take k (callsIn (n .list))) ≡ k
-  length-taken = length-take-le k (callsIn (n .list)) (omega (arith, within, sound .calls, length-held n sound))
-
-  taken-pos : (j : ℕ) → j < k → 0 < periodOf (netOf n) (getD (take k (callsIn (n .list))) j noCall)
-  unfolding periodOf
-  taken-pos j h =
-      let l = held-call-line n sound valid j (omega (arith, within, h)) in
-      rw (getD-take k (callsIn (n .list)) j noCall h, periodOf, held-period n _ l) (held-period-pos n sound valid _ l)
-
   periods-pos : (i : ℕ) → i < length (callsBefore stop (callsIn (n .list)) k) → 0 < periodOf (netOf n) (getD (callsBefore stop (callsIn (n .list)) k) i noCall)
-  unfolding callsBefore
+  unfolding periodOf
   periods-pos =
-      keep-all (λ (c : Call). 0 < periodOf (netOf n) c) (λ (c : Call). eqb (c .stop) stop) noCall (take k (callsIn (n .list)))
-      (λ j h. taken-pos j (omega (arith, length-taken, h)))
+      callsBefore-all stop (callsIn (n .list)) (λ (c : Call). 0 < periodOf (netOf n) c) k
+      (λ j h b.
+      let l = held-call-line n sound valid j (omega (arith, within, h)) in
+      rw (held-period n _ l) (held-period-pos n sound valid _ l))
 
 cast-line : tie.Need-cast-line
 cast-line c = search needs

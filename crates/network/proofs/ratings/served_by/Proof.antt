@@ -15,9 +15,8 @@ use Rattle.network.specs.Lists.{any}
 use Rattle.network.specs.Network.{isServed}
 use Rattle.network.specs.Stored.{callIn, callsIn}
 use Rattle.network.specs.Valid.{noCall}
-use Rattle.network.proofs.Laws.Lists.{any-take-next, or-right}
+use Rattle.network.proofs.Laws.Lists.{any-take-next, or-right, getD-zeros}
 use Rattle.network.proofs.Laws.Packed.{call-in-row, callIn-stop}
-use Rattle.network.proofs.Laws.Scan.{getD-zeros}
 use Rattle.network.proofs.ratings.served_by.Statement.{statement}
 use Rattle.network.proofs.ratings.served_by.Tie as tie
 

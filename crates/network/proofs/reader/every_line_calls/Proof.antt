@@ -7,7 +7,7 @@ use borrow.Author.Tests.{lt-ltb, le-ltb}
 use lib.Dec.{ltb}
 use lib.ListN.{getD}
 use Rattle.network.specs.Lists.{allBelow}
-use Rattle.network.proofs.Laws.Lists.{allBelow-next, allBelow-fails}
+use Rattle.network.proofs.Laws.Tables.{allBelow-next, allBelow-fails}
 use Rattle.network.proofs.reader.every_line_calls.Statement.{statement}
 use Rattle.network.proofs.reader.every_line_calls.Tie as tie
 

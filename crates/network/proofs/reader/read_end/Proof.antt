@@ -13,7 +13,8 @@ use Rattle.network.specs.Lists.{allBelow}
 use Rattle.network.specs.Network.{Net, maxLines, callsAnywhere}
 use Rattle.network.specs.Grounds.{grounds, someLineSilent}
 use Rattle.network.specs.Stored.{Latest, Tells}
-use Rattle.network.proofs.Laws.Lists.{or-left, or-right, or-none, allBelow-same}
+use Rattle.network.proofs.Laws.Lists.{or-left, or-right, or-none}
+use Rattle.network.proofs.Laws.Tables.{allBelow-same}
 use Rattle.network.proofs.Laws.Grounds.{first-none, first-hit, first-miss}
 use Rattle.network.proofs.Laws.Latest.{latest-calls}
 use Rattle.network.proofs.reader.read_end.Statement.{statement}

@@ -18,13 +18,13 @@ use Rattle.network.specs.Network.{Net, SoFar, soFar, Command, command, e
 use Rattle.network.specs.Grounds.{first, grounds}
 use Rattle.network.specs.Reading.{readFrom, readFile, refused}
 use Rattle.network.specs.Stored.{netOf, Often, Tells, readingOf}
-use Rattle.network.proofs.Laws.Lists.{take-rest}
-use Rattle.network.proofs.Laws.Kept.{Kept, kept-line, kept-call}
-use Rattle.network.proofs.Laws.Latest.{latest-none}
-use Rattle.network.proofs.Laws.Often.{often-none}
+use Rattle.network.proofs.Laws.Lists.{take-rest, getD-zeros}
 use Rattle.network.proofs.Laws.Reading.{passes-operands, read-refused, read-ended, read-onward}
-use Rattle.network.proofs.Laws.Scan.{getD-zeros}
-use Rattle.network.proofs.Laws.Stored.{LineTold, CallTold, held-lines, held-calls, has-size, line-added, call-added, tells-line, tells-call}
+use Rattle.network.proofs.Laws.Often.{often-none}
+use Rattle.network.proofs.Laws.Stored.{LineTold, CallTold, held-lines, held-calls, has-size, line-added, call-added, tells-line}
+use Rattle.network.proofs.Laws.Stored.{tells-call}
+use Rattle.network.proofs.Laws.Latest.{latest-none}
+use Rattle.network.proofs.Laws.Kept.{Kept, kept-line, kept-call}
 use Rattle.network.proofs.reader.read_network.Statement.{statement}
 use Rattle.network.proofs.reader.read_network.Tie as tie
 

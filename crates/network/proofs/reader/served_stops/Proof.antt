@@ -10,7 +10,7 @@ use borrow.Author.Tests.{lt-ltb, le-ltb}
 use lib.Dec.{ltb}
 use lib.ListN.{getD}
 use Rattle.network.specs.Lists.{pick, countBelow}
-use Rattle.network.proofs.Laws.Lists.{countBelow-next, countBelow-le, countBelow-same}
+use Rattle.network.proofs.Laws.Tables.{countBelow-next, countBelow-le, countBelow-same}
 use Rattle.network.proofs.reader.served_stops.Statement.{statement}
 use Rattle.network.proofs.reader.served_stops.Tie as tie
 

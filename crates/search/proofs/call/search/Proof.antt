@@ -14,7 +14,7 @@ use Rattle.network.specs.Network.{Net}
 use Rattle.network.specs.Reading.{Reading, accepted, readFile}
 use Rattle.network.specs.Stored.{netOf, readingOf}
 use Rattle.network.specs.Valid.{Valid, IsBytes}
-use Rattle.network.proofs.Laws.Stored.{held-lines}
+use Rattle.network.proofs.Laws.Stored.{held-lines, bytes-of, readingOf-passes, readingOf-refused}
 use Rattle.network.proofs.Laws.Gaps.{accepted-valid}
 use Rattle.search.specs.Held.{startsOf}
 use Rattle.search.specs.Search.{searchAnswer, searchOutcome, startRowAfter}
@@ -24,14 +24,13 @@ use Rattle.search.proofs.call.search.Tie as tie
 
 -- What was lent are bytes
 bytes-here : (c : tie.After-read-network) → IsBytes (c .before .before .args .file .now)
-unfolding IsBytes
-bytes-here c i = c .before .shared-slice-known .given i .fits
+bytes-here c = bytes-of (c .before .before .args .file .now) (λ i. c .before .shared-slice-known .given i .fits)
 
 -- In the arm of `Passes` the file is accepted, as a valid network
 accepted-here : (c : tie.After-enum-told) → readFile (c .before .before .before .before .before .args .file .now) ≡ accepted (netOf (c .before .before .before .read-network .result .network))
-unfolding readingOf
 accepted-here c =
-    sym (c .before .before .before .read-network .ensures .1) ∙ ap (λ (k : Check). readingOf k (c .before .before .before .read-network .result .network)) (c .enum-told .given .1)
+    let n = c .before .before .before .read-network .result .network in
+    sym (c .before .before .before .read-network .ensures .1) ∙ ap (λ (k : Check). readingOf k n) (c .enum-told .given .1) ∙ readingOf-passes n
 
 valid-here : (c : tie.After-enum-told) → Valid (netOf (c .before .before .before .read-network .result .network))
 valid-here c = accepted-valid (c .before .before .before .before .before .args .file .now) _ (bytes-here (c .before .before .before)) (accepted-here c)
@@ -94,11 +93,11 @@ returns c =
     )
 
 returns-2 : tie.Need-returns-2
-unfolding searchAnswer searchOutcome startRowAfter readingOf
+unfolding searchAnswer searchOutcome startRowAfter
 returns-2 c =
     let s = c .before .before .before .before .before .before in
     let r = c .before .before .before .before .read-network in
-    let refused-here = sym (r .ensures .1) ∙ ap (λ (k : Check). readingOf k (r .result .network)) (c .before .check .given .1) in (
+    let refused-here = sym (r .ensures .1) ∙ ap (λ (k : Check). readingOf k (r .result .network)) (c .before .check .given .1) ∙ readingOf-refused (r .result .network) _ _ in (
       sym (ap (λ (k : Reading). searchOutcome k (length (s .args .row .now)) (s .args .budget)) refused-here),
       (sym (ap (λ (k : Reading). startRowAfter k (s .args .budget) (s .args .row .now)) refused-here), bytes-here (c .before .before .before .before)),
     )

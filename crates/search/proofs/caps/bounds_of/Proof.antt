@@ -1,6 +1,6 @@
 -- `search::caps::bounds_of` meets its contract. The loop's invariant: the bounds are those of the calls passed. Assumes nothing.
 use Prim.Native.Nat.{ℕ, _+_, _-_, _<_, _≤_}
-use mathlib.Core.Path.{_≡_, refl, sym, ap, ap₂, subst, _∙_}
+use mathlib.Core.Path.{_≡_, sym, ap, ap₂, subst, _∙_}
 use mathlib.Core.List.{List, [], _∷_, _++_}
 use mathlib.Core.Logic.{⊎-elim}
 use native.Mathlib.Nat.{le-antisymm}
@@ -8,15 +8,14 @@ use native.Mathlib.Omega.{arith}
 use lib.ListN.{length, getD}
 use Rattle.network.specs.declared.Call.{Call}
 use Rattle.network.specs.declared.Network.{Network}
-use Rattle.network.specs.Lists.{keep, sumOf}
-use Rattle.network.specs.Rating.{callsOfStop}
 use Rattle.network.specs.Scan.{callsBefore}
 use Rattle.network.specs.Stored.{netOf, callsIn}
 use Rattle.network.specs.Valid.{noCall}
-use Rattle.network.proofs.Laws.Gaps.{callsBefore-hit, callsBefore-miss}
 use Rattle.network.proofs.Laws.Packed.{call-in-row}
 use Rattle.network.proofs.Laws.Stored.{length-held, held-lines, held-call-line}
-use Rattle.search.specs.CapScan.{visitsOf, leastHalf, boundsOf}
+use Rattle.network.proofs.Laws.Gaps.{callsBefore-hit, callsBefore-miss, callsBefore-none, callsOfStop-held}
+use Rattle.search.specs.CapScan.{boundsOf}
+use Rattle.search.proofs.Laws.CapScan.{boundsOf-none}
 use Rattle.search.proofs.caps.bounds_of.Statement.{statement}
 use Rattle.search.proofs.caps.bounds_of.Tie as tie
 
@@ -71,8 +70,8 @@ module _ (u : tie.After-unpacked Inv-loop μ-loop) where
   miss f = sym (callsBefore-miss (start .args .stop) held i stated (λ e. f (ap (λ (k : Call). k .stop) call-is ∙ e)))
 
 loop-holds : tie.Need-loop-holds Inv-loop μ-loop
-unfolding boundsOf visitsOf leastHalf callsBefore keep sumOf
-loop-holds c = (omega arith, refl)
+loop-holds c =
+    (omega arith, sym (ap (boundsOf (netOf (c .args .t1))) (callsBefore-none (c .args .stop) (callsIn (c .args .t1 .list))) ∙ boundsOf-none (netOf (c .args .t1))))
 
 mul-unpacked : tie.Need-mul-unpacked Inv-loop μ-loop
 mul-unpacked c = omega (arith, small c)
@@ -108,12 +107,12 @@ loop-again c =
     )
 
 returns : tie.Need-returns Inv-loop μ-loop
-unfolding callsOfStop callsBefore netOf
 returns c =
     let s = c .before .before in
     c .before .loop .inv .1
     ∙ ap (λ (k : ℕ). boundsOf (netOf (s .args .t1)) (callsBefore (s .args .stop) (callsIn (s .args .t1 .list)) k))
     (le-antisymm (c .before .loop .inv .0) (c .loop-test .left))
+    ∙ ap (boundsOf (netOf (s .args .t1))) (sym (callsOfStop-held (s .args .t1) (s .args .stop)))
 
 pub bounds-of-spec : {M : Type 1} → statement M
 bounds-of-spec =

@@ -1,7 +1,7 @@
 -- `search::caps::least_half` meets its contract. The loop's invariant: `lesser` is the least of `least` and the halves over the calls passed.
 -- Assumes nothing.
 use Prim.Native.Nat.{ℕ, _+_, _-_, _/_, _<_, _≤_, min}
-use mathlib.Core.Path.{_≡_, refl, sym, ap, ap₂, subst, _∙_}
+use mathlib.Core.Path.{_≡_, sym, ap, ap₂, subst, _∙_}
 use mathlib.Core.List.{List, map}
 use mathlib.Core.Logic.{⊎-elim}
 use native.Mathlib.Nat.{le-antisymm}
@@ -10,16 +10,15 @@ use borrow.Author.Needs.{needs}
 use lib.ListN.{length, getD}
 use Rattle.network.specs.declared.Call.{Call}
 use Rattle.network.specs.declared.Network.{Network}
-use Rattle.network.specs.Lists.{keep}
 use Rattle.network.specs.Divisor as divisor
-use Rattle.network.specs.Rating.{periodOf}
 use Rattle.network.specs.Scan.{callsBefore, leastFrom}
 use Rattle.network.specs.Stored.{netOf, callsIn}
 use Rattle.network.specs.Valid.{noCall}
 use Rattle.network.proofs.Laws.Packed.{call-in-row}
 use Rattle.network.proofs.Laws.Stored.{length-held, held-lines, held-period, held-call-line}
+use Rattle.network.proofs.Laws.Gaps.{periodOf-is}
 use Rattle.search.specs.CapScan.{halfOf}
-use Rattle.search.proofs.Laws.CapScan.{least-hit, least-miss}
+use Rattle.search.proofs.Laws.CapScan.{least-none, least-hit, least-miss}
 use Rattle.search.proofs.caps.least_half.Statement.{statement}
 use Rattle.search.proofs.caps.least_half.Tie as tie
 
@@ -85,12 +84,12 @@ module _ (u : tie.After-unpacked Inv-loop μ-loop) where
   half = divisor.gcd (getD (network .periods) (other .line) 0) (getD (network .periods) (call .line) 0) / 2
 
   half-is : half ≡ halfOf (netOf network) other call
-  unfolding halfOf periodOf
+  unfolding halfOf
   half-is =
       sym
       (ap₂ (λ (a b : ℕ). divisor.gcd a b / 2)
-      (held-period network (other .line) other-line)
-      (held-period network (call .line) own-line))
+      (periodOf-is (netOf network) other ∙ held-period network (other .line) other-line)
+      (periodOf-is (netOf network) call ∙ held-period network (call .line) own-line))
 
   abbrev next : ℕ
   next = leastTo network call (start .args .least) (i + 1)
@@ -122,8 +121,7 @@ cast-period : tie.Need-cast-period Inv-loop μ-loop
 cast-period c = search needs
 
 loop-holds : tie.Need-loop-holds Inv-loop μ-loop
-unfolding leastFrom callsBefore keep
-loop-holds c = (omega arith, refl)
+loop-holds c = (omega arith, sym (least-none (λ d. halfOf (netOf (c .before .before .args .t1)) d (c .before .before .args .call)) _ _ _))
 
 mul-unpacked : tie.Need-mul-unpacked Inv-loop μ-loop
 mul-unpacked c = omega (arith, small c)

@@ -12,9 +12,10 @@ use Rattle.network.specs.Rating.{periodOf}
 use Rattle.network.specs.Scan.{callsBefore, leastFrom}
 use Rattle.network.specs.Stored.{netOf, callsIn}
 use Rattle.network.proofs.Laws.Stored.{held-lines, held-period, held-period-pos}
+use Rattle.network.proofs.Laws.Gaps.{length-callsBefore, periodOf-is}
 use Rattle.search.specs.declared.caps.Bounds.{Bounds}
 use Rattle.search.specs.CapScan.{halfOf, visitsOf, leastHalf, boundsOf}
-use Rattle.search.proofs.Laws.CapScan.{length-callsBefore, leastHalf-first, leastHalf-snoc, visitsOf-snoc, visitsOf-le, boundsOf-made}
+use Rattle.search.proofs.Laws.CapScan.{leastHalf-first, leastHalf-snoc, visitsOf-snoc, visitsOf-le, boundsOf-made}
 use borrow.Author.Needs.{needs}
 use Rattle.search.proofs.caps.with_call.Statement.{statement}
 use Rattle.search.proofs.caps.with_call.Tie as tie
@@ -37,8 +38,7 @@ module _ (s : tie.Start) where
   own-line = omega (arith, s .pre .1 .0 .0, held-lines network (s .pre .0 .0))
 
   period-is : period ≡ periodOf (netOf network) call
-  unfolding periodOf
-  period-is = sym (held-period network (call .line) own-line)
+  period-is = sym (periodOf-is (netOf network) call ∙ held-period network (call .line) own-line)
 
   calls-are : s .args .bounds .calls ≡ length calls
   unfolding boundsOf

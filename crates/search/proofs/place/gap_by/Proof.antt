@@ -1,13 +1,14 @@
 -- `search::place::gap_by` meets its contract: the formula of theorem 3.1.2, its difference made a natural number by a multiple of the
 -- divisor, and the whole part that a remainder leaves out found by the law of the reciprocal. Assumes nothing.
 use Prim.Native.Nat.{ℕ, _+_, _*_, _-_, _/_, _%_, _<_, _≤_, min}
-use mathlib.Core.Path.{_≡_, ap, _∙_}
+use mathlib.Core.Path.{_≡_, sym, ap, _∙_}
 use native.Mathlib.Nat.{mod-lt, mod-add-div', mul-le-mul, mul-le-mul-right}
 use native.Mathlib.Decide.{decLt}
 use native.Mathlib.Omega.{arith}
 use borrow.Author.Needs.{needs}
 use lib.IntN.{pos, _-ℤ_}
 use Rattle.network.specs.Gap as gaps
+use Rattle.network.proofs.Laws.Gaps.{fold-is}
 use Rattle.search.proofs.Laws.Linked.{residue-of-difference}
 use Rattle.search.proofs.Laws.Reciprocal.{div-by-reciprocal}
 use Rattle.search.proofs.place.gap_by.Statement.{statement}
@@ -84,20 +85,18 @@ sub-result : tie.Need-sub-result
 sub-result c = omega (arith, below (c .before))
 
 returns : tie.Need-returns
-unfolding gaps.fold
 returns c =
     let s = c .before in
     let d = apart s - times s * g s in
     let lesser : d ≡ min d (g s - d) = omega arith in
-    lesser ∙ ap (λ (d : ℕ). min d (g s - d)) (reduced-residue s)
+    lesser ∙ ap (λ (d : ℕ). min d (g s - d)) (reduced-residue s) ∙ sym (fold-is (g s) _)
 
 returns-2 : tie.Need-returns-2
-unfolding gaps.fold
 returns-2 c =
     let s = c .before in
     let d = apart s - times s * g s in
     let lesser : g s - d ≡ min d (g s - d) = omega arith in
-    lesser ∙ ap (λ (d : ℕ). min d (g s - d)) (reduced-residue s)
+    lesser ∙ ap (λ (d : ℕ). min d (g s - d)) (reduced-residue s) ∙ sym (fold-is (g s) _)
 
 pub gap-by-spec : {M : Type 1} → statement M
 gap-by-spec = tie.close (tie.spec mul-apart add-apart sub-apart cast-times mul-times cast-d mul-d sub-d sub-if1 sub-result returns returns-2)

@@ -8,12 +8,13 @@ use native.Mathlib.Omega.{arith}
 use lib.IntN.{pos}
 use lib.ListN.{length, getD}
 use Rattle.network.specs.declared.Call.{Call}
-use Rattle.network.specs.Lists.{keep}
 use Rattle.network.specs.Rating.{gapOfCalls}
-use Rattle.network.specs.Scan.{lastAt, callsBefore, leastFrom, LeadsBack}
+use Rattle.network.specs.Scan.{lastAt, callsBefore, leastFrom}
 use Rattle.network.specs.Valid.{noCall}
-use Rattle.network.proofs.Laws.Gaps.{lastAt-le, lastAt-landed, callsBefore-lastAt, step-back, leastFrom-le}
+use Rattle.network.proofs.Laws.Least.{leastFrom-le}
+use Rattle.network.proofs.Laws.Gaps.{lastAt-le, lastAt-landed, callsBefore-lastAt, step-back, leadsBack-at}
 use Rattle.search.specs.Held.{Linked, callsByLine}
+use Rattle.search.proofs.Laws.CapScan.{least-none}
 use Rattle.search.proofs.Laws.Codes.{lineIn}
 use Rattle.search.proofs.Laws.Linked.{length-callsByLine, calls-few, line-row-lt-16, divisor-pos, divisor-le, reciprocal-is, gap-of-rows}
 use Rattle.search.proofs.place.lowered.Statement.{statement}
@@ -59,8 +60,7 @@ module _ (s : tie.Start Inv-loop μ-loop) where
 -- For any network that the rows hold: where the row leads from a call, it leads to the one before at its stop
 module _ {codes previous divisors : List ℕ} (l : Linked codes previous divisors) where
   led : (j : ℕ) → j < length (l .net .calls) → getD previous j 0 ≡ lastAt (getD (callsByLine l) j noCall .stop) (callsByLine l) j
-  unfolding LeadsBack
-  led j h = l .leads j h
+  led j h = leadsBack-at previous (callsByLine l) (length (l .net .calls)) (l .leads) j h
 
   led-le : (j : ℕ) → j < length (l .net .calls) → getD previous j 0 ≤ j
   led-le j h = omega (arith, led j h, lastAt-le (getD (callsByLine l) j noCall .stop) (callsByLine l) j)
@@ -253,12 +253,12 @@ cast-result : tie.Need-cast-result Inv-loop μ-loop
 cast-result c = let s = c .before .before .before .before .before in omega (arith, c .before .loop .inv .1, s .fits .value)
 
 returns-2 : tie.Need-returns-2 Inv-loop μ-loop
-unfolding leastFrom callsBefore keep
 returns-2 c l h =
     let s = c .before .before .before .before .before in
     let p = c .before .loop in
     let none : 0 ≡ p .from = omega (arith, c .loop-test .left) in
-    ap (λ (k : ℕ). leastFrom (p .least) (map (to l (s .args .starts .now) (s .args .at)) (callsBefore (getD (callsByLine l) (s .args .at) noCall .stop) (callsByLine l) k))) none
+    sym (least-none (to l (s .args .starts .now) (s .args .at)) (p .least) (getD (callsByLine l) (s .args .at) noCall .stop) (callsByLine l))
+    ∙ ap (λ (k : ℕ). leastFrom (p .least) (map (to l (s .args .starts .now) (s .args .at)) (callsBefore (getD (callsByLine l) (s .args .at) noCall .stop) (callsByLine l) k))) none
     ∙ p .inv .2 l h .1
 
 pub lowered-spec : {M : Type 1} → statement M

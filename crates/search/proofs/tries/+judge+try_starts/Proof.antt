@@ -9,7 +9,7 @@ use lib.ListN.{length, getD}
 use Rattle.search.specs.declared.Walk as code
 use Rattle.search.specs.Held.{stateOf, countIn}
 use Rattle.search.proofs.Laws.Tries.{startCounts-low, try-stopped, try-ended, try-at-budget, can-place, can-try-next, placed-of-stands, dropped-or-given-up}
-use Rattle.search.proofs.Laws.Tries.{judged-next, judged-best, next-few, halves, none-left, one-left}
+use Rattle.search.proofs.Laws.Tries.{judged-next, judged-best, next-few, two-halves, none-left, one-left}
 use Rattle.search.proofs.tries.judge.Reads as judge
 use Rattle.search.proofs.tries.judge.Kinds as judge-kinds
 use Rattle.search.proofs.tries.+judge+try_starts.Lts-judge as judge-lts
@@ -431,7 +431,7 @@ try-starts-returns-3 : (t : ℕ) → try-starts-lts.Need-returns-3 (
 try-starts-returns-3 t c = let s = c .before .before .before .before .before .before .before .before .before in (
   c .try-starts2 .ensures .0,
   λ l can.
-      halves _ (s .args .starts .from) (s .args .starts .count / 2) (s .args .starts .count) _ _ _ (omega (arith)) (c .before .before .before .try-starts .ensures .1 l can) (c .try-starts2 .ensures .1 l can),
+      two-halves _ (s .args .starts .from) (s .args .starts .count / 2) (s .args .starts .count) _ _ _ (omega (arith)) (c .before .before .before .try-starts .ensures .1 l can) (c .try-starts2 .ensures .1 l can),
 )
 
 pub +judge+try-starts-spec : {M : Type 1} → statement M
