@@ -70,7 +70,7 @@ fn find(file: &[u8], lines: usize) -> bool
 {
     let mut row = [0i32; Network::MAX_LINES];
     let starts = &mut row[..lines];
-    let answer = search::call::search(file, starts, BUDGET);
+    let answer = search::entry::search(file, starts, BUDGET);
     match answer {
         SearchAnswer::Finished { least, sum, tries } => print_best(least, sum, tries, starts),
         SearchAnswer::Stopped { least, sum, tries } => {

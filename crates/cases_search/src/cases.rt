@@ -14,7 +14,7 @@ pub fn case(name: &[u8], text: &[u8], row: &mut [i32], budget: u32) {
     let mut file = [0u8; 64];
     let end = put_hex(text, &mut file, 0);
     show_name(name);
-    let answer = search::call::search(&file[..end], row, budget);
+    let answer = search::entry::search(&file[..end], row, budget);
     show(answer);
     io::write_all(STDOUT_FILENO, b", row");
     show_row(row);

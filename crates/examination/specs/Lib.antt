@@ -1,5 +1,4 @@
 pub mod Sheets
 pub mod Bytes
 pub mod Exports
-pub mod Taken
-pub mod Chosen
+pub mod Engine

@@ -7,7 +7,7 @@ ghost use mathlib.Core.Path.{_≡_};
 ghost use mathlib.Core.List.{[]};
 ghost use Rattle.network.specs.Reading.{readFile};
 ghost use Rattle.network.specs.Valid.{IsBytes};
-ghost use Rattle.examination.specs.Chosen.{ratingFrom};
+ghost use Rattle.examination.specs.Engine.Chosen.{ratingFrom};
 ghost use Rattle.examination.specs.Sheets as sheets;
 
 // The rating that rate answers; none where it refuses, which is below every rating.

@@ -4,7 +4,7 @@ use network::reader::word;
 ghost use mathlib.Core.Path.{_≡_};
 ghost use Prim.Native.Nat.{_+_, _<_, _≤_};
 ghost use lib.ListN.{length};
-ghost use Rattle.examination.specs.Taken as taken;
+ghost use Rattle.examination.specs.Engine.Taken as taken;
 
 // The start that begins at a place of a sheet's bytes.
 fn start_at(bytes: &[u8], at: usize) -> i32

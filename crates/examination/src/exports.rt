@@ -14,7 +14,7 @@ use network::classes::weighted;
 use network::rate::rate;
 use network::reader::read;
 use search::SearchAnswer;
-use search::call::search;
+use search::entry::search;
 ghost use mathlib.Core.Path.{_≡_};
 ghost use mathlib.Core.List.{List};
 ghost use Prim.Native.Nat.{ℕ, _<_};

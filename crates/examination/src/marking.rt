@@ -5,7 +5,7 @@ use network::RateAnswer;
 use network::Rating;
 use network::rate::rate;
 use search::SearchAnswer;
-use search::call::search;
+use search::entry::search;
 ghost use mathlib.Core.Path.{_≡_};
 ghost use Rattle.network.specs.Reading.{readFile};
 ghost use Rattle.network.specs.Valid.{IsBytes};

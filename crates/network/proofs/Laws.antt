@@ -40,7 +40,7 @@ pub mod AlikeGap
 pub mod AlikeByLines
 pub mod Placed
 pub mod Classes
-pub mod Kept
+pub mod ReaderRows
 pub mod ClassRows
 pub mod Weighted
 pub mod Ranges

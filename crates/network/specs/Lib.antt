@@ -8,12 +8,10 @@ pub mod Gives
 pub mod Archive
 pub mod Refusals
 pub mod Valid
-pub mod Stored
 pub mod Gap
 pub mod Rating
 pub mod ByLines
 pub mod Classes
-pub mod Scan
 pub mod Rate
-pub mod Placed
 pub mod ClassCall
+pub mod Engine

@@ -44,6 +44,11 @@ leastOf [] = 0
 leastOf (x ∷ []) = x
 leastOf (x ∷ y ∷ rest) = min x (leastOf (y ∷ rest))
 
+-- The least of a number and a list
+unfoldable pub leastFrom : ℕ → List ℕ → ℕ
+leastFrom v [] = v
+leastFrom v (x ∷ xs) = leastFrom (min v x) xs
+
 -- The numbers of all pairs of different elements
 unfoldable pub pairsOf : {A : Type 0} → (A → A → ℕ) → List A → List ℕ
 pairsOf f [] = []

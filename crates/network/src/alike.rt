@@ -13,8 +13,8 @@ ghost use Rattle.network.specs.Divisor as divisor;
 ghost use Rattle.network.specs.Gap as gaps;
 ghost use Rattle.network.specs.Lists.{allBelow};
 ghost use Rattle.network.specs.Network as net;
-ghost use Rattle.network.specs.Placed.{CountsOf, Placed, SameLines, sameLineIn};
-ghost use Rattle.network.specs.Stored.{callIn};
+ghost use Rattle.network.specs.Engine.Placed.{CountsOf, Placed, SameLines, sameLineIn};
+ghost use Rattle.network.specs.Engine.Stored.{callIn};
 
 // The call at a place of a stop.
 fn call_at(codes: &[u32; Network::PLACES], stop: usize, place: usize) -> Call

@@ -17,10 +17,10 @@ ghost use Rattle.network.specs.ClassCall as call;
 ghost use Rattle.network.specs.Classes as class;
 ghost use Rattle.network.specs.Lists.{pick};
 ghost use Rattle.network.specs.Network as net;
-ghost use Rattle.network.specs.Placed.{CountsOf, Placed};
+ghost use Rattle.network.specs.Engine.Placed.{CountsOf, Placed};
 ghost use Rattle.network.specs.Rate.{rateAnswer};
 ghost use Rattle.network.specs.Reading.{readFile};
-ghost use Rattle.network.specs.Stored.{netOf, Sound};
+ghost use Rattle.network.specs.Engine.Stored.{netOf, Sound};
 ghost use Rattle.network.specs.Valid.{Valid, IsBytes};
 
 // The lowest stop alike to a stop, 255 if it is unserved. Of the stops below it none needs to be asked whether it is served: it would have

@@ -1,10 +1,10 @@
 // The network of lines and stops: the reader of network files, gaps and ratings, and classes of stops.
-pub mod alike;
+mod alike;
 pub mod archive;
 pub mod classes;
 pub mod divisor;
-pub mod gaps;
-pub mod places;
+mod gaps;
+mod places;
 pub mod rate;
 pub mod ratings;
 pub mod reader;
@@ -13,8 +13,8 @@ ghost use mathlib.Core.Path.{_≡_};
 ghost use Prim.Native.Nat.{_+_, _*_, _^_, _<_, _≤_};
 ghost use Rattle.network.specs.Network as net;
 ghost use Rattle.network.specs.Rating as rating;
-ghost use Rattle.network.specs.Scan as scan;
-ghost use Rattle.network.specs.Stored.{netOf, packed, callIn, Sound};
+ghost use Rattle.network.specs.Engine.Scan as scan;
+ghost use Rattle.network.specs.Engine.Stored.{netOf, packed, callIn, Sound};
 
 // A line calls at a stop, `offset` minutes after its start.
 pub struct Call {
@@ -119,7 +119,7 @@ impl Network {
 }
 
 // The calls of each stop in their order: each stop has MAX_AT_STOP places, of which the first hold its calls, as many as it has.
-pub struct StopCalls {
+struct StopCalls {
     pub codes: [u32; Network::PLACES],
     pub counts: [u8; Network::STOPS],
 }
@@ -137,14 +137,14 @@ pub struct Step {
 }
 
 // The numbers of a network that the grounds ask for, so that they are tried without a copy of its rows.
-pub struct Size {
+struct Totals {
     pub lines: usize,
     pub calls: usize,
     pub cycle: u32,
 }
 
 // What a command tells: the ground that refuses it, or the line or call that it states, or that the file ends.
-pub enum Told {
+enum Parsed {
     Refused { number: u8, place: usize },
     Line { period: u16, cycle: u32 },
     Calls { call: Call },

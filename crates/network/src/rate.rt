@@ -12,8 +12,8 @@ ghost use lib.ListN.{length};
 ghost use Rattle.network.specs.Rate.{rateAnswer, rateOutcome};
 ghost use Rattle.network.specs.Rating as rating;
 ghost use Rattle.network.specs.Reading.{readFile};
-ghost use Rattle.network.specs.Scan as scan;
-ghost use Rattle.network.specs.Stored.{netOf};
+ghost use Rattle.network.specs.Engine.Scan as scan;
+ghost use Rattle.network.specs.Engine.Stored.{netOf};
 ghost use Rattle.network.specs.Valid.{IsBytes};
 
 // The rating of a sheet with one start for each line: every served stop counts once.

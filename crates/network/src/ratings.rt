@@ -10,10 +10,11 @@ ghost use mathlib.Core.List.{map, _++_, _∷_, []};
 ghost use Prim.Native.Nat.{ℕ, _+_, _*_, _<_, _≤_};
 ghost use lib.ListN.{length, getD, take};
 ghost use lib.Dec.{ltb};
+ghost use Rattle.network.specs.Lists.{leastFrom};
 ghost use Rattle.network.specs.Network as net;
 ghost use Rattle.network.specs.Rating as rating;
-ghost use Rattle.network.specs.Scan as scan;
-ghost use Rattle.network.specs.Stored.{netOf, callsIn, Sound};
+ghost use Rattle.network.specs.Engine.Scan as scan;
+ghost use Rattle.network.specs.Engine.Stored.{netOf, callsIn, Sound};
 ghost use Rattle.network.specs.Valid.{Valid};
 
 // The gap of two calls, on a sheet of starts, with the divisors of the lines' periods.
@@ -41,7 +42,7 @@ fn least_gap(
     least: u32,
 ) -> u32
     requires { ⌜ ((h : scan.Rows (now list) (now divisors) (now previous) next) × scan.Beside (h .network) (now sheet) call next) ⌝ }
-    ensures { λ r. ⌜ ((h : scan.Rows (now (list .entry)) (now (divisors .entry)) (now (previous .entry)) next) → scan.Beside (h .network) (now (sheet .entry)) call next → r ≡ scan.leastFrom least (map (λ d. rating.gapOfCalls (netOf (h .network)) (now (sheet .entry)) d call) (scan.callsBefore (call .stop) (callsIn (h .network .list)) next))) ⌝ }
+    ensures { λ r. ⌜ ((h : scan.Rows (now (list .entry)) (now (divisors .entry)) (now (previous .entry)) next) → scan.Beside (h .network) (now (sheet .entry)) call next → r ≡ leastFrom least (map (λ d. rating.gapOfCalls (netOf (h .network)) (now (sheet .entry)) d call) (scan.callsBefore (call .stop) (callsIn (h .network .list)) next))) ⌝ }
 {
     let mut lesser = least;
     let mut from = next as usize;

@@ -2,10 +2,10 @@
 use crate::Call;
 use crate::Check;
 use crate::Network;
+use crate::Parsed;
 use crate::ReadAnswer;
-use crate::Size;
 use crate::Step;
-use crate::Told;
+use crate::Totals;
 use crate::divisor::lcm;
 use crate::ratings::served_by;
 ghost use mathlib.Core.Path.{_≡_};
@@ -17,7 +17,7 @@ ghost use Rattle.network.specs.Network as net;
 ghost use Rattle.network.specs.Grounds as ground;
 ghost use Rattle.network.specs.Reading as reading;
 ghost use Rattle.network.specs.declared.Check.{Check};
-ghost use Rattle.network.specs.Stored.{callsIn, Sound, HasSize, Latest, Often, Tells, readingOf};
+ghost use Rattle.network.specs.Engine.Stored.{callsIn, Sound, HasTotals, Latest, Often, IsParsed, readingOf};
 ghost use Rattle.network.specs.Valid.{IsBytes};
 
 // A number of two bytes from a place on, most significant byte first.
@@ -69,44 +69,44 @@ fn part_behind(code: u8, behind: &[u8]) -> &[u8]
     &behind[operands..]
 }
 
-// 4C: grounds 3 to 6, or a line. As for every command, what is told is right wherever the network so far has these numbers and rows.
-fn read_line(size: Size, behind: &[u8], at: usize) -> Told
-    requires { ⌜ (0 < size .cycle) × (size .cycle ≤ net.maxCycle) ⌝ }
-    ensures { λ r. ⌜ ((f : net.SoFar) → HasSize (f .network) size → Tells net.statesLine f at (now (behind .entry)) r) ⌝ }
+// 4C: grounds 3 to 6, or a line. As for every command, what is parsed is right wherever the network so far has these numbers and rows.
+fn read_line(totals: Totals, behind: &[u8], at: usize) -> Parsed
+    requires { ⌜ (0 < totals .cycle) × (totals .cycle ≤ net.maxCycle) ⌝ }
+    ensures { λ r. ⌜ ((f : net.SoFar) → HasTotals (f .network) totals → IsParsed net.statesLine f at (now (behind .entry)) r) ⌝ }
 {
     if behind.len() < 2 {
-        return Told::Refused {
+        return Parsed::Refused {
             number: 3,
             place: at,
         };
     }
-    if Network::MAX_LINES <= size.lines {
-        return Told::Refused {
+    if Network::MAX_LINES <= totals.lines {
+        return Parsed::Refused {
             number: 4,
             place: at,
         };
     }
     let period = word(behind, 0);
     if period < 1 {
-        return Told::Refused {
+        return Parsed::Refused {
             number: 5,
             place: at,
         };
     }
     if Network::MAX_PERIOD < period {
-        return Told::Refused {
+        return Parsed::Refused {
             number: 5,
             place: at,
         };
     }
-    let cycle = lcm(size.cycle, period as u32);
+    let cycle = lcm(totals.cycle, period as u32);
     if Network::MAX_CYCLE < cycle {
-        return Told::Refused {
+        return Parsed::Refused {
             number: 6,
             place: at,
         };
     }
-    Told::Line { period, cycle }
+    Parsed::Line { period, cycle }
 }
 
 // 43 and 46: whether ground 3 applies, the operands being cut off.
@@ -125,14 +125,14 @@ fn often_at(often: &[u8; Network::TABLE], line: usize, stop: usize) -> u8
 }
 
 // 43 and 46: the grounds that they share once their operands are there, 7 to 10.
-fn check_call(size: Size, often: &[u8; Network::TABLE], behind: &[u8], at: usize) -> Check
-    requires { ⌜ (size .lines ≤ net.maxLines) × (4 ≤ length (now behind)) ⌝ }
-    ensures { λ r. ⌜ ((f : net.SoFar) → HasSize (f .network) size → Often (now (often .entry)) (f .network .calls) → r ≡ ground.first (ground.callGrounds f at (now (behind .entry)))) ⌝ }
-    ensures { λ r. ⌜ (r ≡ Check.Passes → getD (now (behind .entry)) 0 0 < size .lines) ⌝ }
+fn check_call(totals: Totals, often: &[u8; Network::TABLE], behind: &[u8], at: usize) -> Check
+    requires { ⌜ (totals .lines ≤ net.maxLines) × (4 ≤ length (now behind)) ⌝ }
+    ensures { λ r. ⌜ ((f : net.SoFar) → HasTotals (f .network) totals → Often (now (often .entry)) (f .network .calls) → r ≡ ground.first (ground.callGrounds f at (now (behind .entry)))) ⌝ }
+    ensures { λ r. ⌜ (r ≡ Check.Passes → getD (now (behind .entry)) 0 0 < totals .lines) ⌝ }
 {
     let line = behind[0];
     let stop = behind[1];
-    if size.lines <= line as usize {
+    if totals.lines <= line as usize {
         return Check::Refused {
             number: 7,
             place: at,
@@ -150,7 +150,7 @@ fn check_call(size: Size, often: &[u8; Network::TABLE], behind: &[u8], at: usize
             place: at,
         };
     }
-    if Network::MAX_CALLS <= size.calls {
+    if Network::MAX_CALLS <= totals.calls {
         return Check::Refused {
             number: 10,
             place: at,
@@ -160,50 +160,50 @@ fn check_call(size: Size, often: &[u8; Network::TABLE], behind: &[u8], at: usize
 }
 
 // 43: the grounds of a call, or a call.
-fn read_call(size: Size, often: &[u8; Network::TABLE], behind: &[u8], at: usize) -> Told
-    requires { ⌜ size .lines ≤ net.maxLines ⌝ }
-    ensures { λ r. ⌜ ((f : net.SoFar) → HasSize (f .network) size → Often (now (often .entry)) (f .network .calls) → Tells net.callsByOffset f at (now (behind .entry)) r) ⌝ }
+fn read_call(totals: Totals, often: &[u8; Network::TABLE], behind: &[u8], at: usize) -> Parsed
+    requires { ⌜ totals .lines ≤ net.maxLines ⌝ }
+    ensures { λ r. ⌜ ((f : net.SoFar) → HasTotals (f .network) totals → Often (now (often .entry)) (f .network .calls) → IsParsed net.callsByOffset f at (now (behind .entry)) r) ⌝ }
 {
     if call_cut_off(behind) {
-        return Told::Refused {
+        return Parsed::Refused {
             number: 3,
             place: at,
         };
     }
-    let check = check_call(size, often, behind, at);
+    let check = check_call(totals, often, behind, at);
     match check {
-        Check::Refused { number, place } => Told::Refused { number, place },
+        Check::Refused { number, place } => Parsed::Refused { number, place },
         Check::Passes => {
             let call = Call {
                 line: behind[0],
                 stop: behind[1],
                 offset: word(behind, 2),
             };
-            Told::Calls { call }
+            Parsed::Calls { call }
         }
     }
 }
 
 // 46: the grounds of a call, then those of the ride.
 fn read_ride(
-    size: Size,
+    totals: Totals,
     often: &[u8; Network::TABLE],
     latest: &[u32; Network::MAX_LINES],
     behind: &[u8],
     at: usize,
-) -> Told
-    requires { ⌜ size .lines ≤ net.maxLines ⌝ }
-    ensures { λ r. ⌜ ((f : net.SoFar) → HasSize (f .network) size → Often (now (often .entry)) (f .network .calls) → Latest (now (latest .entry)) (f .network .calls) → Tells net.callsByRide f at (now (behind .entry)) r) ⌝ }
+) -> Parsed
+    requires { ⌜ totals .lines ≤ net.maxLines ⌝ }
+    ensures { λ r. ⌜ ((f : net.SoFar) → HasTotals (f .network) totals → Often (now (often .entry)) (f .network .calls) → Latest (now (latest .entry)) (f .network .calls) → IsParsed net.callsByRide f at (now (behind .entry)) r) ⌝ }
 {
     if call_cut_off(behind) {
-        return Told::Refused {
+        return Parsed::Refused {
             number: 3,
             place: at,
         };
     }
-    let check = check_call(size, often, behind, at);
+    let check = check_call(totals, often, behind, at);
     match check {
-        Check::Refused { number, place } => Told::Refused { number, place },
+        Check::Refused { number, place } => Parsed::Refused { number, place },
         Check::Passes => read_following_call(latest, behind, at),
     }
 }
@@ -217,21 +217,21 @@ fn latest_of(latest: &[u32; Network::MAX_LINES], line: u8) -> u32
 }
 
 // 46 where the grounds of a call are passed: grounds 11 and 12, or a call. The sum is of 64 bits, so that it fits whatever the row holds.
-fn read_following_call(latest: &[u32; Network::MAX_LINES], behind: &[u8], at: usize) -> Told
+fn read_following_call(latest: &[u32; Network::MAX_LINES], behind: &[u8], at: usize) -> Parsed
     requires { ⌜ (4 ≤ length (now behind)) × (getD (now behind) 0 0 < net.maxLines) ⌝ }
-    ensures { λ r. ⌜ ((f : net.SoFar) → Latest (now (latest .entry)) (f .network .calls) → ground.first (ground.callGrounds f at (now (behind .entry))) ≡ Check.Passes → Tells net.callsByRide f at (now (behind .entry)) r) ⌝ }
+    ensures { λ r. ⌜ ((f : net.SoFar) → Latest (now (latest .entry)) (f .network .calls) → ground.first (ground.callGrounds f at (now (behind .entry))) ≡ Check.Passes → IsParsed net.callsByRide f at (now (behind .entry)) r) ⌝ }
 {
     let line = behind[0];
     let before = latest_of(latest, line);
     if before == 0 {
-        return Told::Refused {
+        return Parsed::Refused {
             number: 11,
             place: at,
         };
     }
     let offset = (before - 1) as u64 + word(behind, 2) as u64;
     if (Network::MAX_OFFSET as u64) < offset {
-        return Told::Refused {
+        return Parsed::Refused {
             number: 12,
             place: at,
         };
@@ -241,7 +241,7 @@ fn read_following_call(latest: &[u32; Network::MAX_LINES], behind: &[u8], at: us
         stop: behind[1],
         offset: offset as u16,
     };
-    Told::Calls { call }
+    Parsed::Calls { call }
 }
 
 // Whether every line has a call.
@@ -258,26 +258,26 @@ fn every_line_calls(lines: usize, latest: &[u32; Network::MAX_LINES]) -> bool
 }
 
 // 45: grounds 13 and 14, or the end of the file.
-fn read_end(lines: usize, latest: &[u32; Network::MAX_LINES], behind: &[u8], at: usize) -> Told
+fn read_end(lines: usize, latest: &[u32; Network::MAX_LINES], behind: &[u8], at: usize) -> Parsed
     requires { ⌜ (lines ≤ net.maxLines) × (at < 2 ^ 63) ⌝ }
-    ensures { λ r. ⌜ ((f : net.SoFar) → lines ≡ length (f .network .periods) → Latest (now (latest .entry)) (f .network .calls) → Tells net.ends f at (now (behind .entry)) r) ⌝ }
+    ensures { λ r. ⌜ ((f : net.SoFar) → lines ≡ length (f .network .periods) → Latest (now (latest .entry)) (f .network .calls) → IsParsed net.ends f at (now (behind .entry)) r) ⌝ }
 {
     if lines == 0 {
-        return Told::Refused {
+        return Parsed::Refused {
             number: 13,
             place: at,
         };
     }
     if every_line_calls(lines, latest) {
         if 1 <= behind.len() {
-            return Told::Refused {
+            return Parsed::Refused {
                 number: 14,
                 place: at + 1,
             };
         }
-        return Told::End;
+        return Parsed::End;
     }
-    Told::Refused {
+    Parsed::Refused {
         number: 13,
         place: at,
     }
@@ -286,21 +286,21 @@ fn read_end(lines: usize, latest: &[u32; Network::MAX_LINES], behind: &[u8], at:
 // One command: its grounds, or what it states. `behind` is the part of the file behind its byte.
 fn read_command(
     code: u8,
-    size: Size,
+    totals: Totals,
     often: &[u8; Network::TABLE],
     latest: &[u32; Network::MAX_LINES],
     behind: &[u8],
     at: usize,
-) -> Told
-    requires { ⌜ (size .lines ≤ net.maxLines) × (0 < size .cycle) × (size .cycle ≤ net.maxCycle) × (at < 2 ^ 63) ⌝ }
-    ensures { λ r. ⌜ ((f : net.SoFar) → HasSize (f .network) size → Often (now (often .entry)) (f .network .calls) → Latest (now (latest .entry)) (f .network .calls) → Tells (net.command code) f at (now (behind .entry)) r) ⌝ }
+) -> Parsed
+    requires { ⌜ (totals .lines ≤ net.maxLines) × (0 < totals .cycle) × (totals .cycle ≤ net.maxCycle) × (at < 2 ^ 63) ⌝ }
+    ensures { λ r. ⌜ ((f : net.SoFar) → HasTotals (f .network) totals → Often (now (often .entry)) (f .network .calls) → Latest (now (latest .entry)) (f .network .calls) → IsParsed (net.command code) f at (now (behind .entry)) r) ⌝ }
 {
     match code {
-        0x4C => read_line(size, behind, at),
-        0x43 => read_call(size, often, behind, at),
-        0x46 => read_ride(size, often, latest, behind, at),
-        0x45 => read_end(size.lines, latest, behind, at),
-        _ => Told::Refused {
+        0x4C => read_line(totals, behind, at),
+        0x43 => read_call(totals, often, behind, at),
+        0x46 => read_ride(totals, often, latest, behind, at),
+        0x45 => read_end(totals.lines, latest, behind, at),
+        _ => Parsed::Refused {
             number: 2,
             place: at,
         },
@@ -321,22 +321,22 @@ pub fn read_network(file: &[u8]) -> Step
         let at = file.len() - rest.len();
         let code = rest[0];
         let behind = &rest[1..];
-        let size = Size {
+        let totals = Totals {
             lines: network.lines,
             calls: network.calls,
             cycle: network.cycle,
         };
-        let told = read_command(code, size, &often, &latest, behind, at);
-        match told {
-            Told::Refused { number, place } => return refused(network, number, place),
-            Told::End => return passed(network),
-            Told::Line { period, cycle } => {
+        let parsed = read_command(code, totals, &often, &latest, behind, at);
+        match parsed {
+            Parsed::Refused { number, place } => return refused(network, number, place),
+            Parsed::End => return passed(network),
+            Parsed::Line { period, cycle } => {
                 let line = network.lines;
                 network.periods[line] = period;
                 network.lines = line + 1;
                 network.cycle = cycle;
             }
-            Told::Calls { call } => {
+            Parsed::Calls { call } => {
                 let place = network.calls;
                 network.list[place] = call.packed();
                 network.calls = place + 1;

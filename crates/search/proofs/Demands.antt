@@ -27,9 +27,9 @@ use Rattle.search.proofs.Laws.Outcome.{fit-outcome, fit-row, AnswerTell
 use Rattle.search.proofs.Laws.Outcome.{outcome-tries-le, outcome-tries-le-budget, outcome-finished}
 use Rattle.search.proofs.Laws.Reordered.{searchOutcome-same, startRowAfter-same}
 use Rattle.search.proofs.Laws.Outcome.{search-refuses, search-refuses-only, row-as-found}
-use Rattle.search.proofs.call.search as search
-use Rattle.search.proofs.call.search.Kinds as search-kinds
-use Rattle.search.proofs.call.search.Reads as search-contract
+use Rattle.search.proofs.entry.search as search
+use Rattle.search.proofs.entry.search.Kinds as search-kinds
+use Rattle.search.proofs.entry.search.Reads as search-contract
 
 -- ---- What is demanded, of an accepted network, the start row and the budget as lent, the answer, and the row afterwards
 
@@ -75,7 +75,7 @@ pub record Answers (n : Net) (row : List ℤ) (budget : ℕ) (answer : SearchOut
 
 -- ---- A search by its definition
 
--- What the contract in src/call.rt says
+-- What the contract in src/entry.rt says
 pub record Searches (file : List ℕ) (row : List ℤ) (budget : ℕ) (answer : SearchOutcome) (exit : List ℤ) : Type 0 where
   pub bytes : IsBytes file
   pub answered : answer ≡ searchOutcome (readFile file) (length row) budget

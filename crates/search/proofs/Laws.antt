@@ -17,10 +17,10 @@ pub mod Values
 pub mod Lowered
 pub mod Reciprocal
 pub mod Codes
-pub mod Linked
+pub mod CallRows
 pub mod Placing
 pub mod Tries
-pub mod Called
+pub mod SearchCall
 pub mod Optimal
 pub mod Outcome
 pub mod Reordered

@@ -7,11 +7,10 @@ use lib.IntN.{ℤ}
 use lib.ListN.{length}
 use Rattle.network.specs.declared.Call.{Call}
 use Rattle.network.specs.declared.Rating.{Rating}
-use Rattle.network.specs.Lists.{keep, sumOf, leastOf, pairsOf}
+use Rattle.network.specs.Lists.{keep, sumOf, leastOf, pairsOf, leastFrom}
 use Rattle.network.specs.Divisor.{gcd}
 use Rattle.network.specs.Network.{Net, cycle}
 use Rattle.network.specs.Rating.{periodOf, pairGaps, callsOfStop, counted, ratingBy}
-use Rattle.network.specs.Scan.{leastFrom}
 
 -- The halves of g, rounded down, over all pairs of different calls
 unfoldable pub halves : Net → List Call → List ℕ

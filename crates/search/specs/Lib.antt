@@ -1,6 +1,4 @@
 pub mod Caps
-pub mod CapScan
 pub mod Walk
 pub mod Search
-pub mod Layout
-pub mod Held
+pub mod Engine

@@ -8,11 +8,12 @@ ghost use Prim.Native.Nat.{ℕ, _<_, _≤_};
 ghost use lib.ListN.{length, getD};
 ghost use Rattle.network.specs.Network as net;
 ghost use Rattle.network.specs.Rating.{callsOfStop};
-ghost use Rattle.network.specs.Scan.{leastFrom, callsBefore};
-ghost use Rattle.network.specs.Stored.{netOf, callsIn, Sound};
+ghost use Rattle.network.specs.Lists.{leastFrom};
+ghost use Rattle.network.specs.Engine.Scan.{callsBefore};
+ghost use Rattle.network.specs.Engine.Stored.{netOf, callsIn, Sound};
 ghost use Rattle.network.specs.Valid.{Valid};
 ghost use Rattle.search.specs.Caps.{cap};
-ghost use Rattle.search.specs.CapScan.{halfOf, boundsOf};
+ghost use Rattle.search.specs.Engine.CapScan.{halfOf, boundsOf};
 
 // The least of a number and the halves of g over the pairs of a call with those before it at its stop.
 fn least_half(network: Network, call: Call, at: usize, least: u32) -> u32

@@ -1,9 +1,9 @@
 // The search for the best timetable: caps, the walk, and the search call.
-pub mod call;
-pub mod caps;
-pub mod layout;
-pub mod place;
-pub mod tries;
+mod caps;
+pub mod entry;
+mod layout;
+mod place;
+mod tries;
 
 use network::Network;
 use network::Rating;
@@ -18,7 +18,7 @@ pub enum SearchAnswer {
 
 // What a walk goes by: document 01's rule drops what isn't above the best so far; request A.3's what doesn't reach a wanted gap, and its first
 // full timetable ends the walk; that of request A.11's second pass what doesn't reach a floor or, once there is a best, its sum.
-pub enum Rule {
+enum Rule {
     AboveBest,
     AtLeast { wanted: u32 },
     BySum { floor: u32 },
@@ -26,7 +26,7 @@ pub enum Rule {
 
 // What is dropped beside the best so far, whatever the rule, so that it is one test: a least gap below the floor and, if there is something
 // beside it, a sum not above that, at the floor itself or anywhere.
-pub struct Cut {
+struct Cut {
     pub floor: u32,
     pub beside: bool,
     pub anywhere: bool,
@@ -34,27 +34,27 @@ pub struct Cut {
 }
 
 // What a walk is given: its rule, how many tries it may make, and its last line.
-pub struct Task {
+struct Task {
     pub rule: Rule,
     pub budget: u32,
     pub last: usize,
 }
 
 // A try: a line at a start.
-pub struct Try {
+struct Try {
     pub line: usize,
     pub start: u16,
 }
 
 // A line's starts from `from` on, `count` of them.
-pub struct Starts {
+struct Starts {
     pub line: usize,
     pub from: u16,
     pub count: u16,
 }
 
 // A network with its calls in the order of their lines, and for each line the place of its first call.
-pub struct Ordered {
+struct Ordered {
     pub network: Network,
     pub first: [u16; Ordered::FIRSTS],
 }
@@ -74,7 +74,7 @@ impl Ordered {
 }
 
 // A partial timetable: the starts of the placed lines, the upper values of the stops, and the upper rating that they make.
-pub struct Placed {
+struct Placed {
     pub starts: [u16; Network::MAX_LINES],
     pub values: [u16; Network::STOPS],
     pub least: u32,
@@ -82,7 +82,7 @@ pub struct Placed {
 }
 
 // A walk on its way: the tries made, whether it has stopped, and the best so far with its starts.
-pub struct Walk {
+struct Walk {
     pub tries: u32,
     pub stopped: bool,
     pub best: Rating,

@@ -13,7 +13,7 @@ ghost use lib.IntN.{pos, _-ℤ_};
 ghost use lib.ListN.{length, getD};
 ghost use Rattle.network.specs.Gap as gaps;
 ghost use Rattle.network.specs.Network as net;
-ghost use Rattle.search.specs.Held as held;
+ghost use Rattle.search.specs.Engine.Representation as rows;
 
 // More than any arrival: an arrival is a start below 1,440 and an offset below 65,536.
 const ARRIVAL_LIMIT: u32 = 67000;
@@ -21,8 +21,8 @@ const ARRIVAL_LIMIT: u32 = 67000;
 // The gap of two arrivals by the divisor of their periods. The difference is raised by a multiple of the divisor, so that nothing is
 // signed. The divisor's reciprocal makes two products of what would be a division, which takes longer than all the rest.
 fn gap_by(divisor: u32, reciprocal: u64, earlier: u32, later: u32) -> u32
-    requires { ⌜ (0 < divisor) × (divisor ≤ net.maxPeriod) × (reciprocal ≡ held.reciprocal divisor) ⌝ }
-    requires { ⌜ (earlier < held.arrivalLimit) × (later < held.arrivalLimit) ⌝ }
+    requires { ⌜ (0 < divisor) × (divisor ≤ net.maxPeriod) × (reciprocal ≡ rows.reciprocal divisor) ⌝ }
+    requires { ⌜ (earlier < rows.arrivalLimit) × (later < rows.arrivalLimit) ⌝ }
     ensures { λ r. ⌜ r ≡ gaps.fold divisor (gaps.residue (pos earlier -ℤ pos later) divisor) ⌝ }
 {
     let apart = earlier + divisor * ARRIVAL_LIMIT - later;
@@ -40,9 +40,9 @@ fn lowered(
     at: usize,
     value: u16,
 ) -> u16
-    requires { ⌜ ((l : held.Linked (now codes) (now previous) (now divisors)) × (at < length (l .net .calls))) ⌝ }
+    requires { ⌜ ((l : rows.CallRows (now codes) (now previous) (now divisors)) × (at < length (l .net .calls))) ⌝ }
     requires { ⌜ ((i : ℕ) → getD (now starts) i 0 < net.maxPeriod) ⌝ }
-    ensures { λ r. ⌜ ((l : held.Linked (now (codes .entry)) (now (previous .entry)) (now (divisors .entry))) → at < length (l .net .calls) → r ≡ held.loweredAt l (now (starts .entry)) at value) ⌝ }
+    ensures { λ r. ⌜ ((l : rows.CallRows (now (codes .entry)) (now (previous .entry)) (now (divisors .entry))) → at < length (l .net .calls) → r ≡ rows.loweredAt l (now (starts .entry)) at value) ⌝ }
 {
     let code = codes[at];
     let line = (code / Call::LINE_UNIT) as usize;
@@ -74,7 +74,7 @@ fn lowered(
 
 // The cut of a rule beside the best so far.
 pub fn cut_of(rule: Rule, best: Rating) -> Cut
-    ensures { λ r. ⌜ held.IsCut rule best r ⌝ }
+    ensures { λ r. ⌜ rows.IsCut rule best r ⌝ }
 {
     match rule {
         Rule::AboveBest => {
@@ -110,7 +110,7 @@ pub fn cut_of(rule: Rule, best: Rating) -> Cut
 
 // Whether an upper rating falls short of a cut.
 pub fn falls_short(cut: Cut, least: u32, sum: u32) -> bool
-    ensures { λ r. ⌜ r ≡ held.isShort cut least sum ⌝ }
+    ensures { λ r. ⌜ r ≡ rows.isShort cut least sum ⌝ }
 {
     if least < cut.floor {
         return true;
@@ -137,8 +137,8 @@ pub fn place(
     due: Try,
     placed: Placed,
 ) -> Placed
-    requires { ⌜ held.MayPlace (now codes) (now previous) (now divisors) (now lines) due placed ⌝ }
-    ensures { λ r. ⌜ held.PlacedOr (now (codes .entry)) (now (previous .entry)) (now (divisors .entry)) (now (lines .entry)) cut due placed r ⌝ }
+    requires { ⌜ rows.MayPlace (now codes) (now previous) (now divisors) (now lines) due placed ⌝ }
+    ensures { λ r. ⌜ rows.PlacedOr (now (codes .entry)) (now (previous .entry)) (now (divisors .entry)) (now (lines .entry)) cut due placed r ⌝ }
 {
     let line = due.line;
     let begin = (lines[line] % Ordered::PLACES) as usize;

@@ -15,11 +15,11 @@ ghost use mathlib.Core.Path.{_≡_};
 ghost use mathlib.Core.Bool.{_&&_};
 ghost use Prim.Native.Nat.{_+_, _<_, _≤_};
 ghost use Rattle.network.specs.Network.{maxPeriod};
-ghost use Rattle.search.specs.Held as held;
+ghost use Rattle.search.specs.Engine.Representation as rows;
 
 // Whether the walk is over because it has its first full timetable.
 fn has_ended(rule: Rule, best: Rating) -> bool
-    ensures { λ r. ⌜ r ≡ (held.ruleOf rule .endsAtFirst && best .some) ⌝ }
+    ensures { λ r. ⌜ r ≡ (rows.ruleOf rule .endsAtFirst && best .some) ⌝ }
 {
     match rule {
         Rule::AboveBest => false,
@@ -30,7 +30,7 @@ fn has_ended(rule: Rule, best: Rating) -> bool
 
 // A full timetable become the best.
 fn with_best(walk: Walk, full: Placed) -> Walk
-    ensures { λ r. ⌜ r ≡ held.withBest walk full ⌝ }
+    ensures { λ r. ⌜ r ≡ rows.withBest walk full ⌝ }
 {
     let best = Rating {
         some: true,
@@ -58,10 +58,10 @@ fn judge(
     placed: Placed,
     walk: Walk,
 ) -> Walk
-    requires { ⌜ held.MayTry (now codes) (now previous) (now divisors) (now lines) task (due .line) placed ⌝ }
+    requires { ⌜ rows.MayTry (now codes) (now previous) (now divisors) (now lines) task (due .line) placed ⌝ }
     requires { ⌜ (due .start < maxPeriod) × (walk .tries ≤ task .budget) ⌝ }
     ensures within { λ r. ⌜ r .tries ≤ task .budget ⌝ }
-    ensures tried { λ r. ⌜ held.Tried (now (codes .entry)) (now (previous .entry)) (now (divisors .entry)) (now (lines .entry)) task (due .line) placed (held.oneOf task due placed) walk r ⌝ }
+    ensures tried { λ r. ⌜ rows.Tried (now (codes .entry)) (now (previous .entry)) (now (divisors .entry)) (now (lines .entry)) task (due .line) placed (rows.oneOf task due placed) walk r ⌝ }
 {
     let rule = task.rule;
     let best = walk.best;
@@ -106,10 +106,10 @@ pub fn try_starts(
     placed: Placed,
     walk: Walk,
 ) -> Walk
-    requires { ⌜ held.MayTry (now codes) (now previous) (now divisors) (now lines) task (starts .line) placed ⌝ }
+    requires { ⌜ rows.MayTry (now codes) (now previous) (now divisors) (now lines) task (starts .line) placed ⌝ }
     requires { ⌜ (starts .from + starts .count ≤ maxPeriod) × (walk .tries ≤ task .budget) ⌝ }
     ensures within { λ r. ⌜ r .tries ≤ task .budget ⌝ }
-    ensures tried { λ r. ⌜ held.Tried (now (codes .entry)) (now (previous .entry)) (now (divisors .entry)) (now (lines .entry)) task (starts .line) placed (held.eachOf task starts placed) walk r ⌝ }
+    ensures tried { λ r. ⌜ rows.Tried (now (codes .entry)) (now (previous .entry)) (now (divisors .entry)) (now (lines .entry)) task (starts .line) placed (rows.eachOf task starts placed) walk r ⌝ }
 {
     if starts.count == 0 {
         return walk;

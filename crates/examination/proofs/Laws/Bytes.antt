@@ -20,7 +20,7 @@ use Rattle.network.proofs.Laws.Gaps.{accepted-valid}
 use Rattle.examination.specs.Bytes.{signed, starts, bytesFit, byBytes, betterBytes}
 use Rattle.examination.specs.Sheets.{fits, betterBy, betterOf, markOutcome}
 use Rattle.examination.specs.Sheets as sheets
-use Rattle.examination.specs.Taken.{startAt, isWhole, sheetOf}
+use Rattle.examination.specs.Engine.Taken.{startAt, isWhole, sheetOf}
 
 -- ---- the starts, place by place
 

@@ -18,7 +18,7 @@ use Rattle.network.specs.Reading.{Reading, accepted, refused, values, refusal}
 use Rattle.network.proofs.Laws.Lists.{zero-ne-one}
 use Rattle.network.proofs.Laws.Gaps.{rating-some, isAbove-none, none-is-not-above, rating-numbers}
 use Rattle.search.specs.Search.{searchOutcome}
-use Rattle.examination.specs.Chosen.{ratingFrom, ratingOn, betterFrom}
+use Rattle.examination.specs.Engine.Chosen.{ratingFrom, ratingOn, betterFrom}
 use Rattle.examination.specs.Sheets.{first, second, neither, fits, betterBy, betterOf, marked, markOutcome}
 use Rattle.examination.specs.Sheets as sheets
 

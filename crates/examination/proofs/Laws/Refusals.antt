@@ -28,7 +28,7 @@ use Rattle.examination.specs.Bytes.{bytesFit, byBytes, BytesUnfit}
 use Rattle.examination.specs.Exports.{placeLimit}
 use Rattle.examination.specs.Sheets.{fits, marked, markOutcome}
 use Rattle.examination.specs.Sheets as sheets
-use Rattle.examination.specs.Taken.{sheetOf}
+use Rattle.examination.specs.Engine.Taken.{sheetOf}
 use Rattle.examination.proofs.Laws.Bytes.{sheetOf-fits, rated-on-bytes, mark-on-bytes}
 
 -- ---- the numbers and places of refusals

@@ -14,7 +14,7 @@ use borrow.Author.Tests.{eq-eqb, ne-eqb, lt-ltb}
 use Rattle.network.specs.declared.Call.{Call}
 use Rattle.network.specs.Lists.{pick, any}
 use Rattle.network.specs.Network.{maxLines, callsAnywhere, latestOffset}
-use Rattle.network.specs.Stored.{Latest}
+use Rattle.network.specs.Engine.Stored.{Latest}
 use Rattle.network.proofs.Laws.Lists.{any-append}
 use Rattle.network.proofs.Laws.Network.{latest-append}
 

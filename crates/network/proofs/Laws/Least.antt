@@ -7,8 +7,7 @@ use mathlib.Core.List.{Memᴰ·cast, Memᴰ·map, Memᴰ·of-map, List·Permᴰ,
 use native.Mathlib.Nat.{le-antisymm, min-comm, zero-lt-suc}
 use native.Mathlib.Omega.{arith, min-cases}
 use lib.ListN.{length, length-map}
-use Rattle.network.specs.Lists.{leastOf, pairsOf}
-use Rattle.network.specs.Scan.{leastFrom}
+use Rattle.network.specs.Lists.{leastOf, pairsOf, leastFrom}
 use Rattle.network.proofs.Laws.Permutations.{member-permuted}
 
 pub leastOf-cons : (x : ℕ) (xs : List ℕ) → 0 < length xs → leastOf (x ∷ xs) ≡ min x (leastOf xs)

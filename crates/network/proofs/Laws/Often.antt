@@ -13,7 +13,7 @@ use borrow.Author.Tests.{eq-eqb, ne-eqb}
 use Rattle.network.specs.declared.Call.{Call}
 use Rattle.network.specs.Lists.{pick, keep}
 use Rattle.network.specs.Network.{Net, maxLines, maxStop, maxCallsAtStop, howOftenAt}
-use Rattle.network.specs.Stored.{Often}
+use Rattle.network.specs.Engine.Stored.{Often}
 use Rattle.network.specs.Valid.{noCall, Valid}
 use Rattle.network.proofs.Laws.Lists.{and-both}
 use Rattle.network.proofs.Laws.Members.{keep-has-pair, keep-append}

@@ -11,7 +11,7 @@ use lib.Dec.{eqb, ltb, leb}
 use lib.ListN.{getD, List·getD-map}
 use Rattle.network.specs.declared.Call.{Call}
 use Rattle.network.specs.Network.{Net, maxLines, maxStop, maxOffset}
-use Rattle.network.specs.Stored.{packed, callIn, callsIn}
+use Rattle.network.specs.Engine.Stored.{packed, callIn, callsIn}
 use Rattle.network.specs.Tidy.{notAfter}
 use Rattle.network.specs.Valid.{noCall, Valid}
 use Rattle.network.proofs.Laws.Members.{All}

@@ -9,13 +9,12 @@ use native.Mathlib.Decide.{decLt}
 use lib.IntN.{ℤ, pos, _+ℤ_, _-ℤ_}
 use lib.ListN.{length, getD, List·getD-map}
 use Rattle.network.specs.declared.Call.{Call}
-use Rattle.network.specs.Lists.{leastOf}
+use Rattle.network.specs.Lists.{leastOf, leastFrom}
 use Rattle.network.specs.Network.{Net}
 use Rattle.network.specs.Divisor.{gcd}
 use Rattle.network.specs.Valid.{noCall}
 use Rattle.network.specs.Gap.{residue, fold, gapOf}
 use Rattle.network.specs.Rating.{arrivalOf, periodOf, gapOfCalls, pairGaps, gapOfStop}
-use Rattle.network.specs.Scan.{leastFrom}
 use Rattle.network.proofs.Laws.Members.{All, AllPairs, IsOfPair, member-of-pairsOf, pair-of-pairsOf, pairsOf-few, pairsOf-some}
 use Rattle.network.proofs.Laws.Members.{pairsOf-same-places}
 use Rattle.network.proofs.Laws.Least.{leastOf-le, leastFrom-leastOf, leastFrom-nil, leastOf-member}

@@ -26,7 +26,7 @@ use Rattle.network.specs.Rating.{
   ratingBy,
   ratingOver,
 }
-use Rattle.network.specs.Scan.{countedStops}
+use Rattle.network.specs.Engine.Scan.{countedStops}
 use Rattle.network.proofs.Laws.Lists.{map-same}
 use Rattle.network.proofs.Laws.Members.{keep-all}
 use Rattle.network.proofs.Laws.Tables.{below-of-member, below-same}

@@ -15,13 +15,13 @@ use lib.Arith.{lt-of-le-ne}
 use lib.ListN.{length, getD, take, set, length-append, length-take, length-set, replicate, length-replicate}
 use lib.Seq.{getD-take, getD-set-same, getD-set-other}
 use Rattle.network.specs.declared.Call.{Call}
-use Rattle.network.specs.Lists.{pick, keep, below, sumOf, leastOf, pairsOf}
+use Rattle.network.specs.Lists.{pick, keep, below, sumOf, leastOf, pairsOf, leastFrom}
 use Rattle.network.specs.Network.{Net}
 use Rattle.network.specs.Valid.{noCall}
 use Rattle.network.specs.declared.Network.{Network}
-use Rattle.network.specs.Stored.{netOf, callsIn}
+use Rattle.network.specs.Engine.Stored.{netOf, callsIn}
 use Rattle.network.specs.Rating.{callsOfStop, periodOf, gapOfCalls, pairGaps, gapOfStop, Counted, ratingBy}
-use Rattle.network.specs.Scan.{lastAt, callsBefore, LeadsBack, leastFrom, ratingSoFar, withStop}
+use Rattle.network.specs.Engine.Scan.{lastAt, callsBefore, LeadsBack, ratingSoFar, withStop}
 use Rattle.network.proofs.Laws.Lists.{getD-zeros}
 use Rattle.network.proofs.Laws.Members.{All, keep-all, keep-nil, keep-take-next, length-keep-le}
 use Rattle.network.proofs.Laws.Least.{leastFrom-le, leastFrom-pairsOf-snoc, leastFrom-snoc, leastOf-leastFrom, leastOf-snoc}

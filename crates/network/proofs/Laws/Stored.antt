@@ -11,13 +11,13 @@ use lib.Seq.{length-take-le, getD-take, getD-set-same, getD-set-other}
 use Rattle.network.specs.declared.Call.{Call}
 use Rattle.network.specs.declared.Check.the-variants.{Passes, Refused}
 use Rattle.network.specs.declared.Network.{Network}
-use Rattle.network.specs.declared.Told.the-variants as told
+use Rattle.network.specs.declared.Parsed.the-variants as parsed
 use Rattle.network.specs.Network.{Net, netWith, SoFar, withNetwork, Command, statesLine, callsByOffset, callsByRide, ends, extend}
 use Rattle.network.specs.Network.{maxLines, maxCycle, maxStop, maxCalls, maxCallsAtStop, cycle, howOftenAt, word, callOf, withLine, withCall}
 use Rattle.network.specs.Valid.{Valid, IsBytes, noCall}
 use Rattle.network.specs.Reading.{accepted, refused}
 use Rattle.network.specs.Grounds.{first, grounds}
-use Rattle.network.specs.Stored.{netOf, packed, callIn, callsIn, Sound, HasSize, Tells, readingOf}
+use Rattle.network.specs.Engine.Stored.{netOf, packed, callIn, callsIn, Sound, HasTotals, IsParsed, readingOf}
 use Rattle.network.proofs.Laws.Lists.{zero-ne-one, map-set, take-set-next}
 use Rattle.network.proofs.Laws.Divisor.{lcm-pos}
 use Rattle.network.proofs.Laws.Network.{cycle-withLine}
@@ -120,12 +120,12 @@ module _ (n : Network) (s : Sound n) where
             ap (λ (k : ℕ). packed (callIn k)) there ∙ s .packs i (omega (arith, h, f)) ∙ sym there
 
 -- The numbers of a network that is held are those that the grounds ask for
-pub has-size : (n : Network) → Sound n → HasSize (netOf n) (record { lines = n .lines; calls = n .calls; cycle = n .cycle })
-has-size n s = record { lines = sym (held-lines n s); calls = sym (held-calls n s); cycle-is = s .cycle-is }
+pub has-totals : (n : Network) → Sound n → HasTotals (netOf n) (record { lines = n .lines; calls = n .calls; cycle = n .cycle })
+has-totals n s = record { lines = sym (held-lines n s); calls = sym (held-calls n s); cycle-is = s .cycle-is }
 
 -- ---- what a command tells
 
-pub record LineTold (c : Command) (f : SoFar) (p : ℕ) (behind : List ℕ) (period common : ℕ) : Type 0 where
+pub record LineParsed (c : Command) (f : SoFar) (p : ℕ) (behind : List ℕ) (period common : ℕ) : Type 0 where
   pub passes : first (grounds c f p behind) ≡ Passes
   pub onward : c ≡ ends → ⊥
   pub extended : withNetwork f (withLine (f .network) period) ≡ extend c f behind
@@ -134,10 +134,10 @@ pub record LineTold (c : Command) (f : SoFar) (p : ℕ) (behind : List ℕ) (per
   pub cycle-pos : 0 < common
   pub cycle-le : common ≤ maxCycle
 
-pub tells-line : (c : Command) (f : SoFar) (p : ℕ) (behind : List ℕ) (period common : ℕ) → 0 < cycle (f .network) → Tells c f p behind (told.Line period common)
-    → LineTold c f p behind period common
-unfolding Tells extend
-tells-line c f p behind period common pos (passes, is, stated, made) =
+pub line-of-parsed : (c : Command) (f : SoFar) (p : ℕ) (behind : List ℕ) (period common : ℕ) → 0 < cycle (f .network) → IsParsed c f p behind (parsed.Line period common)
+    → LineParsed c f p behind period common
+unfolding IsParsed extend
+line-of-parsed c f p behind period common pos (passes, is, stated, made) =
     let fits = line-passes f p behind (ap (λ (d : Command). first (grounds d f p behind)) (sym is) ∙ passes) in
     record {
       passes = passes;
@@ -152,7 +152,7 @@ tells-line c f p behind period common pos (passes, is, stated, made) =
     apart : statesLine ≡ ends → ⊥
     apart e = zero-ne-one (cc)
 
-pub record CallTold (c : Command) (f : SoFar) (p : ℕ) (behind : List ℕ) (call : Call) : Type 0 where
+pub record CallParsed (c : Command) (f : SoFar) (p : ℕ) (behind : List ℕ) (call : Call) : Type 0 where
   pub passes : first (grounds c f p behind) ≡ Passes
   pub onward : c ≡ ends → ⊥
   pub extended : withNetwork f (withCall (f .network) call) ≡ extend c f behind
@@ -161,10 +161,10 @@ pub record CallTold (c : Command) (f : SoFar) (p : ℕ) (behind : List ℕ) (cal
   pub often : howOftenAt (call .line) (call .stop) (f .network .calls) < maxCallsAtStop
   pub room : length (f .network .calls) < maxCalls
 
-call-told : (c d : Command) (f : SoFar) (p : ℕ) (behind : List ℕ) (call : Call) (offset : ℕ) → first (grounds c f p behind) ≡ Passes → (d ≡ ends → ⊥) → c ≡ d → call ≡ callOf behind offset
-    → extend d f behind ≡ withNetwork f (withCall (f .network) (callOf behind offset)) → CallFits d (f .network) behind → CallTold c f p behind call
+call-parsed : (c d : Command) (f : SoFar) (p : ℕ) (behind : List ℕ) (call : Call) (offset : ℕ) → first (grounds c f p behind) ≡ Passes → (d ≡ ends → ⊥) → c ≡ d → call ≡ callOf behind offset
+    → extend d f behind ≡ withNetwork f (withCall (f .network) (callOf behind offset)) → CallFits d (f .network) behind → CallParsed c f p behind call
 unfolding callOf
-call-told c d f p behind call offset passes apart is made e fits =
+call-parsed c d f p behind call offset passes apart is made e fits =
     record {
       passes = passes;
       onward = λ g. apart (sym is ∙ g);
@@ -175,13 +175,13 @@ call-told c d f p behind call offset passes apart is made e fits =
       room = fits .room;
     }
 
-pub tells-call : (c : Command) (f : SoFar) (p : ℕ) (behind : List ℕ) (call : Call) → Tells c f p behind (told.Calls call) → CallTold c f p behind call
-unfolding Tells extend grounds
-tells-call c f p behind call (passes, inl (is, made)) =
-    call-told c callsByOffset f p behind call _ passes (λ e. zero-ne-one (cc)) is made refl
+pub call-of-parsed : (c : Command) (f : SoFar) (p : ℕ) (behind : List ℕ) (call : Call) → IsParsed c f p behind (parsed.Calls call) → CallParsed c f p behind call
+unfolding IsParsed extend grounds
+call-of-parsed c f p behind call (passes, inl (is, made)) =
+    call-parsed c callsByOffset f p behind call _ passes (λ e. zero-ne-one (cc)) is made refl
     (offset-passes f p behind (ap (λ (d : Command). first (grounds d f p behind)) (sym is) ∙ passes))
-tells-call c f p behind call (passes, inr (is, made)) =
-    call-told c callsByRide f p behind call _ passes (λ e. zero-ne-one (cc)) is made refl
+call-of-parsed c f p behind call (passes, inr (is, made)) =
+    call-parsed c callsByRide f p behind call _ passes (λ e. zero-ne-one (cc)) is made refl
     (ride-passes f p behind (ap (λ (d : Command). first (grounds d f p behind)) (sym is) ∙ passes) .0)
 
 -- ---- what other crates read of the network that is held

@@ -18,7 +18,7 @@ use Rattle.network.specs.Reading.{Reading, accepted, refused, Outcome, v
 use Rattle.network.specs.Valid.{IsBytes, Valid}
 use Rattle.network.specs.Rate.{ratingValues, onSheet, ratedOnSheet, rateOutcome}
 use Rattle.network.specs.Rating.{Counted, IsRatingOver, IsRating, rating}
-use Rattle.network.specs.Scan.{countedStops}
+use Rattle.network.specs.Engine.Scan.{countedStops}
 use Rattle.network.specs.Classes.{lowestAlike, isLowest, classRow, weightRow, classCount, lowestStops}
 use Rattle.network.specs.ClassCall.{rowsFit, classOutcome, classRowAfter, weightRowAfter, weightedRating, weightedOutcome}
 use Rattle.network.proofs.Laws.Members.{any-of-member, member-of-any, place-of-member}

@@ -8,10 +8,10 @@ use native.Mathlib.Decide.{decLt}
 use native.Mathlib.Omega.{arith}
 use lib.ListN.{length, getD}
 use Rattle.network.specs.declared.Call.{Call}
-use Rattle.network.specs.Lists.{leastOf, pairsOf}
+use Rattle.network.specs.Lists.{leastOf, pairsOf, leastFrom}
 use Rattle.network.specs.Network.{Net, cycle, maxPeriod}
 use Rattle.network.specs.Rating.{periodOf, callsOfStop}
-use Rattle.network.specs.Scan.{leastFrom, callsBefore}
+use Rattle.network.specs.Engine.Scan.{callsBefore}
 use Rattle.network.specs.Valid.{Valid, noCall}
 use Rattle.network.proofs.Laws.Members.{member-of-pairsOf, member-of-place, pairsOf-few, pairsOf-some}
 use Rattle.network.proofs.Laws.Least.{leastFrom-le, leastFrom-leastOf, leastFrom-min, leastFrom-nil, leastFrom-pairsOf-snoc, leastFrom-snoc}
@@ -21,7 +21,7 @@ use Rattle.network.proofs.Laws.Divisor.{gcd-le-left, quotient-pos}
 use Rattle.network.proofs.Laws.Gaps.{callsBefore-hit, callsBefore-miss, cycle-pos, callsBefore-none, callsOfStop-stated}
 use Rattle.network.proofs.Laws.Gaps.{period-divides-cycle, periodOf-le, periodOf-pos}
 use Rattle.search.specs.Caps.{halves, evenSpacing, capOfCalls, cap}
-use Rattle.search.specs.CapScan.{halfOf, visitsOf, leastHalf, boundsOf}
+use Rattle.search.specs.Engine.CapScan.{halfOf, visitsOf, leastHalf, boundsOf}
 
 -- ---- forward through the calls at a stop
 

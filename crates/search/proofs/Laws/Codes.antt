@@ -9,7 +9,7 @@ use borrow.Author.Tests.{lt-ltb}
 use lib.Dec.{ltb}
 use lib.ListN.{getD}
 use Rattle.network.specs.Lists.{pick}
-use Rattle.search.specs.Held.{firstIn, countIn}
+use Rattle.search.specs.Engine.Representation.{firstIn, countIn}
 
 -- Line, stop and offset of a packed call
 abbrev pub lineIn : ℕ → ℕ

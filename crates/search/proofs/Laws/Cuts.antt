@@ -14,7 +14,7 @@ use Rattle.network.proofs.Laws.Gaps.{Above, above-of-isAbove, below-of-not-isAb
 use Rattle.network.proofs.Laws.Gaps.{above-none}
 use Rattle.search.specs.declared.Cut.{Cut}
 use Rattle.search.specs.declared.Rule.the-variants as rules
-use Rattle.search.specs.Held.{ruleOf, rated, isShort, IsCut}
+use Rattle.search.specs.Engine.Representation.{ruleOf, rated, isShort, IsCut}
 use Rattle.search.specs.Search.{notAbove, aboveBest, atLeast, bySum}
 
 -- ---- what is no larger

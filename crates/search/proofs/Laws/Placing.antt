@@ -14,7 +14,8 @@ use Rattle.network.specs.declared.Call.{Call}
 use Rattle.network.specs.declared.Rating.{Rating}
 use Rattle.network.specs.Network.{Net, isServed, maxPeriod}
 use Rattle.network.specs.Rating.{gapOfCalls, counted, ratingBy}
-use Rattle.network.specs.Scan.{leastFrom, callsBefore}
+use Rattle.network.specs.Lists.{leastFrom}
+use Rattle.network.specs.Engine.Scan.{callsBefore}
 use Rattle.network.specs.Valid.{Valid, noCall}
 use Rattle.network.proofs.Laws.Lists.{take-set-next}
 use Rattle.network.proofs.Laws.Least.{leastFrom-le}
@@ -22,10 +23,10 @@ use Rattle.network.proofs.Laws.Gaps.{served-of-call, ratingBy-least-mono, ratin
 use Rattle.search.specs.declared.Cut.{Cut}
 use Rattle.search.specs.declared.Placed.{Placed}
 use Rattle.search.specs.Caps.{cap, upperValue, upperRating}
-use Rattle.search.specs.Layout.{byLine, valueAfter}
-use Rattle.search.specs.Held.{isShort, startsOf, withStart, Represents}
+use Rattle.search.specs.Engine.Layout.{byLine, valueAfter}
+use Rattle.search.specs.Engine.Representation.{isShort, startsOf, withStart, Represents}
 use Rattle.search.proofs.Laws.Layout.{byLine-line-lt, length-byLine-all, length-byLine-le}
-use Rattle.search.proofs.Laws.Linked.{byLine-all}
+use Rattle.search.proofs.Laws.CallRows.{byLine-all}
 use Rattle.search.proofs.Laws.Values.{value-hit, value-miss, value-falls, value-placed, value-local}
 use Rattle.search.proofs.Laws.Cuts.{short-below}
 use Rattle.search.proofs.Laws.Lowered.{value-le-sum, rating-lowered}

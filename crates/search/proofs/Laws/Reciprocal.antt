@@ -5,7 +5,7 @@ use mathlib.Core.Path.{_≡_, refl, ap}
 use native.Mathlib.Nat.{mod-lt, div-add-mod, mul-le-mul-left}
 use native.Mathlib.Decide.{decLt}
 use native.Mathlib.Omega.{arith}
-use Rattle.search.specs.Held.{reciprocal, withReciprocal}
+use Rattle.search.specs.Engine.Representation.{reciprocal, withReciprocal}
 
 -- ---- the law
 

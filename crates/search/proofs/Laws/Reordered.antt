@@ -13,11 +13,10 @@ use Rattle.network.specs.declared.Call.{Call}
 use Rattle.network.specs.declared.Rating.{Rating}
 use Rattle.network.specs.Archive.{tidied, SameNetwork}
 use Rattle.network.specs.Divisor.{gcd}
-use Rattle.network.specs.Lists.{pick, leastOf, pairsOf, sumOf}
+use Rattle.network.specs.Lists.{pick, leastOf, pairsOf, sumOf, leastFrom}
 use Rattle.network.specs.Network.{Net, cycle}
 use Rattle.network.specs.Rating.{periodOf, pairGaps, callsOfStop, ratingBy}
 use Rattle.network.specs.Reading.{accepted}
-use Rattle.network.specs.Scan.{leastFrom}
 use Rattle.network.specs.Valid.{noCall, Valid}
 use Rattle.network.proofs.Laws.Divisor.{gcd-comm}
 use Rattle.network.proofs.Laws.Gaps.{gapOfStop-permuted, leastFrom-pairGaps-few, leastFrom-pairGaps-more, callsOfStop-period-pos}

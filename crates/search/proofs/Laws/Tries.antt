@@ -19,7 +19,7 @@ use Rattle.search.specs.declared.Walk as code
 use Rattle.search.specs.Caps.{cap, upperRating}
 use Rattle.search.specs.Walk.{State, Rule, isOver, tryMade, stop, becomesBest, unless, stopIf, oneTry, eachStart, walk}
 use Rattle.search.specs.Search.{startCounts}
-use Rattle.search.specs.Held.{ruleOf, rated, isShort, IsCut, startsOf, withStart, stateOf, withBest, walkFrom, tryAt, CanTry, CanPlace, PlacedMore, GivenUp}
+use Rattle.search.specs.Engine.Representation.{ruleOf, rated, isShort, IsCut, startsOf, withStart, stateOf, withBest, walkFrom, tryAt, CanTry, CanPlace, PlacedMore, GivenUp}
 use Rattle.search.specs.declared.Cut.{Cut}
 use Rattle.search.specs.declared.Placed.{Placed}
 use Rattle.search.specs.declared.Task.{Task}

@@ -15,7 +15,7 @@ use Rattle.network.specs.Network.{Net}
 use Rattle.network.specs.Valid.{noCall, Valid}
 use Rattle.network.specs.Rating.{gapOfCalls, pairGaps, gapOfStop, callsOfStop, stopGap}
 use Rattle.network.specs.Rating.{counted, ratingBy, rating}
-use Rattle.network.specs.Scan.{leastFrom}
+use Rattle.network.specs.Lists.{leastFrom}
 use Rattle.network.proofs.Laws.Members.{AllPairs, keep-pairs, keep-has-pair, keep-every, of-all}
 use Rattle.network.proofs.Laws.Least.{leastFrom-le}
 use Rattle.network.proofs.Laws.Gaps.{gapOfStop-le-pair, gapOfStop-attained, callsOfStop-stated, gapOfCalls-local, gapOfStop-none}

@@ -12,11 +12,11 @@ use lib.Dec.{eqb, ltb}
 use lib.IntN.{ℤ}
 use lib.ListN.{length, getD}
 use Rattle.network.specs.declared.Call.{Call}
-use Rattle.network.specs.Lists.{keep}
+use Rattle.network.specs.Lists.{keep, leastFrom}
 use Rattle.network.specs.Network.{Net}
 use Rattle.network.specs.Valid.{noCall, Valid}
 use Rattle.network.specs.Rating.{periodOf, gapOfCalls, pairGaps, gapOfStop, callsOfStop}
-use Rattle.network.specs.Scan.{callsBefore, leastFrom}
+use Rattle.network.specs.Engine.Scan.{callsBefore}
 use Rattle.network.proofs.Laws.Members.{All, keep-all, keep-swap}
 use Rattle.network.proofs.Laws.Permutations.{length-permuted, keep-permuted}
 use Rattle.network.proofs.Laws.Least.{leastFrom-le}
@@ -24,7 +24,7 @@ use Rattle.network.proofs.Laws.Gaps.{SameStart, gapOfStop-cong, gapOfStop-permu
 use Rattle.network.proofs.Laws.Gaps.{callsBefore-all, callsBefore-is, callsOfStop-is, gapOfCalls-local, leastFrom-pairGaps-few}
 use Rattle.network.proofs.Laws.Gaps.{leastFrom-pairGaps-more, leastFrom-pairGaps-snoc}
 use Rattle.search.specs.Caps.{placedCalls, upperValue}
-use Rattle.search.specs.Layout.{byLine, valueAfter}
+use Rattle.search.specs.Engine.Layout.{byLine, valueAfter}
 use Rattle.search.proofs.Laws.Layout.{byLine-permuted, byLine-prefix}
 
 -- ---- one call more

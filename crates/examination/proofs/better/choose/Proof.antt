@@ -4,7 +4,7 @@ use mathlib.Core.Bool.{Bool}
 use borrow.Author.Needs.{needs}
 use Rattle.network.specs.Lists.{pick}
 use Rattle.network.specs.Reading.{readFile}
-use Rattle.examination.specs.Chosen.{betterFrom}
+use Rattle.examination.specs.Engine.Chosen.{betterFrom}
 use Rattle.examination.specs.Sheets.{first, second, neither, choiceOf, betterOf}
 use Rattle.examination.proofs.Laws.Chosen.{ratingOn-of-rate, betterOf-from}
 use Rattle.examination.proofs.better.choose.Statement.{statement}

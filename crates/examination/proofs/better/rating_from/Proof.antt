@@ -1,7 +1,7 @@
 -- `examination::better::rating_from` meets its contract, case by case. Assumes nothing.
 use mathlib.Core.Path.{sym, ap}
 use borrow.Author.Needs.{needs}
-use Rattle.examination.specs.Chosen.{ratingFrom}
+use Rattle.examination.specs.Engine.Chosen.{ratingFrom}
 use Rattle.examination.proofs.better.rating_from.Statement.{statement}
 use Rattle.examination.proofs.better.rating_from.Tie as tie
 

@@ -16,7 +16,7 @@ use mir.Val.{toZ, ofZ}
 use mir.Facts.{toZ-ofZ}
 use Rattle.network.specs.Lists.{pick}
 use Rattle.examination.specs.Bytes.{starts}
-use Rattle.examination.specs.Taken.{startAt, isWhole, sheetOf, held}
+use Rattle.examination.specs.Engine.Taken.{startAt, isWhole, sheetOf, held}
 use Rattle.examination.proofs.Laws.Bytes.{length-starts, start-is-at}
 use Rattle.examination.proofs.bytes.sheet_of.Statement.{statement}
 use Rattle.examination.proofs.bytes.sheet_of.Tie as tie

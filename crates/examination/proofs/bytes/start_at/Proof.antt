@@ -14,7 +14,7 @@ use Rattle.network.specs.Lists.{pick}
 use Rattle.network.specs.Network.{word}
 use Rattle.network.proofs.Laws.Integers.{difference, difference-pos, difference-sub, eq-of-difference}
 use Rattle.examination.specs.Bytes.{signed}
-use Rattle.examination.specs.Taken.{startAt}
+use Rattle.examination.specs.Engine.Taken.{startAt}
 use Rattle.examination.proofs.bytes.start_at.Statement.{statement}
 use Rattle.examination.proofs.bytes.start_at.Tie as tie
 

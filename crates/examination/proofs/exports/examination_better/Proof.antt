@@ -9,7 +9,7 @@ use Rattle.network.specs.Reading.{readFile}
 use Rattle.examination.specs.Bytes.{betterBytes}
 use Rattle.examination.specs.Exports.{betterStatus}
 use Rattle.examination.specs.Sheets.{choiceOf, betterOf}
-use Rattle.examination.specs.Taken.{held}
+use Rattle.examination.specs.Engine.Taken.{held}
 use Rattle.examination.proofs.Laws.Bytes.{better-on-bytes}
 use Rattle.examination.proofs.exports.examination_better.Statement.{statement}
 use Rattle.examination.proofs.exports.examination_better.Tie as tie

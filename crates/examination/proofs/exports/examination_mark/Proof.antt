@@ -10,7 +10,7 @@ use Rattle.network.specs.Reading.{Reading, readFile}
 use Rattle.examination.specs.Bytes.{byBytes}
 use Rattle.examination.specs.Exports.{markStatus, markRow}
 use Rattle.examination.specs.Sheets.{MarkOutcome, refusal, markAnswer, markOutcome}
-use Rattle.examination.specs.Taken.{held}
+use Rattle.examination.specs.Engine.Taken.{held}
 use Rattle.examination.proofs.Laws.Bytes.{mark-on-bytes}
 use Rattle.examination.proofs.Laws.Refusals.{mark-low}
 use Rattle.examination.proofs.exports.examination_mark.Statement.{statement}

@@ -9,7 +9,7 @@ use Rattle.network.specs.Rate.{rateAnswer, ratedOnSheet, rateOutcome}
 use Rattle.network.specs.Reading.{Outcome, refusal, readFile}
 use Rattle.examination.specs.Bytes.{byBytes}
 use Rattle.examination.specs.Exports.{status, rowAfter}
-use Rattle.examination.specs.Taken.{held}
+use Rattle.examination.specs.Engine.Taken.{held}
 use Rattle.examination.proofs.Laws.Bytes.{rated-on-bytes}
 use Rattle.examination.proofs.Laws.Refusals.{sheet-low}
 use Rattle.examination.proofs.exports.examination_rate.Statement.{statement}

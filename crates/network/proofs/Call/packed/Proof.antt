@@ -2,7 +2,7 @@
 use mathlib.Core.Path.{refl}
 use native.Mathlib.Omega.{arith}
 use borrow.Author.Needs.{needs}
-use Rattle.network.specs.Stored.{packed}
+use Rattle.network.specs.Engine.Stored.{packed}
 use Rattle.network.proofs.Laws.Packed.{callIn-packed}
 use Rattle.network.proofs.Call.packed.Statement.{statement}
 use Rattle.network.proofs.Call.packed.Tie as tie

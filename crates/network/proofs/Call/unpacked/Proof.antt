@@ -1,7 +1,7 @@
 -- `network::Call::unpacked` meets its contract: the quotients and remainders are those of the definition. Assumes nothing.
 use mathlib.Core.Path.{refl}
 use borrow.Author.Needs.{needs}
-use Rattle.network.specs.Stored.{callIn}
+use Rattle.network.specs.Engine.Stored.{callIn}
 use Rattle.network.proofs.Call.unpacked.Statement.{statement}
 use Rattle.network.proofs.Call.unpacked.Tie as tie
 

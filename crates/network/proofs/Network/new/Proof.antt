@@ -3,7 +3,7 @@ use mathlib.Core.Path.{refl}
 use native.Mathlib.Omega.{arith}
 use Rattle.network.specs.Divisor.{commonCycle, cycleFrom}
 use Rattle.network.specs.Network.{cycle}
-use Rattle.network.specs.Stored.{netOf}
+use Rattle.network.specs.Engine.Stored.{netOf}
 use Rattle.network.proofs.Network.new.Statement.{statement}
 use Rattle.network.proofs.Network.new.Tie as tie
 

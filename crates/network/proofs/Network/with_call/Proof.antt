@@ -2,7 +2,7 @@
 -- Assumes nothing.
 use mathlib.Core.Path.{sym, ap, _∙_}
 use borrow.Author.Needs.{needs}
-use Rattle.network.specs.Stored.{packed}
+use Rattle.network.specs.Engine.Stored.{packed}
 use Rattle.network.proofs.Laws.Stored.{call-added, sound-call}
 use Rattle.network.proofs.Network.with_call.Statement.{statement}
 use Rattle.network.proofs.Network.with_call.Tie as tie

@@ -5,7 +5,7 @@ use mathlib.Core.Bool.{true}
 use borrow.Author.Needs.{needs}
 use native.Mathlib.Omega.{arith}
 use Rattle.network.specs.Lists.{pick}
-use Rattle.network.specs.Scan.{withStop}
+use Rattle.network.specs.Engine.Scan.{withStop}
 use Rattle.network.proofs.Rating.with_stop.Statement.{statement}
 use Rattle.network.proofs.Rating.with_stop.Tie as tie
 

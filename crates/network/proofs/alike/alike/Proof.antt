@@ -10,7 +10,7 @@ use lib.ListN.{length, getD}
 use Rattle.network.specs.Lists.{allBelow}
 use Rattle.network.specs.Network.{maxStop}
 use Rattle.network.specs.Classes.{ordered, sameRemainder, isAlike}
-use Rattle.network.specs.Placed.{CountsOf, Placed, SameLines, sameLineIn}
+use Rattle.network.specs.Engine.Placed.{CountsOf, Placed, SameLines, sameLineIn}
 use Rattle.network.proofs.Laws.Tables.{allBelow-next, allBelow-fails}
 use Rattle.network.proofs.Laws.Placed.{counts-few, not-alike-by-counts, not-alike-by-lines, same-lines-by-rows, alike-by-differences}
 use Rattle.network.proofs.alike.alike.Statement.{statement}

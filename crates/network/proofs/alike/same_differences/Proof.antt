@@ -10,7 +10,7 @@ use borrow.Author.Tests.{not-true, not-false}
 use lib.ListN.{length}
 use Rattle.network.specs.Lists.{allBelow}
 use Rattle.network.specs.Classes.{ordered, sameRemainder}
-use Rattle.network.specs.Placed.{Placed, SameLines}
+use Rattle.network.specs.Engine.Placed.{Placed, SameLines}
 use Rattle.network.proofs.Laws.Tables.{allBelow-next, allBelow-fails}
 use Rattle.network.proofs.alike.same_differences.Statement.{statement}
 use Rattle.network.proofs.alike.same_differences.Tie as tie

@@ -9,7 +9,7 @@ use borrow.Author.Tests.{eq-eqb, ne-eqb}
 use lib.Dec.{eqb}
 use Rattle.network.specs.declared.Call.{Call}
 use Rattle.network.specs.Lists.{allBelow}
-use Rattle.network.specs.Placed.{sameLineIn}
+use Rattle.network.specs.Engine.Placed.{sameLineIn}
 use Rattle.network.proofs.Laws.Tables.{allBelow-next, allBelow-fails}
 use Rattle.network.proofs.alike.same_lines.Statement.{statement}
 use Rattle.network.proofs.alike.same_lines.Tie as tie

@@ -9,7 +9,7 @@ use borrow.Author.Tests.{le-leb, lt-leb}
 use lib.ListN.{length, getD}
 use Rattle.network.specs.Network.{isServed}
 use Rattle.network.specs.Classes.{ordered, isAlike}
-use Rattle.network.specs.Placed.{CountsOf, Placed}
+use Rattle.network.specs.Engine.Placed.{CountsOf, Placed}
 use Rattle.network.proofs.Laws.ClassRows.{lowestAlike-found, lowestAlike-none}
 use Rattle.network.proofs.Laws.Placed.{served-of-length}
 use Rattle.network.proofs.classes.class_of.Statement.{statement}

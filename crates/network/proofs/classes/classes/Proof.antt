@@ -7,7 +7,7 @@ use lib.ListN.{length}
 use Rattle.network.specs.declared.Check.{Check}
 use Rattle.network.specs.Reading.{readFile, accepted}
 use Rattle.network.specs.ClassCall.{classAnswer, rowsFit}
-use Rattle.network.specs.Stored.{netOf, readingOf}
+use Rattle.network.specs.Engine.Stored.{netOf, readingOf}
 use Rattle.network.specs.Valid.{Valid, IsBytes}
 use Rattle.network.proofs.Laws.Lists.{and-both, and-not-left, and-not-right}
 use Rattle.network.proofs.Laws.Valid.{accepted-valid}

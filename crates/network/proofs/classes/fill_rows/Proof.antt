@@ -11,8 +11,8 @@ use borrow.Author.Tests.{eq-eqb, ne-eqb}
 use lib.ListN.{length, getD, set, length-set}
 use Rattle.network.specs.Lists.{countBelow}
 use Rattle.network.specs.Classes.{isLowest}
-use Rattle.network.specs.Placed.{CountsOf, Placed}
-use Rattle.network.specs.Stored.{netOf}
+use Rattle.network.specs.Engine.Placed.{CountsOf, Placed}
+use Rattle.network.specs.Engine.Stored.{netOf}
 use Rattle.network.proofs.Laws.Tables.{countBelow-le}
 use Rattle.network.proofs.Laws.Stored.{held-lines, held-period}
 use Rattle.network.proofs.Laws.Classes.{isInClassOf}

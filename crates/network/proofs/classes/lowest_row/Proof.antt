@@ -1,4 +1,4 @@
--- `network::classes::lowest_row` meets its contract. The loop's invariant: of the stops passed the row marks the lowest ones. Assumes nothing.
+-- `network::classes::lowest_row` meets its contract. The loop's invariant: of the stops passed the row flags the lowest ones. Assumes nothing.
 use Prim.Native.Nat.{ℕ, _+_, _-_, _<_, _≤_}
 use mathlib.Core.Path.{_≡_, refl, sym, ap, _∙_}
 use mathlib.Core.List.{List}
@@ -16,23 +16,23 @@ use Rattle.network.proofs.classes.lowest_row.Statement.{statement}
 use Rattle.network.proofs.classes.lowest_row.Tie as tie
 
 -- The row after so many stops
-abbrev Marked : List ℕ → List ℕ → ℕ → Type 0
-Marked classes row stop =
+abbrev Flagged : List ℕ → List ℕ → ℕ → Type 0
+Flagged classes row stop =
     (stop ≤ 64)
     × (length row ≡ 64)
     × ((s : ℕ) → s < stop → ltb 0 (getD row s 0) ≡ eqb (getD classes s 0) s)
     × ((s : ℕ) → stop ≤ s → _≡_ {A = ℕ} (getD row s 0) 0)
 
 abbrev Inv-loop : tie.InvT-loop
-Inv-loop classes row₀ stop₀ row stop = Marked classes row stop
+Inv-loop classes row₀ stop₀ row stop = Flagged classes row stop
 
 abbrev μ-loop : tie.MeasureT-loop
 μ-loop classes row₀ stop₀ row stop = 64 - stop
 
 -- One stop more
-module _ (classes row : List ℕ) (stop : ℕ) (inv : Marked classes row stop) (low : stop < 64) where
-  marked : getD classes stop 0 ≡ stop → Marked classes (set row stop 1) (stop + 1)
-  marked e = (
+module _ (classes row : List ℕ) (stop : ℕ) (inv : Flagged classes row stop) (low : stop < 64) where
+  flagged : getD classes stop 0 ≡ stop → Flagged classes (set row stop 1) (stop + 1)
+  flagged e = (
     omega arith,
     length-set row stop 1 ∙ inv .1,
     λ s h. go s h (ℕ-discrete s stop),
@@ -46,7 +46,7 @@ module _ (classes row : List ℕ) (stop : ℕ) (inv : Marked classes row stop) (
           ∙ sym (eq-eqb _ _ (ap (λ (k : ℕ). getD classes k 0) q ∙ e ∙ sym q))
       go s h (no d) = ap (ltb 0) (getD-set-other row stop s 1 0 d) ∙ inv .2 s (lt-of-le-ne (omega arith) d)
 
-  passed : (getD classes stop 0 ≡ stop → ⊥) → Marked classes row (stop + 1)
+  passed : (getD classes stop 0 ≡ stop → ⊥) → Flagged classes row (stop + 1)
   passed f = (omega arith, inv .1, λ s h. go s h (ℕ-discrete s stop), λ s h. inv .3 s (omega arith))
     where
       go : (s : ℕ) → s < stop + 1 → Dec (s ≡ stop) → ltb 0 (getD row s 0) ≡ eqb (getD classes s 0) s
@@ -78,7 +78,7 @@ loop-again c =
     let l = t .before .loop in
     let classes = t .before .before .args .classes .now in
     ⊎-elim
-    (λ w. rw (w .1) (marked classes (l .row) (l .stop) (l .inv) (t .loop-test .taken) (w .0 .taken)))
+    (λ w. rw (w .1) (flagged classes (l .row) (l .stop) (l .inv) (t .loop-test .taken) (w .0 .taken)))
     (λ w. rw (w .1) (passed classes (l .row) (l .stop) (l .inv) (t .loop-test .taken) (w .0 .left)))
     (c .if1 .came)
 

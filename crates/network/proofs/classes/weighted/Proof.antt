@@ -10,7 +10,7 @@ use Rattle.network.specs.Lists.{pick}
 use Rattle.network.specs.Reading.{Reading, accepted, refusal, readFile}
 use Rattle.network.specs.Rate.{rateAnswer, ratingValues, onSheet, ratedOnSheet}
 use Rattle.network.specs.ClassCall.{weightedRating, weightedOutcome}
-use Rattle.network.specs.Stored.{netOf, readingOf}
+use Rattle.network.specs.Engine.Stored.{netOf, readingOf}
 use Rattle.network.specs.Valid.{Valid, IsBytes}
 use Rattle.network.proofs.Laws.Valid.{accepted-valid}
 use Rattle.network.proofs.Laws.Stored.{held-lines}

@@ -8,8 +8,8 @@ use lib.Dec.{eqb}
 use lib.ListN.{length, getD}
 use Rattle.network.specs.Network.{Net}
 use Rattle.network.specs.Rating.{ratingOver}
-use Rattle.network.specs.Scan.{Lent, countedStops}
-use Rattle.network.specs.Stored.{netOf}
+use Rattle.network.specs.Engine.Scan.{Lent, countedStops}
+use Rattle.network.specs.Engine.Stored.{netOf}
 use Rattle.network.specs.Classes.{classRow, weightRow, lowestStops}
 use Rattle.network.specs.ClassCall.{weightedRating}
 use Rattle.network.proofs.Laws.Rate.{rating-of-rows, stopGap-le-maxPeriod}

@@ -6,8 +6,8 @@ use native.Mathlib.Omega.{arith}
 use lib.ListN.{length, getD, take, replicate, getD-replicate}
 use Rattle.network.specs.Network.{isServed}
 use Rattle.network.specs.Rating.{counted, ratingOver, rating}
-use Rattle.network.specs.Scan.{Lent, countedStops}
-use Rattle.network.specs.Stored.{netOf, callsIn}
+use Rattle.network.specs.Engine.Scan.{Lent, countedStops}
+use Rattle.network.specs.Engine.Stored.{netOf, callsIn}
 use Rattle.network.proofs.Laws.Rate.{rating-of-rows, counted-served, stopGap-le-maxPeriod}
 use Rattle.network.proofs.rate.sheet_rating.Statement.{statement}
 use Rattle.network.proofs.rate.sheet_rating.Tie as tie

@@ -8,7 +8,7 @@ use mir.Val.{SFits, toZ, ofZ}
 use mir.Facts.{toZ-ofZ}
 use Rattle.network.specs.Gap.{residue, fold}
 use Rattle.network.specs.Rating.{arrivalOf}
-use Rattle.network.specs.Scan.{gapBy}
+use Rattle.network.specs.Engine.Scan.{gapBy}
 use borrow.Author.Needs.{needs}
 use Rattle.network.proofs.ratings.call_gap.Statement.{statement}
 use Rattle.network.proofs.ratings.call_gap.Tie as tie

@@ -9,10 +9,10 @@ use borrow.Author.Needs.{needs}
 use lib.ListN.{length, getD}
 use Rattle.network.specs.declared.Call.{Call}
 use Rattle.network.specs.declared.Network.{Network}
-use Rattle.network.specs.Lists.{keep}
+use Rattle.network.specs.Lists.{keep, leastFrom}
 use Rattle.network.specs.Rating.{periodOf, gapOfCalls, gapOfStop}
-use Rattle.network.specs.Scan.{callsBefore, leastFrom}
-use Rattle.network.specs.Stored.{netOf, callsIn, Sound}
+use Rattle.network.specs.Engine.Scan.{callsBefore}
+use Rattle.network.specs.Engine.Stored.{netOf, callsIn, Sound}
 use Rattle.network.specs.Valid.{Valid, noCall}
 use Rattle.network.proofs.Laws.Stored.{length-held, held-lines, held-period, held-call-line, held-period-pos}
 use Rattle.network.proofs.Laws.Scan.{callsBefore-some, gapOfStop-next, callsBefore-all}

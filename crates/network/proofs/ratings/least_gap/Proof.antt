@@ -9,12 +9,12 @@ use lib.IntN.{ℤ}
 use lib.ListN.{length, getD}
 use Rattle.network.specs.declared.Call.{Call}
 use Rattle.network.specs.declared.Network.{Network}
-use Rattle.network.specs.Lists.{keep}
+use Rattle.network.specs.Lists.{keep, leastFrom}
 use Rattle.network.specs.Divisor.{gcd}
 use Rattle.network.specs.Gap.{gapOf}
 use Rattle.network.specs.Rating.{periodOf, gapOfCalls}
-use Rattle.network.specs.Scan.{lastAt, callsBefore, leastFrom, LeadsBack, DivisorsOf, gapBy, Rows, Beside}
-use Rattle.network.specs.Stored.{netOf, callIn, callsIn}
+use Rattle.network.specs.Engine.Scan.{lastAt, callsBefore, LeadsBack, DivisorsOf, gapBy, Rows, Beside}
+use Rattle.network.specs.Engine.Stored.{netOf, callIn, callsIn}
 use Rattle.network.specs.Valid.{noCall}
 use Rattle.network.proofs.Laws.Divisor.{gcd-pos-left}
 use Rattle.network.proofs.Laws.Packed.{call-in-row}

@@ -9,7 +9,7 @@ use native.Mathlib.Omega.{arith}
 use lib.ListN.{getD}
 use Rattle.network.specs.declared.Rating.{Rating}
 use Rattle.network.specs.Lists.{below}
-use Rattle.network.specs.Scan.{ratingSoFar, countedStops, withStop}
+use Rattle.network.specs.Engine.Scan.{ratingSoFar, countedStops, withStop}
 use Rattle.network.proofs.Laws.Scan.{countedBelow, rating-counted, rating-passed, rating-of-so-far}
 use Rattle.network.proofs.ratings.rating_over.Statement.{statement}
 use Rattle.network.proofs.ratings.rating_over.Tie as tie

@@ -10,8 +10,8 @@ use lib.ListN.{length, getD, set}
 use Rattle.network.specs.declared.Call.{Call}
 use Rattle.network.specs.declared.Network.{Network}
 use Rattle.network.specs.Rating.{gapOfStop, callsOfStop, stopGap}
-use Rattle.network.specs.Scan.{lastAt, callsBefore, LeadsBack, DivisorsOf, Lent, Rows, Beside}
-use Rattle.network.specs.Stored.{netOf, callIn, callsIn}
+use Rattle.network.specs.Engine.Scan.{lastAt, callsBefore, LeadsBack, DivisorsOf, Lent, Rows, Beside}
+use Rattle.network.specs.Engine.Stored.{netOf, callIn, callsIn}
 use Rattle.network.specs.Valid.{noCall}
 use Rattle.network.proofs.Laws.Packed.{call-in-row, callIn-stop}
 use Rattle.network.proofs.Laws.Scan.{Scanned, scanned-none, scanned-counted, scanned-passed, lastAt-le, lastAt-landed, callsBefore-lastAt}

@@ -1,4 +1,4 @@
--- `network::ratings::served_by` meets its contract. The loop's invariant: the row marks the stops of the calls passed. Assumes nothing.
+-- `network::ratings::served_by` meets its contract. The loop's invariant: the row flags the stops of the calls passed. Assumes nothing.
 use Prim.Native.Nat.{ℕ, _+_, _-_, _<_, _≤_}
 use mathlib.Core.Path.{_≡_, refl, sym, ap, subst, _∙_}
 use mathlib.Core.Bool.{_||_, or-false}
@@ -13,7 +13,7 @@ use lib.Seq.{getD-set-same, getD-set-other}
 use Rattle.network.specs.declared.Call.{Call}
 use Rattle.network.specs.Lists.{any}
 use Rattle.network.specs.Network.{isServed}
-use Rattle.network.specs.Stored.{callIn, callsIn}
+use Rattle.network.specs.Engine.Stored.{callIn, callsIn}
 use Rattle.network.specs.Valid.{noCall}
 use Rattle.network.proofs.Laws.Lists.{any-take-next, or-right, getD-zeros}
 use Rattle.network.proofs.Laws.Packed.{call-in-row, callIn-stop}
@@ -27,8 +27,8 @@ Inv-loop list calls row₀ i₀ row i =
 abbrev μ-loop : tie.MeasureT-loop
 μ-loop list calls row₀ i₀ row i = calls - i
 
--- One call more marks its stop
-marked :
+-- One call more flags its stop
+flagged :
     (row : List ℕ) (l : List Call) (i stop : ℕ)
     → length row ≡ 64
     → i < length l
@@ -37,11 +37,11 @@ marked :
     → Dec (stop ≡ getD l i noCall .stop)
     → ltb 0 (getD (set row (getD l i noCall .stop) 1) stop 0) ≡ isServed stop (take (i + 1) l)
 unfolding isServed
-marked row l i stop r h low e (yes q) =
+flagged row l i stop r h low e (yes q) =
     ap (λ (k : ℕ). ltb 0 (getD (set row (getD l i noCall .stop) 1) k 0)) q
     ∙ ap (ltb 0) (getD-set-same row (getD l i noCall .stop) 1 0 (rw r low))
     ∙ sym (any-take-next (λ (c : Call). eqb (c .stop) stop) l i noCall h ∙ or-right (any (λ (c : Call). eqb (c .stop) stop) (take i l)) _ (eq-eqb _ _ (sym q)))
-marked row l i stop r h low e (no f) =
+flagged row l i stop r h low e (no f) =
     ap (ltb 0) (getD-set-other row (getD l i noCall .stop) stop 1 0 f)
     ∙ e
     ∙ sym
@@ -73,7 +73,7 @@ module _ (u : tie.After-unpacked Inv-loop μ-loop) where
   next-served stop h =
       let l = turn .before .loop in
       subst (λ (k : Call). ltb 0 (getD (set (l .row) (k .stop) 1) stop 0) ≡ isServed stop (take (i + 1) (callsIn list))) (sym call-is)
-      (marked (l .row) (callsIn list) i stop (l .inv .1) (omega (arith, small turn, length-map list callIn, turn .before .before .pre .1)) (subst (λ (k : Call). k .stop < 64) call-is low) (l .inv .2 stop h)
+      (flagged (l .row) (callsIn list) i stop (l .inv .1) (omega (arith, small turn, length-map list callIn, turn .before .before .pre .1)) (subst (λ (k : Call). k .stop < 64) call-is low) (l .inv .2 stop h)
       (ℕ-discrete stop _))
 
 loop-holds : tie.Need-loop-holds Inv-loop μ-loop

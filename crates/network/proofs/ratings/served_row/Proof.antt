@@ -1,5 +1,5 @@
 -- `network::ratings::served_row` meets its contract: the calls of a network are the first of its list. Assumes nothing.
-use Rattle.network.specs.Stored.{netOf}
+use Rattle.network.specs.Engine.Stored.{netOf}
 use Rattle.network.proofs.ratings.served_row.Statement.{statement}
 use Rattle.network.proofs.ratings.served_row.Tie as tie
 

@@ -6,8 +6,8 @@ use native.Mathlib.Omega.{arith}
 use borrow.Author.Needs.{needs}
 use lib.ListN.{length, getD}
 use Rattle.network.specs.Divisor.{gcd}
-use Rattle.network.specs.Scan.{DivisorsOf, Lent}
-use Rattle.network.specs.Stored.{netOf}
+use Rattle.network.specs.Engine.Scan.{DivisorsOf, Lent}
+use Rattle.network.specs.Engine.Stored.{netOf}
 use Rattle.network.proofs.Laws.Stored.{held-lines, held-period}
 use Rattle.network.proofs.ratings.stop_gaps.Statement.{statement}
 use Rattle.network.proofs.ratings.stop_gaps.Tie as tie

@@ -12,7 +12,7 @@ use Rattle.network.specs.declared.Call.{Call}
 use Rattle.network.specs.declared.Check.the-variants.{Passes, Refused}
 use Rattle.network.specs.Network.{maxLines, maxStop, maxCalls, maxCallsAtStop, howOftenAt, lineOperand, stopOperand}
 use Rattle.network.specs.Grounds.{callGrounds}
-use Rattle.network.specs.Stored.{Often}
+use Rattle.network.specs.Engine.Stored.{Often}
 use Rattle.network.proofs.Laws.Lists.{zero-ne-one}
 use Rattle.network.proofs.Laws.Grounds.{first-none, first-hit, first-miss}
 use Rattle.network.proofs.reader.check_call.Statement.{statement}

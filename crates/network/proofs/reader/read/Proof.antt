@@ -8,7 +8,7 @@ use Rattle.network.specs.declared.Check.{Check}
 use Rattle.network.specs.declared.Network.{Network}
 use Rattle.network.specs.Network.{servedStops, cycle}
 use Rattle.network.specs.Reading.{values, readAnswer, readOutcome}
-use Rattle.network.specs.Stored.{netOf, Sound, readingOf}
+use Rattle.network.specs.Engine.Stored.{netOf, Sound, readingOf}
 use Rattle.network.specs.Valid.{IsBytes}
 use Rattle.network.proofs.Laws.Stored.{held-lines, held-calls}
 use Rattle.network.proofs.reader.read.Statement.{statement}

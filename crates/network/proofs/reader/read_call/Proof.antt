@@ -8,7 +8,7 @@ use borrow.Author.Needs.{needs}
 use lib.ListN.{length}
 use Rattle.network.specs.Network.{SoFar, callsByOffset, callOf, lineOperand, stopOperand, statedOffset}
 use Rattle.network.specs.Grounds.{first, grounds}
-use Rattle.network.specs.Stored.{HasSize, Often, Tells}
+use Rattle.network.specs.Engine.Stored.{HasTotals, Often, IsParsed}
 use Rattle.network.proofs.Laws.Grounds.{first-hit, first-miss, not-cut-off-call}
 use Rattle.network.proofs.reader.read_call.Statement.{statement}
 use Rattle.network.proofs.reader.read_call.Tie as tie
@@ -21,7 +21,7 @@ call-cut-off-requires : tie.Need-call-cut-off-requires
 call-cut-off-requires c κs = search needs
 
 returns : tie.Need-returns
-unfolding Tells grounds
+unfolding IsParsed grounds
 returns c = λ f h o. first-hit _ _ _ _ (sym (c .before .call-cut-off .ensures) ∙ c .if1 .taken)
 
 check-call-requires : tie.Need-check-call-requires
@@ -43,7 +43,7 @@ word-requires : tie.Need-word-requires
 word-requires c κs = omega (arith, four (c .before .before .before .before .before))
 
 -- The grounds, where 3 doesn't apply, are those that `check_call` has tried
-tried : (c : tie.After-check-call) (f : SoFar) → HasSize (f .network) (c .before .before .before .before .args .size)
+tried : (c : tie.After-check-call) (f : SoFar) → HasTotals (f .network) (c .before .before .before .before .args .totals)
     → Often (c .before .before .before .before .args .often .now) (f .network .calls)
     → first (grounds callsByOffset f (c .before .before .before .before .args .at) (c .before .before .before .before .args .behind .now)) ≡ c .check-call .result
 unfolding grounds
@@ -51,11 +51,11 @@ tried c f h o =
     first-miss _ _ _ _ (sym (c .before .before .call-cut-off .ensures) ∙ c .before .if1 .left) ∙ sym (c .check-call .ensures .0 f h o)
 
 returns-2 : tie.Need-returns-2
-unfolding Tells
+unfolding IsParsed
 returns-2 c = λ f h o. tried (c .before .before .before) f h o ∙ c .before .check .given .1
 
 returns-3 : tie.Need-returns-3
-unfolding Tells callOf lineOperand stopOperand statedOffset
+unfolding IsParsed callOf lineOperand stopOperand statedOffset
 returns-3 c =
     let t = c .before .before .before .before .before in
     λ f h o. (

@@ -3,7 +3,7 @@ use mathlib.Core.Path.{_≡_, refl, ap}
 use borrow.Author.Needs.{needs}
 use Rattle.network.specs.Network.{statesLine, callsByOffset, callsByRide, ends, command}
 use Rattle.network.specs.Grounds.{grounds}
-use Rattle.network.specs.Stored.{Tells}
+use Rattle.network.specs.Engine.Stored.{IsParsed}
 use Rattle.network.proofs.Laws.Network.{command-unknown}
 use Rattle.network.proofs.Laws.Grounds.{first-hit}
 use Rattle.network.proofs.reader.read_command.Statement.{statement}
@@ -46,7 +46,7 @@ returns-4 c =
     λ f h o l. rw e (c .read-end .ensures f (h .lines) l)
 
 returns-5 : tie.Need-returns-5
-unfolding Tells grounds
+unfolding IsParsed grounds
 returns-5 c =
     let s = c .before .before in
     let r = c .match .rest in

@@ -12,7 +12,7 @@ use lib.ListN.{length, getD}
 use Rattle.network.specs.Lists.{allBelow}
 use Rattle.network.specs.Network.{Net, maxLines, callsAnywhere}
 use Rattle.network.specs.Grounds.{grounds, someLineSilent}
-use Rattle.network.specs.Stored.{Latest, Tells}
+use Rattle.network.specs.Engine.Stored.{Latest, IsParsed}
 use Rattle.network.proofs.Laws.Lists.{or-left, or-right, or-none}
 use Rattle.network.proofs.Laws.Tables.{allBelow-same}
 use Rattle.network.proofs.Laws.Grounds.{first-none, first-hit, first-miss}
@@ -30,7 +30,7 @@ silent n lines latest low is l =
     ∙ sym (allBelow-same _ _ lines (λ line h. latest-calls latest (n .calls) l line (omega arith))))
 
 returns : tie.Need-returns
-unfolding Tells grounds
+unfolding IsParsed grounds
 returns c =
     let s = c .before .before in
     let b = s .args .behind .now in
@@ -43,7 +43,7 @@ add-t9 : tie.Need-add-t9
 add-t9 c = search needs
 
 returns-2 : tie.Need-returns-2
-unfolding Tells grounds
+unfolding IsParsed grounds
 returns-2 c =
     let s = c .before .before .before .before .before in
     let b = s .args .behind .now in
@@ -51,7 +51,7 @@ returns-2 c =
     ∙ first-hit _ _ _ _ (le-leb 1 (length b) (omega arith))
 
 returns-3 : tie.Need-returns-3
-unfolding Tells grounds
+unfolding IsParsed grounds
 returns-3 c =
     let s = c .before .before .before .before .before in
     let b = s .args .behind .now in
@@ -63,7 +63,7 @@ returns-3 c =
     )
 
 returns-4 : tie.Need-returns-4
-unfolding Tells grounds
+unfolding IsParsed grounds
 returns-4 c =
     let s = c .before .before .before .before in
     let b = s .args .behind .now in

@@ -12,7 +12,7 @@ use lib.ListN.{length, getD}
 use Rattle.network.specs.declared.Check.the-variants.{Passes}
 use Rattle.network.specs.Network.{SoFar, maxLines, maxOffset, callsByRide, operandBytes, callsAnywhere, word, callOf, lineOperand, stopOperand, rideOffset}
 use Rattle.network.specs.Grounds.{Ground, _at_when_, first, grounds, callGrounds, cutOff}
-use Rattle.network.specs.Stored.{Latest, Tells}
+use Rattle.network.specs.Engine.Stored.{Latest, IsParsed}
 use Rattle.network.proofs.Laws.Grounds.{first-append-miss, first-none, first-hit, first-miss}
 use Rattle.network.proofs.Laws.Latest.{latest-calls, latest-offset}
 use Rattle.network.proofs.reader.read_following_call.Statement.{statement}
@@ -45,7 +45,7 @@ latest-of-requires : tie.Need-latest-of-requires
 latest-of-requires c κs = search needs
 
 returns : tie.Need-returns
-unfolding Tells grounds
+unfolding IsParsed grounds
 returns c =
     let s = c .before .before .before .before in
     let b = s .args .behind .now in
@@ -71,7 +71,7 @@ cast-if2 : tie.Need-cast-if2
 cast-if2 c = search needs
 
 returns-2 : tie.Need-returns-2
-unfolding Tells grounds
+unfolding IsParsed grounds
 returns-2 c =
     let s = c .before .before .before .before .before .before in
     let b = s .args .behind .now in
@@ -88,7 +88,7 @@ cast-t13 : tie.Need-cast-t13
 cast-t13 c = search needs
 
 returns-3 : tie.Need-returns-3
-unfolding Tells grounds callOf lineOperand stopOperand
+unfolding IsParsed grounds callOf lineOperand stopOperand
 returns-3 c =
     let s = c .before .before .before .before .before .before .before in
     let b = s .args .behind .now in

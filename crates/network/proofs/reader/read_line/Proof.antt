@@ -1,5 +1,5 @@
 -- `network::reader::read_line` meets its contract: at each return the tests that led there say which ground applies first, and where
--- none does the line is told with the cycle that it makes. Assumes nothing.
+-- none does the line is parsed with the cycle that it makes. Assumes nothing.
 use mathlib.Core.Path.{_≡_, refl, _∙_}
 use native.Mathlib.Omega.{arith}
 use borrow.Author.Needs.{needs}
@@ -8,20 +8,20 @@ use lib.ListN.{length}
 use Rattle.network.specs.Divisor.{lcm}
 use Rattle.network.specs.Network.{maxLines, maxCycle, operandBytes, word, cycle}
 use Rattle.network.specs.Grounds.{grounds, cutOff}
-use Rattle.network.specs.Stored.{Tells}
+use Rattle.network.specs.Engine.Stored.{IsParsed}
 use Rattle.network.proofs.Laws.Grounds.{first-none, first-hit, first-miss, period-too-short, period-too-long, period-in-range}
 use Rattle.network.proofs.reader.read_line.Statement.{statement}
 use Rattle.network.proofs.reader.read_line.Tie as tie
 
 returns : tie.Need-returns
-unfolding Tells grounds cutOff operandBytes
+unfolding IsParsed grounds cutOff operandBytes
 returns c =
     let s = c .before .before in
     let b = s .args .behind .now in
     λ f h. first-hit _ _ _ _ (lt-ltb (length b) 2 (omega arith))
 
 returns-2 : tie.Need-returns-2
-unfolding Tells grounds cutOff operandBytes
+unfolding IsParsed grounds cutOff operandBytes
 returns-2 c =
     let s = c .before .before .before .before in
     let b = s .args .behind .now in
@@ -32,7 +32,7 @@ word-requires : tie.Need-word-requires
 word-requires c κs = search needs
 
 returns-3 : tie.Need-returns-3
-unfolding Tells grounds cutOff operandBytes
+unfolding IsParsed grounds cutOff operandBytes
 returns-3 c =
     let s = c .before .before .before .before .before .before in
     let b = s .args .behind .now in
@@ -42,7 +42,7 @@ returns-3 c =
     ∙ first-hit _ _ _ _ (period-too-short (word b 0) (omega (arith, w .ensures)))
 
 returns-4 : tie.Need-returns-4
-unfolding Tells grounds cutOff operandBytes
+unfolding IsParsed grounds cutOff operandBytes
 returns-4 c =
     let s = c .before .before .before .before .before .before .before in
     let b = s .args .behind .now in
@@ -58,7 +58,7 @@ lcm-requires : tie.Need-lcm-requires
 lcm-requires c κs = search needs
 
 returns-5 : tie.Need-returns-5
-unfolding Tells grounds cutOff operandBytes
+unfolding IsParsed grounds cutOff operandBytes
 returns-5 c =
     let s = c .before .before .before .before .before .before .before .before .before in
     let b = s .args .behind .now in
@@ -71,7 +71,7 @@ returns-5 c =
     ∙ first-hit _ _ _ _ (lt-ltb maxCycle (lcm (cycle (f .network)) (word b 0)) (rw (← made) (omega arith)))
 
 returns-6 : tie.Need-returns-6
-unfolding Tells grounds cutOff operandBytes
+unfolding IsParsed grounds cutOff operandBytes
 returns-6 c =
     let s = c .before .before .before .before .before .before .before .before .before in
     let b = s .args .behind .now in

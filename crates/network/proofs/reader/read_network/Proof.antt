@@ -12,25 +12,25 @@ use lib.Seq.{drop-cons}
 use Rattle.network.specs.declared.Call.{Call}
 use Rattle.network.specs.declared.Check.the-variants.{Passes}
 use Rattle.network.specs.declared.Network.{Network}
-use Rattle.network.specs.declared.Told.{Told}
-use Rattle.network.specs.declared.Told.the-variants as told
+use Rattle.network.specs.declared.Parsed.{Parsed}
+use Rattle.network.specs.declared.Parsed.the-variants as parsed
 use Rattle.network.specs.Network.{Net, SoFar, soFar, Command, command, ends, operandBytes, extend, maxLines, maxStop, maxCalls, maxCallsAtStop}
 use Rattle.network.specs.Grounds.{first, grounds}
 use Rattle.network.specs.Reading.{readFrom, readFile, refused}
-use Rattle.network.specs.Stored.{netOf, Often, Tells, readingOf}
+use Rattle.network.specs.Engine.Stored.{netOf, Often, IsParsed, readingOf}
 use Rattle.network.proofs.Laws.Lists.{take-rest, getD-zeros}
 use Rattle.network.proofs.Laws.Reading.{passes-operands, read-refused, read-ended, read-onward}
 use Rattle.network.proofs.Laws.Often.{often-none}
-use Rattle.network.proofs.Laws.Stored.{LineTold, CallTold, held-lines, held-calls, has-size, line-added, call-added, tells-line}
-use Rattle.network.proofs.Laws.Stored.{tells-call}
+use Rattle.network.proofs.Laws.Stored.{LineParsed, CallParsed, held-lines, held-calls, has-totals, line-added, call-added, line-of-parsed}
+use Rattle.network.proofs.Laws.Stored.{call-of-parsed}
 use Rattle.network.proofs.Laws.Latest.{latest-none}
-use Rattle.network.proofs.Laws.Kept.{Kept, kept-line, kept-call}
+use Rattle.network.proofs.Laws.ReaderRows.{ReaderRows, rows-with-line, rows-with-call}
 use Rattle.network.proofs.reader.read_network.Statement.{statement}
 use Rattle.network.proofs.reader.read_network.Tie as tie
 
 abbrev Inv-loop : tie.InvT-loop
 Inv-loop file network₀ often₀ latest₀ rest₀ network often latest rest =
-    Kept network often latest
+    ReaderRows network often latest
     × (length rest ≤ length file)
     × (readFrom (soFar (netOf network)) (length file - length rest) 0 rest ≡ readFile file)
 
@@ -57,10 +57,10 @@ module _ (r : tie.After-read-command Inv-loop μ-loop) where
   abbrev place : ℕ
   place = length file - length rest
 
-  abbrev result : Told
+  abbrev result : Parsed
   result = r .read-command .result
 
-  kept : Kept network (r .before .before .before .before .before .before .loop .often) (r .before .before .before .before .before .before .loop .latest)
+  kept : ReaderRows network (r .before .before .before .before .before .before .loop .often) (r .before .before .before .before .before .before .loop .latest)
   kept = r .before .before .before .before .before .before .loop .inv .0
 
   some : 0 < length rest
@@ -75,39 +75,39 @@ module _ (r : tie.After-read-command Inv-loop μ-loop) where
   read-here : readFrom (soFar (netOf network)) place 0 (getD rest 0 0 ∷ behind) ≡ readFile file
   read-here = ap (readFrom (soFar (netOf network)) place 0) (sym rest-is) ∙ r .before .before .before .before .before .before .loop .inv .2
 
-  -- what the command tells, once it is known which it is
-  tells : (t : Told) → result ≡ t → Tells code (soFar (netOf network)) place behind t
-  tells t e =
-      subst (Tells code (soFar (netOf network)) place behind) e
-      (r .read-command .ensures (soFar (netOf network)) (has-size network (kept .sound)) (kept .often-is) (kept .latest-is))
+  -- what the command parsed-here, once it is known which it is
+  parsed-here : (t : Parsed) → result ≡ t → IsParsed code (soFar (netOf network)) place behind t
+  parsed-here t e =
+      subst (IsParsed code (soFar (netOf network)) place behind) e
+      (r .read-command .ensures (soFar (netOf network)) (has-totals network (kept .sound)) (kept .often-is) (kept .latest-is))
 
-  line-told : {period common : ℕ} → result ≡ told.Line period common → LineTold code (soFar (netOf network)) place behind period common
-  line-told e = tells-line code (soFar (netOf network)) place behind _ _ (rw (← kept .sound .cycle-is) (kept .sound .cycle-pos)) (tells _ e)
+  line-parsed : {period common : ℕ} → result ≡ parsed.Line period common → LineParsed code (soFar (netOf network)) place behind period common
+  line-parsed e = line-of-parsed code (soFar (netOf network)) place behind _ _ (rw (← kept .sound .cycle-is) (kept .sound .cycle-pos)) (parsed-here _ e)
 
-  call-told : {call : Call} → result ≡ told.Calls call → CallTold code (soFar (netOf network)) place behind call
-  call-told e = tells-call code (soFar (netOf network)) place behind _ (tells _ e)
+  call-parsed : {call : Call} → result ≡ parsed.Calls call → CallParsed code (soFar (netOf network)) place behind call
+  call-parsed e = call-of-parsed code (soFar (netOf network)) place behind _ (parsed-here _ e)
 
-  line-room : {period common : ℕ} → result ≡ told.Line period common → network .lines < maxLines
-  line-room e = omega (arith, line-told e .room, held-lines network (kept .sound))
+  line-room : {period common : ℕ} → result ≡ parsed.Line period common → network .lines < maxLines
+  line-room e = omega (arith, line-parsed e .room, held-lines network (kept .sound))
 
-  call-room : {call : Call} → result ≡ told.Calls call → network .calls < maxCalls
-  call-room e = omega (arith, call-told e .room, held-calls network (kept .sound))
+  call-room : {call : Call} → result ≡ parsed.Calls call → network .calls < maxCalls
+  call-room e = omega (arith, call-parsed e .room, held-calls network (kept .sound))
 
-  line-low : {call : Call} → result ≡ told.Calls call → call .line < maxLines
-  line-low e = omega (arith, call-told e .line, held-lines network (kept .sound), kept .sound .lines)
+  line-low : {call : Call} → result ≡ parsed.Calls call → call .line < maxLines
+  line-low e = omega (arith, call-parsed e .line, held-lines network (kept .sound), kept .sound .lines)
 
-  stop-low : {call : Call} → result ≡ told.Calls call → call .stop ≤ maxStop
-  stop-low e = call-told e .stop
+  stop-low : {call : Call} → result ≡ parsed.Calls call → call .stop ≤ maxStop
+  stop-low e = call-parsed e .stop
 
   -- ground 9 has passed, so that the call's place has room for one more
-  often-low : {call : Call} → result ≡ told.Calls call
+  often-low : {call : Call} → result ≡ parsed.Calls call
       → getD (r .before .before .before .before .before .before .loop .often) (call .stop * maxLines + call .line) 0 < maxCallsAtStop
   unfolding Often
-  often-low e = omega (arith, call-told e .often, kept .often-is _ _ (line-low e) (stop-low e))
+  often-low e = omega (arith, call-parsed e .often, kept .often-is _ _ (line-low e) (stop-low e))
 
   -- a line or a call goes on with the part behind it
   record Next (n : Network) (often latest : List ℕ) : Type 0 where
-    kept-on : Kept n often latest
+    kept-on : ReaderRows n often latest
     passes : first (grounds code (soFar (netOf network)) place behind) ≡ Passes
     onward : code ≡ ends → ⊥
     extended : soFar (netOf n) ≡ extend code (soFar (netOf network)) behind
@@ -123,21 +123,21 @@ next c =
     let k = kept r in
     ⊎-elim
     (λ w.
-    let t = line-told r (w .1 .given .1) in
+    let t = line-parsed r (w .1 .given .1) in
     let room = line-room r (w .1 .given .1) in
     next-as r _ _ _ _ _ _ (w .3) (w .4) (w .5)
     (record {
-      kept-on = kept-line (network r) _ _ k _ _ room (t .cycle-pos) (t .cycle-le) (t .cycle-is);
+      kept-on = rows-with-line (network r) _ _ k _ _ room (t .cycle-pos) (t .cycle-le) (t .cycle-is);
       passes = t .passes;
       onward = t .onward;
       extended = ap soFar (line-added (network r) (k .sound) _ _ room) ∙ t .extended;
     }))
     (λ w.
-    let t = call-told r (w .1 .given .1) in
+    let t = call-parsed r (w .1 .given .1) in
     let room = call-room r (w .1 .given .1) in
     next-as r _ _ _ _ _ _ (w .8) (w .9) (w .10)
     (record {
-      kept-on = kept-call (network r) _ _ k _ _ (w .3 .ensures .0) (w .3 .ensures .1) room (line-low r (w .1 .given .1)) (t .stop);
+      kept-on = rows-with-call (network r) _ _ k _ _ (w .3 .ensures .0) (w .3 .ensures .1) room (line-low r (w .1 .given .1)) (t .stop);
       passes = t .passes;
       onward = t .onward;
       extended = ap soFar (call-added (network r) (k .sound) _ room _ (w .3 .ensures .1)) ∙ t .extended;
@@ -145,10 +145,10 @@ next c =
     (c .match .came)
 
 -- Where nothing is left, a command is due
-read-empty : (f : SoFar) (size : ℕ) (rest : List ℕ) → length rest ≤ 0 → refused 1 size ≡ readFrom f (size - length rest) 0 rest
+read-empty : (f : SoFar) (totals : ℕ) (rest : List ℕ) → length rest ≤ 0 → refused 1 totals ≡ readFrom f (totals - length rest) 0 rest
 unfolding readFrom
-read-empty f size [] h = ap (refused 1) (sym (sub-zero size))
-read-empty f size (b ∷ rest) h = absurd (omega arith)
+read-empty f totals [] h = ap (refused 1) (sym (sub-zero totals))
+read-empty f totals (b ∷ rest) h = absurd (omega arith)
 
 new-requires : tie.Need-new-requires Inv-loop μ-loop
 new-requires c κs = tt
@@ -189,19 +189,19 @@ read-command-requires c κs =
     let k = c .before .before .before .before .before .loop .inv .0 .sound in
     (k .lines, k .cycle-pos, k .cycle-le, omega (arith, c .before .before .before .before .before .before .before .before .good .0 .1))
 
-enum-known-told : tie.Need-enum-known-told Inv-loop μ-loop
-enum-known-told c = search needs
+enum-known-parsed : tie.Need-enum-known-parsed Inv-loop μ-loop
+enum-known-parsed c = search needs
 
 refused-requires : tie.Need-refused-requires Inv-loop μ-loop
 refused-requires c κs = tt
 
 returns : tie.Need-returns Inv-loop μ-loop
-unfolding readingOf Tells
+unfolding readingOf IsParsed
 returns c =
     let r = c .before .before .before .before in (
       rw (c .refused .ensures .1) (kept r .sound),
       ap₂ readingOf (c .refused .ensures .0) refl
-          ∙ sym (read-refused (getD (rest r) 0 0) (soFar (netOf (network r))) (place r) (behind r) _ _ (tells r _ (c .before .before .told .given .1)))
+          ∙ sym (read-refused (getD (rest r) 0 0) (soFar (netOf (network r))) (place r) (behind r) _ _ (parsed-here r _ (c .before .before .parsed .given .1)))
           ∙ read-here r,
     )
 
@@ -212,63 +212,63 @@ passed-requires : tie.Need-passed-requires Inv-loop μ-loop
 passed-requires c κs = tt
 
 returns-2 : tie.Need-returns-2 Inv-loop μ-loop
-unfolding readingOf Tells
+unfolding readingOf IsParsed
 returns-2 c =
     let r = c .before .before .before in
-    let t = tells r _ (c .before .enum-told .given .1) in (
+    let t = parsed-here r _ (c .before .enum-told .given .1) in (
       rw (c .passed .ensures .1) (kept r .sound),
       ap₂ readingOf (c .passed .ensures .0) (c .passed .ensures .1)
           ∙ sym (read-ended (getD (rest r) 0 0) (soFar (netOf (network r))) (place r) (behind r) (t .0) (t .1))
           ∙ read-here r,
     )
 
-enum-known-told-2 : tie.Need-enum-known-told-2 Inv-loop μ-loop
-enum-known-told-2 c = search needs
+enum-known-parsed-2 : tie.Need-enum-known-parsed-2 Inv-loop μ-loop
+enum-known-parsed-2 c = search needs
 
 mul-network : tie.Need-mul-network Inv-loop μ-loop
-mul-network c = omega (arith, line-room (c .before .before .before) (c .before .told2 .given .1))
+mul-network c = omega (arith, line-room (c .before .before .before) (c .before .parsed2 .given .1))
 
 element-write-network : tie.Need-element-write-network Inv-loop μ-loop
-element-write-network c = omega (arith, line-room (c .before .before .before) (c .before .told2 .given .1))
+element-write-network c = omega (arith, line-room (c .before .before .before) (c .before .parsed2 .given .1))
 
 add-network : tie.Need-add-network Inv-loop μ-loop
-add-network c = omega (arith, line-room (c .before .before .before) (c .before .told2 .given .1))
+add-network c = omega (arith, line-room (c .before .before .before) (c .before .parsed2 .given .1))
 
-enum-known-told-3 : tie.Need-enum-known-told-3 Inv-loop μ-loop
-enum-known-told-3 c = search needs
+enum-known-parsed-3 : tie.Need-enum-known-parsed-3 Inv-loop μ-loop
+enum-known-parsed-3 c = search needs
 
 packed-requires : tie.Need-packed-requires Inv-loop μ-loop
-packed-requires c κs = (line-low (c .before .before .before) (c .before .told3 .given .1), stop-low (c .before .before .before) (c .before .told3 .given .1))
+packed-requires c κs = (line-low (c .before .before .before) (c .before .parsed3 .given .1), stop-low (c .before .before .before) (c .before .parsed3 .given .1))
 
 mul-network-2 : tie.Need-mul-network-2 Inv-loop μ-loop
-mul-network-2 c = omega (arith, call-room (c .before .before .before .before) (c .before .before .told3 .given .1))
+mul-network-2 c = omega (arith, call-room (c .before .before .before .before) (c .before .before .parsed3 .given .1))
 
 element-write-network-2 : tie.Need-element-write-network-2 Inv-loop μ-loop
-element-write-network-2 c = omega (arith, call-room (c .before .before .before .before) (c .before .before .told3 .given .1))
+element-write-network-2 c = omega (arith, call-room (c .before .before .before .before) (c .before .before .parsed3 .given .1))
 
 add-network-2 : tie.Need-add-network-2 Inv-loop μ-loop
-add-network-2 c = omega (arith, call-room (c .before .before .before .before) (c .before .before .told3 .given .1))
+add-network-2 c = omega (arith, call-room (c .before .before .before .before) (c .before .before .parsed3 .given .1))
 
 cast-at-stop : tie.Need-cast-at-stop Inv-loop μ-loop
-cast-at-stop c = omega (arith, line-low (c .before .before .before .before .before) (c .before .before .before .told3 .given .1), stop-low (c .before .before .before .before .before) (c .before .before .before .told3 .given .1))
+cast-at-stop c = omega (arith, line-low (c .before .before .before .before .before) (c .before .before .before .parsed3 .given .1), stop-low (c .before .before .before .before .before) (c .before .before .before .parsed3 .given .1))
 
 mul-at-stop : tie.Need-mul-at-stop Inv-loop μ-loop
-mul-at-stop c = omega (arith, line-low (c .before .before .before .before .before) (c .before .before .before .told3 .given .1), stop-low (c .before .before .before .before .before) (c .before .before .before .told3 .given .1))
+mul-at-stop c = omega (arith, line-low (c .before .before .before .before .before) (c .before .before .before .parsed3 .given .1), stop-low (c .before .before .before .before .before) (c .before .before .before .parsed3 .given .1))
 
 cast-at-stop-2 : tie.Need-cast-at-stop-2 Inv-loop μ-loop
-cast-at-stop-2 c = omega (arith, line-low (c .before .before .before .before .before .before) (c .before .before .before .before .told3 .given .1), stop-low (c .before .before .before .before .before .before) (c .before .before .before .before .told3 .given .1))
+cast-at-stop-2 c = omega (arith, line-low (c .before .before .before .before .before .before) (c .before .before .before .before .parsed3 .given .1), stop-low (c .before .before .before .before .before .before) (c .before .before .before .before .parsed3 .given .1))
 
 add-at-stop : tie.Need-add-at-stop Inv-loop μ-loop
-add-at-stop c = omega (arith, line-low (c .before .before .before .before .before .before) (c .before .before .before .before .told3 .given .1), stop-low (c .before .before .before .before .before .before) (c .before .before .before .before .told3 .given .1))
+add-at-stop c = omega (arith, line-low (c .before .before .before .before .before .before) (c .before .before .before .before .parsed3 .given .1), stop-low (c .before .before .before .before .before .before) (c .before .before .before .before .parsed3 .given .1))
 
 array-read-often : tie.Need-array-read-often Inv-loop μ-loop
-array-read-often c = omega (arith, line-low (c .before .before .before .before .before .before) (c .before .before .before .before .told3 .given .1), stop-low (c .before .before .before .before .before .before) (c .before .before .before .before .told3 .given .1))
+array-read-often c = omega (arith, line-low (c .before .before .before .before .before .before) (c .before .before .before .before .parsed3 .given .1), stop-low (c .before .before .before .before .before .before) (c .before .before .before .before .parsed3 .given .1))
 
 add-often : tie.Need-add-often Inv-loop μ-loop
-add-often c = omega (arith, often-low (c .before .before .before .before .before .before) (c .before .before .before .before .told3 .given .1))
+add-often c = omega (arith, often-low (c .before .before .before .before .before .before) (c .before .before .before .before .parsed3 .given .1))
 
 array-write-often : tie.Need-array-write-often Inv-loop μ-loop
-array-write-often c = omega (arith, line-low (c .before .before .before .before .before .before) (c .before .before .before .before .told3 .given .1), stop-low (c .before .before .before .before .before .before) (c .before .before .before .before .told3 .given .1))
+array-write-often c = omega (arith, line-low (c .before .before .before .before .before .before) (c .before .before .before .before .parsed3 .given .1), stop-low (c .before .before .before .before .before .before) (c .before .before .before .before .parsed3 .given .1))
 
 cast-latest : tie.Need-cast-latest Inv-loop μ-loop
 cast-latest c = omega (arith, c .struct-known3 .given)
@@ -277,13 +277,13 @@ add-latest : tie.Need-add-latest Inv-loop μ-loop
 add-latest c = omega (arith, c .struct-known3 .given)
 
 cast-latest-2 : tie.Need-cast-latest-2 Inv-loop μ-loop
-cast-latest-2 c = omega (arith, line-low (c .before .before .before .before .before .before .before .before) (c .before .before .before .before .before .before .told3 .given .1), stop-low (c .before .before .before .before .before .before .before .before) (c .before .before .before .before .before .before .told3 .given .1))
+cast-latest-2 c = omega (arith, line-low (c .before .before .before .before .before .before .before .before) (c .before .before .before .before .before .before .parsed3 .given .1), stop-low (c .before .before .before .before .before .before .before .before) (c .before .before .before .before .before .before .parsed3 .given .1))
 
 mul-latest : tie.Need-mul-latest Inv-loop μ-loop
-mul-latest c = omega (arith, line-low (c .before .before .before .before .before .before .before .before) (c .before .before .before .before .before .before .told3 .given .1), stop-low (c .before .before .before .before .before .before .before .before) (c .before .before .before .before .before .before .told3 .given .1))
+mul-latest c = omega (arith, line-low (c .before .before .before .before .before .before .before .before) (c .before .before .before .before .before .before .parsed3 .given .1), stop-low (c .before .before .before .before .before .before .before .before) (c .before .before .before .before .before .before .parsed3 .given .1))
 
 array-write-latest : tie.Need-array-write-latest Inv-loop μ-loop
-array-write-latest c = omega (arith, line-low (c .before .before .before .before .before .before .before .before) (c .before .before .before .before .before .before .told3 .given .1), stop-low (c .before .before .before .before .before .before .before .before) (c .before .before .before .before .before .before .told3 .given .1))
+array-write-latest c = omega (arith, line-low (c .before .before .before .before .before .before .before .before) (c .before .before .before .before .before .before .parsed3 .given .1), stop-low (c .before .before .before .before .before .before .before .before) (c .before .before .before .before .before .before .parsed3 .given .1))
 
 part-behind-requires : tie.Need-part-behind-requires Inv-loop μ-loop
 part-behind-requires c κs =
@@ -339,17 +339,17 @@ read-network-spec =
     part-behind-start
     part-behind-end
     read-command-requires
-    enum-known-told
+    enum-known-parsed
     refused-requires
     returns
     enum-told
     passed-requires
     returns-2
-    enum-known-told-2
+    enum-known-parsed-2
     mul-network
     element-write-network
     add-network
-    enum-known-told-3
+    enum-known-parsed-3
     packed-requires
     mul-network-2
     element-write-network-2

@@ -6,7 +6,7 @@ use native.Mathlib.Omega.{arith}
 use borrow.Author.Needs.{needs}
 use Rattle.network.specs.Network.{callsByOffset}
 use Rattle.network.specs.Grounds.{grounds, callGrounds, cutOff}
-use Rattle.network.specs.Stored.{Tells}
+use Rattle.network.specs.Engine.Stored.{IsParsed}
 use Rattle.network.proofs.Laws.Grounds.{cut-off-alike, not-cut-off-call, first-hit, first-miss, first-append-hit}
 use Rattle.network.proofs.reader.read_ride.Statement.{statement}
 use Rattle.network.proofs.reader.read_ride.Tie as tie
@@ -15,7 +15,7 @@ call-cut-off-requires : tie.Need-call-cut-off-requires
 call-cut-off-requires c κs = search needs
 
 returns : tie.Need-returns
-unfolding Tells grounds
+unfolding IsParsed grounds
 returns c = λ f h o l. first-hit _ _ _ _ (cut-off-alike _ ∙ sym (c .before .call-cut-off .ensures) ∙ c .if1 .taken)
 
 -- Where ground 3 doesn't apply the operands are there
@@ -37,7 +37,7 @@ read-following-call-requires c κs =
     (not-cut-off-call _ (not-cut (t .before)), omega (arith, t .check-call .ensures .1 (c .enum-told .given .1), t .before .before .before .before .pre))
 
 returns-2 : tie.Need-returns-2
-unfolding Tells grounds
+unfolding IsParsed grounds
 returns-2 c =
     let t = c .before .before .before in
     λ f h o l. first-miss _ _ _ _ (cut-off-alike _ ∙ not-cut (t .before))

@@ -1,4 +1,4 @@
--- `network::reader::served_stops` meets its contract. The loop's invariant: `count` is how many of the stops passed the row marks as
+-- `network::reader::served_stops` meets its contract. The loop's invariant: `count` is how many of the stops passed the row flags as
 -- served. Assumes nothing.
 use Prim.Native.Nat.{ℕ, _≤_, _-_, _+_}
 use mathlib.Core.Path.{_≡_, refl, sym, ap, _∙_}
@@ -46,13 +46,13 @@ loop-again : tie.Need-loop-again Inv-loop μ-loop
 loop-again c =
     let l = c .before .before .loop in
     let row = c .before .before .before .served-by .result in
-    let marked : ℕ → Bool = λ s. ltb 0 (getD row s 0) in
-    let next : c .if1 .count ≡ countBelow marked (l .stop + 1) =
+    let flagged : ℕ → Bool = λ s. ltb 0 (getD row s 0) in
+    let next : c .if1 .count ≡ countBelow flagged (l .stop + 1) =
     ⊎-elim
-    (λ w. w .1 ∙ counted marked (l .stop) (l .count) 1 (l .inv .1) (ap (λ t. pick t 1 0) (lt-ltb 0 (getD row (l .stop) 0) (w .0 .taken))))
-    (λ w. w .1 ∙ sym (add-zero _) ∙ counted marked (l .stop) (l .count) 0 (l .inv .1) (ap (λ t. pick t 1 0) (le-ltb 0 (getD row (l .stop) 0) (omega (arith, w .0 .left)))))
+    (λ w. w .1 ∙ counted flagged (l .stop) (l .count) 1 (l .inv .1) (ap (λ t. pick t 1 0) (lt-ltb 0 (getD row (l .stop) 0) (w .0 .taken))))
+    (λ w. w .1 ∙ sym (add-zero _) ∙ counted flagged (l .stop) (l .count) 0 (l .inv .1) (ap (λ t. pick t 1 0) (le-ltb 0 (getD row (l .stop) 0) (omega (arith, w .0 .left)))))
     (c .if1 .came) in
-    (omega arith, next, omega (arith, next, countBelow-le marked (l .stop + 1)))
+    (omega arith, next, omega (arith, next, countBelow-le flagged (l .stop + 1)))
 
 returns : tie.Need-returns Inv-loop μ-loop
 returns c =

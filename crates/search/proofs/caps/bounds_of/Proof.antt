@@ -8,13 +8,13 @@ use native.Mathlib.Omega.{arith}
 use lib.ListN.{length, getD}
 use Rattle.network.specs.declared.Call.{Call}
 use Rattle.network.specs.declared.Network.{Network}
-use Rattle.network.specs.Scan.{callsBefore}
-use Rattle.network.specs.Stored.{netOf, callsIn}
+use Rattle.network.specs.Engine.Scan.{callsBefore}
+use Rattle.network.specs.Engine.Stored.{netOf, callsIn}
 use Rattle.network.specs.Valid.{noCall}
 use Rattle.network.proofs.Laws.Packed.{call-in-row}
 use Rattle.network.proofs.Laws.Stored.{length-held, held-lines, held-call-line}
 use Rattle.network.proofs.Laws.Gaps.{callsBefore-hit, callsBefore-miss, callsBefore-none, callsOfStop-held}
-use Rattle.search.specs.CapScan.{boundsOf}
+use Rattle.search.specs.Engine.CapScan.{boundsOf}
 use Rattle.search.proofs.Laws.CapScan.{boundsOf-none}
 use Rattle.search.proofs.caps.bounds_of.Statement.{statement}
 use Rattle.search.proofs.caps.bounds_of.Tie as tie

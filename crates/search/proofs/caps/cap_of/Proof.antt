@@ -7,10 +7,10 @@ use native.Mathlib.Omega.{arith}
 use lib.ListN.{length}
 use Rattle.network.specs.declared.Call.{Call}
 use Rattle.network.specs.Rating.{callsOfStop}
-use Rattle.network.specs.Stored.{netOf}
+use Rattle.network.specs.Engine.Stored.{netOf}
 use Rattle.search.specs.declared.caps.Bounds.{Bounds}
 use Rattle.search.specs.Caps.{cap}
-use Rattle.search.specs.CapScan.{visitsOf, leastHalf, boundsOf}
+use Rattle.search.specs.Engine.CapScan.{visitsOf, leastHalf, boundsOf}
 use Rattle.search.proofs.Laws.CapScan.{visits-pos, cap-few, cap-many}
 use Rattle.search.proofs.caps.cap_of.Statement.{statement}
 use Rattle.search.proofs.caps.cap_of.Tie as tie

@@ -5,7 +5,7 @@ use native.Mathlib.Omega.{arith}
 use borrow.Author.Count.{below-more}
 use lib.ListN.{length, getD, length-set}
 use lib.Seq.{getD-set-same, getD-set-other}
-use Rattle.network.specs.Stored.{netOf}
+use Rattle.network.specs.Engine.Stored.{netOf}
 use Rattle.search.specs.Caps.{cap}
 use Rattle.search.proofs.Laws.CapScan.{cap-le}
 use Rattle.search.proofs.caps.cap_row.Statement.{statement}

@@ -11,13 +11,14 @@ use lib.ListN.{length, getD}
 use Rattle.network.specs.declared.Call.{Call}
 use Rattle.network.specs.declared.Network.{Network}
 use Rattle.network.specs.Divisor as divisor
-use Rattle.network.specs.Scan.{callsBefore, leastFrom}
-use Rattle.network.specs.Stored.{netOf, callsIn}
+use Rattle.network.specs.Lists.{leastFrom}
+use Rattle.network.specs.Engine.Scan.{callsBefore}
+use Rattle.network.specs.Engine.Stored.{netOf, callsIn}
 use Rattle.network.specs.Valid.{noCall}
 use Rattle.network.proofs.Laws.Packed.{call-in-row}
 use Rattle.network.proofs.Laws.Stored.{length-held, held-lines, held-period, held-call-line}
 use Rattle.network.proofs.Laws.Gaps.{periodOf-is}
-use Rattle.search.specs.CapScan.{halfOf}
+use Rattle.search.specs.Engine.CapScan.{halfOf}
 use Rattle.search.proofs.Laws.CapScan.{least-none, least-hit, least-miss}
 use Rattle.search.proofs.caps.least_half.Statement.{statement}
 use Rattle.search.proofs.caps.least_half.Tie as tie

@@ -9,12 +9,13 @@ use lib.ListN.{length, getD, length-append}
 use Rattle.network.specs.declared.Call.{Call}
 use Rattle.network.specs.declared.Network.{Network}
 use Rattle.network.specs.Rating.{periodOf}
-use Rattle.network.specs.Scan.{callsBefore, leastFrom}
-use Rattle.network.specs.Stored.{netOf, callsIn}
+use Rattle.network.specs.Lists.{leastFrom}
+use Rattle.network.specs.Engine.Scan.{callsBefore}
+use Rattle.network.specs.Engine.Stored.{netOf, callsIn}
 use Rattle.network.proofs.Laws.Stored.{held-lines, held-period, held-period-pos}
 use Rattle.network.proofs.Laws.Gaps.{length-callsBefore, periodOf-is}
 use Rattle.search.specs.declared.caps.Bounds.{Bounds}
-use Rattle.search.specs.CapScan.{halfOf, visitsOf, leastHalf, boundsOf}
+use Rattle.search.specs.Engine.CapScan.{halfOf, visitsOf, leastHalf, boundsOf}
 use Rattle.search.proofs.Laws.CapScan.{leastHalf-first, leastHalf-snoc, visitsOf-snoc, visitsOf-le, boundsOf-made}
 use borrow.Author.Needs.{needs}
 use Rattle.search.proofs.caps.with_call.Statement.{statement}

@@ -1,7 +1,7 @@
 -- `search::place::cut_of` meets its contract, rule by rule. Assumes nothing.
 use mathlib.Core.Path.{sym, ap, _∙_}
 use borrow.Author.Needs.{needs}
-use Rattle.search.specs.Held.{ruleOf, rated}
+use Rattle.search.specs.Engine.Representation.{ruleOf, rated}
 use Rattle.search.proofs.Laws.Cuts.{above-best-cut, no-best-cut, at-least-cut, by-sum-cut}
 use Rattle.search.proofs.place.cut_of.Statement.{statement}
 use Rattle.search.proofs.place.cut_of.Tie as tie

@@ -9,7 +9,7 @@ use borrow.Author.Needs.{needs}
 use lib.IntN.{pos, _-ℤ_}
 use Rattle.network.specs.Gap as gaps
 use Rattle.network.proofs.Laws.Gaps.{fold-is}
-use Rattle.search.proofs.Laws.Linked.{residue-of-difference}
+use Rattle.search.proofs.Laws.CallRows.{residue-of-difference}
 use Rattle.search.proofs.Laws.Reciprocal.{div-by-reciprocal}
 use Rattle.search.proofs.place.gap_by.Statement.{statement}
 use Rattle.search.proofs.place.gap_by.Tie as tie

@@ -9,19 +9,20 @@ use lib.IntN.{pos}
 use lib.ListN.{length, getD}
 use Rattle.network.specs.declared.Call.{Call}
 use Rattle.network.specs.Rating.{gapOfCalls}
-use Rattle.network.specs.Scan.{lastAt, callsBefore, leastFrom}
+use Rattle.network.specs.Lists.{leastFrom}
+use Rattle.network.specs.Engine.Scan.{lastAt, callsBefore}
 use Rattle.network.specs.Valid.{noCall}
 use Rattle.network.proofs.Laws.Least.{leastFrom-le}
 use Rattle.network.proofs.Laws.Gaps.{lastAt-le, lastAt-landed, callsBefore-lastAt, step-back, leadsBack-at}
-use Rattle.search.specs.Held.{Linked, callsByLine}
+use Rattle.search.specs.Engine.Representation.{CallRows, callsByLine}
 use Rattle.search.proofs.Laws.CapScan.{least-none}
 use Rattle.search.proofs.Laws.Codes.{lineIn}
-use Rattle.search.proofs.Laws.Linked.{length-callsByLine, calls-few, line-row-lt-16, divisor-pos, divisor-le, reciprocal-is, gap-of-rows}
+use Rattle.search.proofs.Laws.CallRows.{length-callsByLine, calls-few, line-row-lt-16, divisor-pos, divisor-le, reciprocal-is, gap-of-rows}
 use Rattle.search.proofs.place.lowered.Statement.{statement}
 use Rattle.search.proofs.place.lowered.Tie as tie
 
 -- the gap from an earlier call to the one at a place
-abbrev to : {codes previous divisors : List ℕ} → Linked codes previous divisors → List ℕ → ℕ → Call → ℕ
+abbrev to : {codes previous divisors : List ℕ} → CallRows codes previous divisors → List ℕ → ℕ → Call → ℕ
 to l starts at d = gapOfCalls (l .net) (map pos starts) d (getD (callsByLine l) at noCall)
 
 least-from-zero : (v : ℕ) (xs : List ℕ) → v ≡ 0 → 0 ≡ leastFrom v xs
@@ -31,7 +32,7 @@ abbrev Inv-loop : tie.InvT-loop
 Inv-loop codes previous divisors starts at value code line row arrival least₀ from₀ least from =
     (from ≤ at)
     × (least ≤ value)
-    × ((l : Linked codes previous divisors)
+    × ((l : CallRows codes previous divisors)
     → at < length (l .net .calls)
     → (0 < from → getD (callsByLine l) (from - 1) noCall .stop ≡ getD (callsByLine l) at noCall .stop)
     × (leastFrom least (map (to l starts at) (callsBefore (getD (callsByLine l) at noCall .stop) (callsByLine l) from))
@@ -42,7 +43,7 @@ abbrev μ-loop : tie.MeasureT-loop
 
 -- The call that is placed
 module _ (s : tie.Start Inv-loop μ-loop) where
-  abbrev rows : Linked (s .args .codes .now) (s .args .previous .now) (s .args .divisors .now)
+  abbrev rows : CallRows (s .args .codes .now) (s .args .previous .now) (s .args .divisors .now)
   rows = s .pre .0 .0
 
   at-low : s .args .at < length (rows .net .calls)
@@ -58,7 +59,7 @@ module _ (s : tie.Start Inv-loop μ-loop) where
   start-small = s .pre .1
 
 -- For any network that the rows hold: where the row leads from a call, it leads to the one before at its stop
-module _ {codes previous divisors : List ℕ} (l : Linked codes previous divisors) where
+module _ {codes previous divisors : List ℕ} (l : CallRows codes previous divisors) where
   led : (j : ℕ) → j < length (l .net .calls) → getD previous j 0 ≡ lastAt (getD (callsByLine l) j noCall .stop) (callsByLine l) j
   led j h = leadsBack-at previous (callsByLine l) (length (l .net .calls)) (l .leads) j h
 
@@ -120,7 +121,7 @@ module _ (t : tie.In-loop Inv-loop μ-loop) where
 
 -- the call that is looked at is one of any network that the rows hold
 in-file :
-    {codes previous divisors : List ℕ} (l : Linked codes previous divisors) (t : tie.In-loop Inv-loop μ-loop)
+    {codes previous divisors : List ℕ} (l : CallRows codes previous divisors) (t : tie.In-loop Inv-loop μ-loop)
     → start t .args .at < length (l .net .calls)
     → before t < length (l .net .calls)
 in-file l t h = omega (arith, t .before .loop .inv .0, t .loop-test .taken)

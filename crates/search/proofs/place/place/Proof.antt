@@ -12,15 +12,16 @@ use borrow.Author.Needs.{needs}
 use mathlib.Core.Bool.{true}
 use Rattle.network.specs.Network.{isServed}
 use Rattle.network.specs.Rating.{gapOfCalls}
-use Rattle.network.specs.Scan.{leastFrom, callsBefore}
+use Rattle.network.specs.Lists.{leastFrom}
+use Rattle.network.specs.Engine.Scan.{callsBefore}
 use Rattle.network.specs.Valid.{noCall}
 use Rattle.search.specs.declared.Placed.{Placed}
-use Rattle.search.specs.Layout.{byLine}
-use Rattle.search.specs.Held.{Laid, firstIn, callsByLine, isShort, CanPlace, startsOf, Represents}
+use Rattle.search.specs.Engine.Layout.{byLine}
+use Rattle.search.specs.Engine.Representation.{NetworkRows, firstIn, callsByLine, isShort, CanPlace, startsOf, Represents}
 use Rattle.search.proofs.Laws.Codes.{stopIn}
 use Rattle.search.proofs.Laws.Layout.{length-byLine-le}
 use Rattle.search.proofs.Laws.Placing.{length-byLine-grows}
-use Rattle.search.proofs.Laws.Linked.{length-callsByLine, calls-few, stop-of, stop-low}
+use Rattle.search.proofs.Laws.CallRows.{length-callsByLine, calls-few, stop-of, stop-low}
 use Rattle.search.proofs.Laws.Placing.{
   Lowering,
   lowering-first,
@@ -40,48 +41,48 @@ abbrev Inv-loop : tie.InvT-loop
 Inv-loop codes previous divisors lines cut line begin end next₀ i₀ next i =
     (i ≤ end)
     × (next .starts ≡ next₀ .starts)
-    × ((l : Laid codes previous divisors lines)
-    → Lowering (l .linked .net) (map pos (next₀ .starts)) (next₀ .values) (next₀ .least) (next₀ .sum) begin
-    → line < length (l .linked .net .periods)
-    → Lowering (l .linked .net) (map pos (next₀ .starts)) (next .values) (next .least) (next .sum) i)
+    × ((l : NetworkRows codes previous divisors lines)
+    → Lowering (l .call-rows .net) (map pos (next₀ .starts)) (next₀ .values) (next₀ .least) (next₀ .sum) begin
+    → line < length (l .call-rows .net .periods)
+    → Lowering (l .call-rows .net) (map pos (next₀ .starts)) (next .values) (next .least) (next .sum) i)
 
 abbrev μ-loop : tie.MeasureT-loop
 μ-loop codes previous divisors lines cut line begin end next₀ i₀ next i = end - i
 
 -- At the start: the network that is known to be held, and what begins the loop for any other
 module _ (s : tie.Start Inv-loop μ-loop) where
-  abbrev rows : Laid (s .args .codes .now) (s .args .previous .now) (s .args .divisors .now) (s .args .lines .now)
+  abbrev rows : NetworkRows (s .args .codes .now) (s .args .previous .now) (s .args .divisors .now) (s .args .lines .now)
   rows = s .pre .0
 
-  can : CanPlace (rows .linked .net) (s .args .due .line) (s .args .due .start) (s .args .placed)
+  can : CanPlace (rows .call-rows .net) (s .args .due .line) (s .args .due .start) (s .args .placed)
   can = s .pre .1
 
   line-low : s .args .due .line < 16
-  line-low = omega (arith, can .stated, rows .linked .valid .lines)
+  line-low = omega (arith, can .stated, rows .call-rows .valid .lines)
 
   abbrev starts : List ℕ
   starts = set (s .args .placed .starts) (s .args .due .line) (s .args .due .start)
 
-  begin-is : firstIn (getD (s .args .lines .now) (s .args .due .line) 0) ≡ length (byLine (rows .linked .net .calls) (s .args .due .line))
+  begin-is : firstIn (getD (s .args .lines .now) (s .args .due .line) 0) ≡ length (byLine (rows .call-rows .net .calls) (s .args .due .line))
   begin-is = rows .first-of (s .args .due .line) (omega (arith, can .stated))
 
-  end-is : firstIn (getD (s .args .lines .now) (s .args .due .line + 1) 0) ≡ length (byLine (rows .linked .net .calls) (s .args .due .line + 1))
+  end-is : firstIn (getD (s .args .lines .now) (s .args .due .line + 1) 0) ≡ length (byLine (rows .call-rows .net .calls) (s .args .due .line + 1))
   end-is = rows .first-of (s .args .due .line + 1) (omega (arith, can .stated))
 
-  end-low : firstIn (getD (s .args .lines .now) (s .args .due .line + 1) 0) ≤ length (rows .linked .net .calls)
-  end-low = rw end-is (length-byLine-le (rows .linked .net .calls) (s .args .due .line + 1))
+  end-low : firstIn (getD (s .args .lines .now) (s .args .due .line + 1) 0) ≤ length (rows .call-rows .net .calls)
+  end-low = rw end-is (length-byLine-le (rows .call-rows .net .calls) (s .args .due .line + 1))
 
   begin-end : firstIn (getD (s .args .lines .now) (s .args .due .line) 0) ≤ firstIn (getD (s .args .lines .now) (s .args .due .line + 1) 0)
-  begin-end = rw (begin-is, end-is) (length-byLine-grows (rows .linked .net .calls) (s .args .due .line))
+  begin-end = rw (begin-is, end-is) (length-byLine-grows (rows .call-rows .net .calls) (s .args .due .line))
 
   -- for any network that the rows hold and on which the line can be placed
   begins :
-      (l : Laid (s .args .codes .now) (s .args .previous .now) (s .args .divisors .now) (s .args .lines .now))
-      → CanPlace (l .linked .net) (s .args .due .line) (s .args .due .start) (s .args .placed)
-      → Lowering (l .linked .net) (map pos starts) (s .args .placed .values) (s .args .placed .least) (s .args .placed .sum) (firstIn (getD (s .args .lines .now) (s .args .due .line) 0))
+      (l : NetworkRows (s .args .codes .now) (s .args .previous .now) (s .args .divisors .now) (s .args .lines .now))
+      → CanPlace (l .call-rows .net) (s .args .due .line) (s .args .due .start) (s .args .placed)
+      → Lowering (l .call-rows .net) (map pos starts) (s .args .placed .values) (s .args .placed .least) (s .args .placed .sum) (firstIn (getD (s .args .lines .now) (s .args .due .line) 0))
   begins l c =
       rw (l .first-of (s .args .due .line) (omega (arith, c .stated)))
-      (lowering-first (l .linked .net) (l .linked .valid) (s .args .due .line) (s .args .due .start) (s .args .placed) (c .stated) (c .before))
+      (lowering-first (l .call-rows .net) (l .call-rows .valid) (s .args .due .line) (s .args .due .start) (s .args .placed) (c .stated) (c .before))
 
 -- At a turn of the loop: the call that is looked at
 module _ (t : tie.In-loop Inv-loop μ-loop) where
@@ -99,40 +100,40 @@ module _ (t : tie.In-loop Inv-loop μ-loop) where
 
   -- for any network that the rows hold
   module _
-      (l : Laid (start .args .codes .now) (start .args .previous .now) (start .args .divisors .now) (start .args .lines .now))
-      (begun : Lowering (l .linked .net) (map pos (starts start)) (start .args .placed .values) (start .args .placed .least) (start .args .placed .sum) (firstIn (getD (start .args .lines .now) (start .args .due .line) 0)))
-      (stated : start .args .due .line < length (l .linked .net .periods)) where
-    in-file : i < length (l .linked .net .calls)
+      (l : NetworkRows (start .args .codes .now) (start .args .previous .now) (start .args .divisors .now) (start .args .lines .now))
+      (begun : Lowering (l .call-rows .net) (map pos (starts start)) (start .args .placed .values) (start .args .placed .least) (start .args .placed .sum) (firstIn (getD (start .args .lines .now) (start .args .due .line) 0)))
+      (stated : start .args .due .line < length (l .call-rows .net .periods)) where
+    in-file : i < length (l .call-rows .net .calls)
     in-file =
         omega
-        (arith, t .loop-test .taken, l .first-of (start .args .due .line + 1) (omega (arith, stated)), length-byLine-le (l .linked .net .calls) (start .args .due .line + 1))
+        (arith, t .loop-test .taken, l .first-of (start .args .due .line + 1) (omega (arith, stated)), length-byLine-le (l .call-rows .net .calls) (start .args .due .line + 1))
 
-    in-order : i < length (callsByLine (l .linked))
-    in-order = omega (arith, in-file, length-callsByLine (l .linked))
+    in-order : i < length (callsByLine (l .call-rows))
+    in-order = omega (arith, in-file, length-callsByLine (l .call-rows))
 
-    here : getD (callsByLine (l .linked)) i noCall .stop ≡ stop
-    here = sym (stop-of (l .linked) i in-file)
+    here : getD (callsByLine (l .call-rows)) i noCall .stop ≡ stop
+    here = sym (stop-of (l .call-rows) i in-file)
 
     low : stop < 64
-    low = rw (stop-of (l .linked) i in-file) (stop-low (l .linked) i in-file)
+    low = rw (stop-of (l .call-rows) i in-file) (stop-low (l .call-rows) i in-file)
 
-    now : Lowering (l .linked .net) (map pos (starts start)) (next .values) (next .least) (next .sum) i
+    now : Lowering (l .call-rows .net) (map pos (starts start)) (next .values) (next .least) (next .sum) i
     now = t .before .loop .inv .2 l begun stated
 
-    served : isServed stop (l .linked .net .calls) ≡ true
-    served = rw here at (stop-served (l .linked .net) (l .linked .valid) i in-order)
+    served : isServed stop (l .call-rows .net .calls) ≡ true
+    served = rw here at (stop-served (l .call-rows .net) (l .call-rows .valid) i in-order)
 
   -- the one that is known to be held
   known-low : stop < 64
   known-low = low (rows start) (begins start (rows start) (can start)) (can start .stated)
 
-  known-in-file : i < length (rows start .linked .net .calls)
+  known-in-file : i < length (rows start .call-rows .net .calls)
   known-in-file = in-file (rows start) (begins start (rows start) (can start)) (can start .stated)
 
   small : i < 256
-  small = omega (arith, known-in-file, calls-few (rows start .linked))
+  small = omega (arith, known-in-file, calls-few (rows start .call-rows))
 
-  known-now : Lowering (rows start .linked .net) (map pos (starts start)) (next .values) (next .least) (next .sum) i
+  known-now : Lowering (rows start .call-rows .net) (map pos (starts start)) (next .values) (next .least) (next .sum) i
   known-now = now (rows start) (begins start (rows start) (can start)) (can start .stated)
 
 -- Where the value is known: it is the least of what it was and the gaps of this call
@@ -145,33 +146,33 @@ module _ (c : tie.After-lowered Inv-loop μ-loop) where
       let s = start turn in
       let b = begins s (rows s) (can s) in
       let h = can s .stated in
-      old-le-sum (rows s .linked .net) (rows s .linked .valid) (map pos (starts s)) (next turn .values) (next turn .least) (next turn .sum) (i turn)
+      old-le-sum (rows s .call-rows .net) (rows s .call-rows .valid) (map pos (starts s)) (next turn .values) (next turn .least) (next turn .sum) (i turn)
       (known-now turn) (in-order turn (rows s) b h) (stop turn) (here turn (rows s) b h) (known-low turn) (served turn (rows s) b h)
 
   module _
-      (l : Laid (start turn .args .codes .now) (start turn .args .previous .now) (start turn .args .divisors .now) (start turn .args .lines .now))
-      (begun : Lowering (l .linked .net) (map pos (starts (start turn))) (start turn .args .placed .values) (start turn .args .placed .least) (start turn .args .placed .sum) (firstIn (getD (start turn .args .lines .now) (start turn .args .due .line) 0)))
-      (stated : start turn .args .due .line < length (l .linked .net .periods)) where
+      (l : NetworkRows (start turn .args .codes .now) (start turn .args .previous .now) (start turn .args .divisors .now) (start turn .args .lines .now))
+      (begun : Lowering (l .call-rows .net) (map pos (starts (start turn))) (start turn .args .placed .values) (start turn .args .placed .least) (start turn .args .placed .sum) (firstIn (getD (start turn .args .lines .now) (start turn .args .due .line) 0)))
+      (stated : start turn .args .due .line < length (l .call-rows .net .periods)) where
     value-is :
         c .lowered .result
         ≡ leastFrom (getD (next turn .values) (stop turn) 0)
-        (map (λ d. gapOfCalls (l .linked .net) (map pos (starts (start turn))) d (getD (callsByLine (l .linked)) (i turn) noCall))
-        (callsBefore (stop turn) (callsByLine (l .linked)) (i turn)))
+        (map (λ d. gapOfCalls (l .call-rows .net) (map pos (starts (start turn))) d (getD (callsByLine (l .call-rows)) (i turn) noCall))
+        (callsBefore (stop turn) (callsByLine (l .call-rows)) (i turn)))
     value-is =
-        c .lowered .ensures (l .linked) (in-file turn l begun stated)
+        c .lowered .ensures (l .call-rows) (in-file turn l begun stated)
         ∙ ap₂ (λ (st : List ℕ) (k : ℕ). leastFrom (getD (next turn .values) (stop turn) 0)
-        (map (λ d. gapOfCalls (l .linked .net) (map pos st) d (getD (callsByLine (l .linked)) (i turn) noCall))
-        (callsBefore k (callsByLine (l .linked)) (i turn))))
+        (map (λ d. gapOfCalls (l .call-rows .net) (map pos st) d (getD (callsByLine (l .call-rows)) (i turn) noCall))
+        (callsBefore k (callsByLine (l .call-rows)) (i turn))))
         (turn .before .loop .inv .1)
         (here turn l begun stated)
 
     lowered-here :
-        Lowering (l .linked .net) (map pos (starts (start turn))) (set (next turn .values) (stop turn) (c .lowered .result))
+        Lowering (l .call-rows .net) (map pos (starts (start turn))) (set (next turn .values) (stop turn) (c .lowered .result))
         (min (next turn .least) (c .lowered .result))
         (next turn .sum + c .lowered .result - getD (next turn .values) (stop turn) 0)
         (i turn + 1)
     lowered-here =
-        lowering-next (l .linked .net) (l .linked .valid) (map pos (starts (start turn))) (next turn .values) (next turn .least) (next turn .sum) (i turn)
+        lowering-next (l .call-rows .net) (l .call-rows .valid) (map pos (starts (start turn))) (next turn .values) (next turn .least) (next turn .sum) (i turn)
         (now turn l begun stated) (in-order turn l begun stated) (stop turn) (here turn l begun stated) (low turn l begun stated) (served turn l begun stated)
         (c .lowered .result) value-is
 
@@ -182,7 +183,7 @@ element-copy-out-begin : tie.Need-element-copy-out-begin Inv-loop μ-loop
 element-copy-out-begin c = omega (arith, line-low c)
 
 cast-begin : tie.Need-cast-begin Inv-loop μ-loop
-cast-begin c = omega (arith, begin-end (c .before), end-low (c .before), calls-few (rows (c .before) .linked))
+cast-begin c = omega (arith, begin-end (c .before), end-low (c .before), calls-few (rows (c .before) .call-rows))
 
 add-end : tie.Need-add-end Inv-loop μ-loop
 add-end c = omega (arith, line-low (c .before))
@@ -194,7 +195,7 @@ element-copy-out-end : tie.Need-element-copy-out-end Inv-loop μ-loop
 element-copy-out-end c = omega (arith, line-low (c .before))
 
 cast-end : tie.Need-cast-end Inv-loop μ-loop
-cast-end c = omega (arith, end-low (c .before .before), calls-few (rows (c .before .before) .linked))
+cast-end c = omega (arith, end-low (c .before .before), calls-few (rows (c .before .before) .call-rows))
 
 mul-next : tie.Need-mul-next Inv-loop μ-loop
 mul-next c = omega (arith, line-low (c .before .before))
@@ -218,7 +219,7 @@ returns c l can' =
     inr (record {
       come-to = short;
       upper =
-          given-up (s .args .cut) (l .linked .net) (l .linked .valid) (s .args .due .line) (s .args .due .start) (s .args .placed) (can' .stated) (can' .before)
+          given-up (s .args .cut) (l .call-rows .net) (l .call-rows .valid) (s .args .due .line) (s .args .due .start) (s .args .placed) (can' .stated) (can' .before)
           (next t .values) (next t .least) (next t .sum) (i t)
           (now t l (begins s l can') (can' .stated))
           (omega (arith, t .before .loop .inv .0, l .first-of (s .args .due .line + 1) (omega (arith, can' .stated))))
@@ -244,7 +245,7 @@ lowered-requires : tie.Need-lowered-requires Inv-loop μ-loop
 lowered-requires c κs =
     let t = c .before .before .before .before .before .before in
     let s = start t in (
-      (rows s .linked, known-in-file t),
+      (rows s .call-rows, known-in-file t),
       λ k. rw (t .before .loop .inv .1)
           (set-low (s .args .placed .starts) (s .args .due .line) (s .args .due .start) (can s .before .starts-row) (line-low s) (can s .start-low) (can s .before .starts-low) k),
     )
@@ -290,11 +291,11 @@ loop-again c =
           ⊎-elim
           (λ w.
           rw (w .1)
-          (subst (λ (v : ℕ). Lowering (l .linked .net) (map pos (starts (start t))) (set (next t .values) (stop t) (a .lowered .result)) v
+          (subst (λ (v : ℕ). Lowering (l .call-rows .net) (map pos (starts (start t))) (set (next t .values) (stop t) (a .lowered .result)) v
           (next t .sum + a .lowered .result - getD (next t .values) (stop t) 0) (i t + 1)) (omega (arith, w .0 .taken)) here'))
           (λ w.
           rw (w .1)
-          (subst (λ (v : ℕ). Lowering (l .linked .net) (map pos (starts (start t))) (set (next t .values) (stop t) (a .lowered .result)) v
+          (subst (λ (v : ℕ). Lowering (l .call-rows .net) (map pos (starts (start t))) (set (next t .values) (stop t) (a .lowered .result)) v
           (next t .sum + a .lowered .result - getD (next t .values) (stop t) 0) (i t + 1)) (omega (arith, w .0 .left)) here'))
           (c .if2 .came),
     )
@@ -303,15 +304,15 @@ returns-2 : tie.Need-returns-2 Inv-loop μ-loop
 returns-2 c l can' =
     let s = c .before .before .before .before in
     let p = c .before .loop in
-    let last : p .i ≡ length (byLine (l .linked .net .calls) (s .args .due .line + 1)) =
+    let last : p .i ≡ length (byLine (l .call-rows .net .calls) (s .args .due .line + 1)) =
     le-antisymm (p .inv .0) (c .loop-test .left) ∙ l .first-of (s .args .due .line + 1) (omega (arith, can' .stated)) in
-    let end = subst (Lowering (l .linked .net) (map pos (starts s)) (p .next .values) (p .next .least) (p .next .sum)) last
+    let end = subst (Lowering (l .call-rows .net) (map pos (starts s)) (p .next .values) (p .next .least) (p .next .sum)) last
     (p .inv .2 l (begins s l can') (can' .stated)) in
     inl (record {
       one-more =
-          subst (λ (st : List ℕ). Represents (l .linked .net) (s .args .due .line + 1) (record { starts = st; values = p .next .values; least = p .next .least; sum = p .next .sum }))
+          subst (λ (st : List ℕ). Represents (l .call-rows .net) (s .args .due .line + 1) (record { starts = st; values = p .next .values; least = p .next .least; sum = p .next .sum }))
           (sym (p .inv .1))
-          (lowering-last (l .linked .net) (l .linked .valid) (s .args .due .line) (starts s) (p .next .values) (p .next .least) (p .next .sum) (can' .stated)
+          (lowering-last (l .call-rows .net) (l .call-rows .valid) (s .args .due .line) (starts s) (p .next .values) (p .next .least) (p .next .sum) (can' .stated)
           (length-set (s .args .placed .starts) _ _ ∙ can' .before .starts-row)
           (set-low (s .args .placed .starts) (s .args .due .line) (s .args .due .start) (can' .before .starts-row) (line-low s) (can' .start-low) (can' .before .starts-low))
           end);

@@ -7,7 +7,7 @@ use borrow.Fn.Kinds.{In}
 use borrow.Fn.PlainCycle.{Measures, is, falls, and}
 use lib.ListN.{length, getD}
 use Rattle.search.specs.declared.Walk as code
-use Rattle.search.specs.Held.{stateOf, countIn}
+use Rattle.search.specs.Engine.Representation.{stateOf, countIn}
 use Rattle.search.proofs.Laws.Tries.{startCounts-low, try-stopped, try-ended, try-at-budget, can-place, can-try-next, placed-of-stands, dropped-or-given-up}
 use Rattle.search.proofs.Laws.Tries.{judged-next, judged-best, next-few, two-halves, none-left, one-left}
 use Rattle.search.proofs.tries.judge.Reads as judge
@@ -58,7 +58,7 @@ judge-returns : (t : ℕ) → judge-lts.Need-returns (
   with-best-reads.Asked,
   with-best-reads.Learnt,
 ) (judge-at t) judge.Post
-judge-returns t c = let s = c .before .before in (s .pre .1 .1 .1, λ l can. try-stopped (l .linked .net) _ _ _ _ _ (s .args .walk) (c .if1 .taken))
+judge-returns t c = let s = c .before .before in (s .pre .1 .1 .1, λ l can. try-stopped (l .call-rows .net) _ _ _ _ _ (s .args .walk) (c .if1 .taken))
 
 judge-has-ended-requires : (t : ℕ) → judge-lts.Need-has-ended-requires (
   has-ended-reads.Asked,
@@ -92,7 +92,7 @@ judge-returns-2 : (t : ℕ) → judge-lts.Need-returns-2 (
 ) (judge-at t) judge.Post
 judge-returns-2 t c = let s = c .before .before .before .before in (
   s .pre .1 .1 .1,
-  λ l can. try-ended (l .linked .net) _ _ _ _ _ (s .args .walk) (c .before .before .if1 .left) (sym (c .before .has-ended .ensures) ∙ c .if2 .taken),
+  λ l can. try-ended (l .call-rows .net) _ _ _ _ _ (s .args .walk) (c .before .before .if1 .left) (sym (c .before .has-ended .ensures) ∙ c .if2 .taken),
 )
 
 judge-returns-3 : (t : ℕ) → judge-lts.Need-returns-3 (
@@ -111,7 +111,7 @@ judge-returns-3 : (t : ℕ) → judge-lts.Need-returns-3 (
 ) (judge-at t) judge.Post
 judge-returns-3 t c = let s = c .before .before .before .before .before .before .before in (
   s .pre .1 .1 .1,
-  λ l can. try-at-budget (l .linked .net) _ _ _ _ _ (s .args .walk) (c .before .before .before .before .before .if1 .left) (sym (c .before .before .before .before .has-ended .ensures) ∙ c .before .before .before .if2 .left) (c .if3 .taken),
+  λ l can. try-at-budget (l .call-rows .net) _ _ _ _ _ (s .args .walk) (c .before .before .before .before .before .if1 .left) (sym (c .before .before .before .before .has-ended .ensures) ∙ c .before .before .before .if2 .left) (c .if3 .taken),
 )
 
 judge-add-next : (t : ℕ) → judge-lts.Need-add-next (
@@ -215,7 +215,7 @@ judge-add-line : (t : ℕ) → judge-lts.Need-add-line (
   with-best-reads.Asked,
   with-best-reads.Learnt,
 ) (judge-at t) judge.Post
-judge-add-line t c = let s = c .before .before .before .before .before .before .before .before .before .before .before .before .before .before .before .before in omega (arith, s .pre .1 .0 .1 .stated, s .pre .1 .0 .1 .last-of, c .before .if5 .taken, s .pre .1 .0 .0 .linked .valid .lines)
+judge-add-line t c = let s = c .before .before .before .before .before .before .before .before .before .before .before .before .before .before .before .before in omega (arith, s .pre .1 .0 .1 .stated, s .pre .1 .0 .1 .last-of, c .before .if5 .taken, s .pre .1 .0 .0 .call-rows .valid .lines)
 
 judge-mul-t19 : (t : ℕ) → judge-lts.Need-mul-t19 (
   has-ended-reads.Asked,
@@ -231,7 +231,7 @@ judge-mul-t19 : (t : ℕ) → judge-lts.Need-mul-t19 (
   with-best-reads.Asked,
   with-best-reads.Learnt,
 ) (judge-at t) judge.Post
-judge-mul-t19 t c = let s = c .before .before .before .before .before .before .before .before .before .before .before .before .before .before .before .before in omega (arith, s .pre .1 .0 .1 .stated, s .pre .1 .0 .1 .last-of, c .before .if5 .taken, s .pre .1 .0 .0 .linked .valid .lines)
+judge-mul-t19 t c = let s = c .before .before .before .before .before .before .before .before .before .before .before .before .before .before .before .before in omega (arith, s .pre .1 .0 .1 .stated, s .pre .1 .0 .1 .last-of, c .before .if5 .taken, s .pre .1 .0 .0 .call-rows .valid .lines)
 
 judge-element-copy-out-t22 : (t : ℕ) → judge-lts.Need-element-copy-out-t22 (
   has-ended-reads.Asked,
@@ -247,7 +247,7 @@ judge-element-copy-out-t22 : (t : ℕ) → judge-lts.Need-element-copy-out-t22 (
   with-best-reads.Asked,
   with-best-reads.Learnt,
 ) (judge-at t) judge.Post
-judge-element-copy-out-t22 t c = let s = c .before .before .before .before .before .before .before .before .before .before .before .before .before .before .before .before in omega (arith, s .pre .1 .0 .1 .stated, s .pre .1 .0 .1 .last-of, c .before .if5 .taken, s .pre .1 .0 .0 .linked .valid .lines)
+judge-element-copy-out-t22 t c = let s = c .before .before .before .before .before .before .before .before .before .before .before .before .before .before .before .before in omega (arith, s .pre .1 .0 .1 .stated, s .pre .1 .0 .1 .last-of, c .before .if5 .taken, s .pre .1 .0 .0 .call-rows .valid .lines)
 
 judge-cast-t24 : (t : ℕ) → judge-lts.Need-cast-t24 (
   has-ended-reads.Asked,
@@ -265,8 +265,8 @@ judge-cast-t24 : (t : ℕ) → judge-lts.Need-cast-t24 (
 ) (judge-at t) judge.Post
 judge-cast-t24 t c = let s = c .before .before .before .before .before .before .before .before .before .before .before .before .before .before .before .before .before in
     let l = s .pre .1 .0 .0 in
-    let next : s .args .due .line + 1 < length (l .linked .net .periods) = omega (arith, s .pre .1 .0 .1 .last-of, c .before .before .if5 .taken) in
-    omega (arith, l .count-of (s .args .due .line + 1) next, startCounts-low (l .linked .net) (l .linked .valid) (s .args .due .line + 1) next)
+    let next : s .args .due .line + 1 < length (l .call-rows .net .periods) = omega (arith, s .pre .1 .0 .1 .last-of, c .before .before .if5 .taken) in
+    omega (arith, l .count-of (s .args .due .line + 1) next, startCounts-low (l .call-rows .net) (l .call-rows .valid) (s .args .due .line + 1) next)
 
 judge-try-starts-requires : (t : ℕ) → judge-lts.Need-try-starts-requires (
   has-ended-reads.Asked,
@@ -286,7 +286,7 @@ judge-try-starts-requires t c κs = let s = c .before .before .before .before .b
     let l = s .pre .1 .0 .0 in
     let more = placed-of-stands (s .pre .1 .0 .1) (c .before .before .before .before .before .before .before .place .ensures l (can-place (s .pre .1 .0 .1) (s .args .due .start) (s .pre .1 .1 .0)))
     (sym (c .before .before .before .before .before .before .falls-short .ensures) ∙ c .before .before .before .before .before .if4 .left) in
-    let few = next-few (s .pre .1 .0 .1) more (l .linked .valid) (c .before .before .if5 .taken) in
+    let few = next-few (s .pre .1 .0 .1) more (l .call-rows .valid) (c .before .before .if5 .taken) in
     let count = l .count-of (s .args .due .line + 1) (omega (arith, s .pre .1 .0 .1 .last-of, c .before .before .if5 .taken)) in (
       omega (arith, s .pre .0, few, count, c .before .before .if5 .taken),
       (
@@ -357,7 +357,7 @@ judge-returns-6 t c = let s = c .before .before .before .before .before .before 
   λ l can.
       let stands = sym (c .before .before .before .before .before .falls-short .ensures) ∙ c .before .before .before .before .if4 .left in
       let more = placed-of-stands can (c .before .before .before .before .before .before .place .ensures l (can-place can (s .args .due .start) (s .pre .1 .1 .0))) stands in
-      ap (stateOf (l .linked .net)) (c .with-best .ensures)
+      ap (stateOf (l .call-rows .net)) (c .with-best .ensures)
       ∙ judged-best can more (s .args .walk) (c .before .before .before .before .before .before .before .before .before .before .before .before .before .before .if1 .left) (sym (c .before .before .before .before .before .before .before .before .before .before .before .before .before .has-ended .ensures) ∙ c .before .before .before .before .before .before .before .before .before .before .before .before .if2 .left) (c .before .before .before .before .before .before .before .before .before .if3 .left)
       (sym (c .before .before .before .before .before .before .before .cut-of .ensures _ _) ∙ stands) (c .before .if5 .left),
 )

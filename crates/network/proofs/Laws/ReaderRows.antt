@@ -7,23 +7,23 @@ use lib.ListN.{length, getD, set, length-set}
 use Rattle.network.specs.declared.Call.{Call}
 use Rattle.network.specs.declared.Network.{Network}
 use Rattle.network.specs.Network.{Net, maxLines, maxCycle, maxStop, maxCalls, cycle, withLine, withCall}
-use Rattle.network.specs.Stored.{netOf, packed, callIn, Sound, Latest, Often}
+use Rattle.network.specs.Engine.Stored.{netOf, packed, callIn, Sound, Latest, Often}
 use Rattle.network.proofs.Laws.Stored.{lineAdded, callAdded, sound-line, sound-call, call-added}
 use Rattle.network.proofs.Laws.Latest.{latest-call}
 use Rattle.network.proofs.Laws.Often.{often-call}
 
-pub record Kept (n : Network) (often latest : List ℕ) : Type 0 where
+pub record ReaderRows (n : Network) (often latest : List ℕ) : Type 0 where
   pub sound : Sound n
   pub often-row : length often ≡ 1024
   pub often-is : Often often (netOf n .calls)
   pub latest-row : length latest ≡ maxLines
   pub latest-is : Latest latest (netOf n .calls)
 
-module _ (n : Network) (often latest : List ℕ) (k : Kept n often latest) where
-  pub kept-line : (period common : ℕ) → n .lines < maxLines → 0 < common → common ≤ maxCycle → common ≡ cycle (withLine (netOf n) period)
-      → Kept (lineAdded n period common) often latest
+module _ (n : Network) (often latest : List ℕ) (k : ReaderRows n often latest) where
+  pub rows-with-line : (period common : ℕ) → n .lines < maxLines → 0 < common → common ≤ maxCycle → common ≡ cycle (withLine (netOf n) period)
+      → ReaderRows (lineAdded n period common) often latest
   unfolding netOf
-  kept-line period common room pos low is =
+  rows-with-line period common room pos low is =
       record {
         sound = sound-line n (k .sound) period common room pos low is;
         often-row = k .often-row;
@@ -32,10 +32,10 @@ module _ (n : Network) (often latest : List ℕ) (k : Kept n often latest) where
         latest-is = k .latest-is;
       }
 
-  pub kept-call : (code : ℕ) (call : Call) → code ≡ packed call → callIn code ≡ call → n .calls < maxCalls → call .line < maxLines → call .stop ≤ maxStop
-      → Kept (callAdded n code) (set often (call .stop * 16 + call .line) (getD often (call .stop * 16 + call .line) 0 + 1)) (set latest (call .line) (call .offset + 1))
+  pub rows-with-call : (code : ℕ) (call : Call) → code ≡ packed call → callIn code ≡ call → n .calls < maxCalls → call .line < maxLines → call .stop ≤ maxStop
+      → ReaderRows (callAdded n code) (set often (call .stop * 16 + call .line) (getD often (call .stop * 16 + call .line) 0 + 1)) (set latest (call .line) (call .offset + 1))
   unfolding withCall
-  kept-call code call d e room low high =
+  rows-with-call code call d e room low high =
       record {
         sound = sound-call n (k .sound) code room (ap packed e ∙ sym d);
         often-row = length-set often _ _ ∙ k .often-row;

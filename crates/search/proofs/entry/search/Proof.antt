@@ -1,4 +1,4 @@
--- `search::call::search` meets its contract: it answers the file's refusal, then ground 16, then the walk's outcome, and writes the row only
+-- `search::entry::search` meets its contract: it answers the file's refusal, then ground 16, then the walk's outcome, and writes the row only
 -- where the walk has a best. Assumes nothing.
 use mathlib.Core.Path.{_≡_, sym, ap, _∙_}
 use mathlib.Core.Bool.{Bool}
@@ -12,15 +12,15 @@ use Rattle.network.specs.declared.Check.{Check}
 use Rattle.network.specs.Lists.{pick}
 use Rattle.network.specs.Network.{Net}
 use Rattle.network.specs.Reading.{Reading, accepted, readFile}
-use Rattle.network.specs.Stored.{netOf, readingOf}
+use Rattle.network.specs.Engine.Stored.{netOf, readingOf}
 use Rattle.network.specs.Valid.{Valid, IsBytes}
 use Rattle.network.proofs.Laws.Stored.{held-lines, bytes-of, readingOf-passes, readingOf-refused}
 use Rattle.network.proofs.Laws.Gaps.{accepted-valid}
-use Rattle.search.specs.Held.{startsOf}
+use Rattle.search.specs.Engine.Representation.{startsOf}
 use Rattle.search.specs.Search.{searchAnswer, searchOutcome, startRowAfter}
-use Rattle.search.proofs.Laws.Called.{outcome-fit, row-fit, outcome-unfit, row-unfit}
-use Rattle.search.proofs.call.search.Statement.{statement}
-use Rattle.search.proofs.call.search.Tie as tie
+use Rattle.search.proofs.Laws.SearchCall.{outcome-fit, row-fit, outcome-unfit, row-unfit}
+use Rattle.search.proofs.entry.search.Statement.{statement}
+use Rattle.search.proofs.entry.search.Tie as tie
 
 -- What was lent are bytes
 bytes-here : (c : tie.After-read-network) → IsBytes (c .before .before .args .file .now)

@@ -1,9 +1,9 @@
--- `search::call::outcome` meets its contract, by the three cases of a walk at its end. Assumes nothing.
+-- `search::entry::outcome` meets its contract, by the three cases of a walk at its end. Assumes nothing.
 use mathlib.Core.Path.{refl}
 use Rattle.search.specs.Search.{searchAnswer, walkOutcome, outcomeOf}
-use Rattle.search.specs.Held.{stateOf}
-use Rattle.search.proofs.call.outcome.Statement.{statement}
-use Rattle.search.proofs.call.outcome.Tie as tie
+use Rattle.search.specs.Engine.Representation.{stateOf}
+use Rattle.search.proofs.entry.outcome.Statement.{statement}
+use Rattle.search.proofs.entry.outcome.Tie as tie
 
 returns : tie.Need-returns
 unfolding searchAnswer walkOutcome outcomeOf stateOf

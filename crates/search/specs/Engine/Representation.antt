@@ -9,12 +9,12 @@ use lib.IntN.{ℤ, pos}
 use lib.ListN.{length, getD, take, drop}
 use Rattle.network.specs.declared.Call.{Call}
 use Rattle.network.specs.declared.Rating.{Rating}
-use Rattle.network.specs.Lists.{pick}
+use Rattle.network.specs.Lists.{pick, leastFrom}
 use Rattle.network.specs.Divisor.{gcd}
 use Rattle.network.specs.Network.{Net, isServed, maxLines, maxPeriod, stopCount}
 use Rattle.network.specs.Rating.{gapOfCalls}
-use Rattle.network.specs.Scan.{LeadsBack, leastFrom, callsBefore}
-use Rattle.network.specs.Stored.{packed}
+use Rattle.network.specs.Engine.Scan.{LeadsBack, callsBefore}
+use Rattle.network.specs.Engine.Stored.{packed}
 use Rattle.network.specs.Valid.{Valid, noCall}
 use Rattle.search.specs.declared.Cut.{Cut}
 use Rattle.search.specs.declared.Placed.{Placed}
@@ -27,7 +27,7 @@ use Rattle.search.specs.declared.Walk as declared-walk
 use Rattle.search.specs.Caps.{cap, upperValue, upperRating}
 use Rattle.search.specs.Walk.{State, Rule, oneTry, eachStart, walk}
 use Rattle.search.specs.Search.{startCounts, aboveBest, atLeast, bySum}
-use Rattle.search.specs.Layout.{byLine}
+use Rattle.search.specs.Engine.Layout.{byLine}
 
 -- More than any arrival of the walk: a start below 1,440 and an offset below 65,536
 abbrev pub arrivalLimit : ℕ
@@ -47,7 +47,7 @@ withReciprocal zero = 0
 withReciprocal (suc g) = reciprocal (suc g) * 2048 + suc g
 
 -- Rows that hold the calls, each packed, the way back at a stop and the divisors of a valid network, in the order of their lines
-pub record Linked (codes previous divisors : List ℕ) : Type 0 where
+pub record CallRows (codes previous divisors : List ℕ) : Type 0 where
   pub net : Net
   pub valid : Valid net
   pub code-of : (i : ℕ) → i < length (net .calls) → getD codes i 0 ≡ packed (getD (byLine (net .calls) (length (net .periods))) i noCall)
@@ -59,11 +59,11 @@ pub record Linked (codes previous divisors : List ℕ) : Type 0 where
       → getD divisors (i * maxLines + j) 0 ≡ withReciprocal (gcd (getD (net .periods) j 0) (getD (net .periods) i 0))
 
 -- The calls in the order of their lines
-abbrev pub callsByLine : {codes previous divisors : List ℕ} → Linked codes previous divisors → List Call
+abbrev pub callsByLine : {codes previous divisors : List ℕ} → CallRows codes previous divisors → List Call
 callsByLine l = byLine (l .net .calls) (length (l .net .periods))
 
 -- The least of a value and the gaps of the call at a place to those before it at its stop
-abbrev pub loweredAt : {codes previous divisors : List ℕ} → Linked codes previous divisors → List ℕ → ℕ → ℕ → ℕ
+abbrev pub loweredAt : {codes previous divisors : List ℕ} → CallRows codes previous divisors → List ℕ → ℕ → ℕ → ℕ
 loweredAt l starts at value =
     leastFrom value
     (map (λ d. gapOfCalls (l .net) (map pos starts) d (getD (callsByLine l) at noCall))
@@ -77,10 +77,10 @@ abbrev pub countIn : ℕ → ℕ
 countIn code = code / 512
 
 -- Beside them the first call of each line and the number of its starts
-pub record Laid (codes previous divisors lines : List ℕ) : Type 0 where
-  pub linked : Linked codes previous divisors
-  pub first-of : (k : ℕ) → k ≤ length (linked .net .periods) → firstIn (getD lines k 0) ≡ length (byLine (linked .net .calls) k)
-  pub count-of : (k : ℕ) → k < length (linked .net .periods) → countIn (getD lines k 0) ≡ getD (startCounts (linked .net .periods)) k 0
+pub record NetworkRows (codes previous divisors lines : List ℕ) : Type 0 where
+  pub call-rows : CallRows codes previous divisors
+  pub first-of : (k : ℕ) → k ≤ length (call-rows .net .periods) → firstIn (getD lines k 0) ≡ length (byLine (call-rows .net .calls) k)
+  pub count-of : (k : ℕ) → k < length (call-rows .net .periods) → countIn (getD lines k 0) ≡ getD (startCounts (call-rows .net .periods)) k 0
 
 -- The starts of the first `k` lines, as integers
 abbrev pub startsOf : ℕ → List ℕ → List ℤ
@@ -143,14 +143,14 @@ pub record GivenUp (n : Net) (cut : Cut) (line start : ℕ) (p r : Placed) : Typ
 -- A try's line can be placed on the network that the rows hold
 abbrev pub MayPlace : (codes previous divisors lines : List ℕ) → Try → Placed → Type 0
 MayPlace codes previous divisors lines due p =
-    (l : Laid codes previous divisors lines) × CanPlace (l .linked .net) (due .line) (due .start) p
+    (l : NetworkRows codes previous divisors lines) × CanPlace (l .call-rows .net) (due .line) (due .start) p
 
 -- On each such network it is placed or given up
 abbrev pub PlacedOr : (codes previous divisors lines : List ℕ) → Cut → Try → (p r : Placed) → Type 0
 PlacedOr codes previous divisors lines cut due p r =
-    (l : Laid codes previous divisors lines)
-    → CanPlace (l .linked .net) (due .line) (due .start) p
-    → PlacedMore (l .linked .net) (due .line) (due .start) p r ⊎ GivenUp (l .linked .net) cut (due .line) (due .start) p r
+    (l : NetworkRows codes previous divisors lines)
+    → CanPlace (l .call-rows .net) (due .line) (due .start) p
+    → PlacedMore (l .call-rows .net) (due .line) (due .start) p r ⊎ GivenUp (l .call-rows .net) cut (due .line) (due .start) p r
 
 -- ---- the walk
 
@@ -194,12 +194,12 @@ pub record CanTry (n : Net) (task : Task) (line : ℕ) (p : Placed) : Type 0 whe
 -- It can be tried on the network that the rows hold
 abbrev pub MayTry : (codes previous divisors lines : List ℕ) → Task → ℕ → Placed → Type 0
 MayTry codes previous divisors lines task line p =
-    (l : Laid codes previous divisors lines) × CanTry (l .linked .net) task line p
+    (l : NetworkRows codes previous divisors lines) × CanTry (l .call-rows .net) task line p
 
 -- On each such network a walk has become another by these steps
 abbrev pub Tried :
     (codes previous divisors lines : List ℕ) → Task → ℕ → Placed → (Net → State → State) → (w r : declared-walk.Walk) → Type 0
 Tried codes previous divisors lines task line p steps w r =
-    (l : Laid codes previous divisors lines)
-    → CanTry (l .linked .net) task line p
-    → stateOf (l .linked .net) r ≡ steps (l .linked .net) (stateOf (l .linked .net) w)
+    (l : NetworkRows codes previous divisors lines)
+    → CanTry (l .call-rows .net) task line p
+    → stateOf (l .call-rows .net) r ≡ steps (l .call-rows .net) (stateOf (l .call-rows .net) w)

@@ -13,12 +13,12 @@ use Rattle.network.specs.declared.Call.{Call}
 use Rattle.network.specs.declared.Network.{Network}
 use Rattle.network.specs.declared.Rating.{Rating}
 use Rattle.network.specs.Divisor.{gcd}
-use Rattle.network.specs.Lists.{pick, sumOf, leastOf}
+use Rattle.network.specs.Lists.{pick, sumOf, leastOf, leastFrom}
 use Rattle.network.specs.Network.{Net, isServed, maxStop, maxPeriod}
 use Rattle.network.specs.Rating.{pairGaps, callsOfStop, servedList, counted, ratingBy, noRating}
 use Rattle.network.specs.Reading.{accepted}
-use Rattle.network.specs.Scan.{leastFrom, LeadsBack, countedStops}
-use Rattle.network.specs.Stored.{netOf, callsIn, Sound, packed}
+use Rattle.network.specs.Engine.Scan.{LeadsBack, countedStops}
+use Rattle.network.specs.Engine.Stored.{netOf, callsIn, Sound, packed}
 use Rattle.network.specs.Valid.{Valid, noCall}
 use Rattle.network.proofs.Laws.Lists.{getD-zeros}
 use Rattle.network.proofs.Laws.Members.{keep-none}
@@ -28,13 +28,13 @@ use Rattle.network.proofs.Laws.Gaps.{ratingBy-same, counted-of-member, counted-
 use Rattle.network.proofs.Laws.Gaps.{leastFrom-pairGaps-few, sumOf-served-le}
 use Rattle.search.specs.declared.Walk as code
 use Rattle.search.specs.Caps.{cap, placedCalls, upperValue, upperRating}
-use Rattle.search.specs.Held.{Represents, Laid, firstIn, countIn, startsOf, stateOf, walkFrom, tryAt, withReciprocal}
-use Rattle.search.specs.Layout.{byLine, inLineOrder}
+use Rattle.search.specs.Engine.Representation.{Represents, NetworkRows, firstIn, countIn, startsOf, stateOf, walkFrom, tryAt, withReciprocal}
+use Rattle.search.specs.Engine.Layout.{byLine, inLineOrder}
 use Rattle.search.specs.Search.{startCounts, aboveBest, searched, refusal, outcomeOf, searchOutcome, startRowAfter}
 use Rattle.search.specs.Walk.{State, atFirst, eachStart}
 use Rattle.search.proofs.Laws.CapScan.{cap-le}
 use Rattle.search.proofs.Laws.Layout.{length-byLine-all}
-use Rattle.search.proofs.Laws.Linked.{byLine-all}
+use Rattle.search.proofs.Laws.CallRows.{byLine-all}
 use Rattle.search.proofs.Laws.Tries.{walkFrom-next}
 
 -- ---- no line placed
@@ -147,10 +147,10 @@ module _
         (ap₂ (λ (a b : ℕ). withReciprocal (gcd a b)) (held-period network j (omega (arith, k, held-lines network sound))) (held-period network i (omega (arith, h, held-lines network sound))))
 
     -- they hold the network
-    abbrev pub laid : Laid (by .list) previous divisors lines
-    laid =
+    abbrev pub network-rows : NetworkRows (by .list) previous divisors lines
+    network-rows =
         record {
-          linked =
+          call-rows =
               record {
                 net = netOf network;
                 valid = valid;

@@ -1,4 +1,4 @@
--- `search::call::searched` meets its contract: the rows in line order hold the network, no line is placed, and the tries of the first line
+-- `search::entry::searched` meets its contract: the rows in line order hold the network, no line is placed, and the tries of the first line
 -- by document 01's rule are the walk. Assumes nothing.
 use Prim.Native.Nat.{_-_}
 use mathlib.Core.Path.{_∙_}
@@ -6,17 +6,17 @@ use native.Mathlib.Omega.{arith}
 use borrow.Author.Needs.{needs}
 use lib.ListN.{replicate}
 use Rattle.network.specs.declared.Network.{Network}
-use Rattle.network.specs.Stored.{netOf, Sound}
+use Rattle.network.specs.Engine.Stored.{netOf, Sound}
 use Rattle.network.specs.Valid.{Valid}
 use Rattle.network.proofs.Laws.Stored.{held-lines}
 use Rattle.search.specs.declared.Rule.the-variants as rules
 use Rattle.search.specs.declared.Task.{Task}
-use Rattle.search.specs.Held.{Laid, CanTry, ruleOf}
+use Rattle.search.specs.Engine.Representation.{NetworkRows, CanTry, ruleOf}
 use Rattle.search.proofs.Laws.Layout.{length-byLine-le}
 use Rattle.search.proofs.Laws.Tries.{startCounts-low}
-use Rattle.search.proofs.Laws.Called.{stops-low, laid, searched-by-tries}
-use Rattle.search.proofs.call.searched.Statement.{statement}
-use Rattle.search.proofs.call.searched.Tie as tie
+use Rattle.search.proofs.Laws.SearchCall.{stops-low, network-rows, searched-by-tries}
+use Rattle.search.proofs.entry.searched.Statement.{statement}
+use Rattle.search.proofs.entry.searched.Tie as tie
 
 -- Before the tries: the network, the rows that hold it, and the first line that can be tried
 module _ (c : tie.After-lines) where
@@ -50,9 +50,9 @@ module _ (c : tie.After-lines) where
   abbrev valid : Valid (netOf network)
   valid = start .pre .1
 
-  abbrev rows : Laid (with-by-line .by-line .result .network .list) (with-previous .previous-row .result) (with-divisors .divisor-row .result) (with-lines .line-row .result)
+  abbrev rows : NetworkRows (with-by-line .by-line .result .network .list) (with-previous .previous-row .result) (with-divisors .divisor-row .result) (with-lines .line-row .result)
   rows =
-      laid network (with-by-line .by-line .result .network) sound valid (with-by-line .by-line .ensures .0 .0) (with-by-line .by-line .ensures .0 .1)
+      network-rows network (with-by-line .by-line .result .network) sound valid (with-by-line .by-line .ensures .0 .0) (with-by-line .by-line .ensures .0 .1)
       (with-previous .previous-row .result)
       (with-divisors .divisor-row .result)
       (with-lines .line-row .result)

@@ -4,11 +4,10 @@ use Prim.Native.Nat.{ℕ, _/_}
 use mathlib.Core.List.{List, [], _∷_}
 use lib.ListN.{length}
 use Rattle.network.specs.declared.Call.{Call}
-use Rattle.network.specs.Lists.{sumOf}
+use Rattle.network.specs.Lists.{sumOf, leastFrom}
 use Rattle.network.specs.Divisor.{gcd}
 use Rattle.network.specs.Network.{Net, cycle}
 use Rattle.network.specs.Rating.{periodOf}
-use Rattle.network.specs.Scan.{leastFrom}
 use Rattle.search.specs.declared.caps.Bounds.{Bounds}
 use Rattle.search.specs.Caps.{halves}
 

@@ -8,9 +8,9 @@ use Rattle.network.specs.declared.Call.{Call}
 use Rattle.network.specs.declared.Check.{Check}
 use Rattle.network.specs.declared.Check.the-variants.{Passes, Refused}
 use Rattle.network.specs.declared.Network.{Network}
-use Rattle.network.specs.declared.Size.{Size}
-use Rattle.network.specs.declared.Told.{Told}
-use Rattle.network.specs.declared.Told.the-variants as told
+use Rattle.network.specs.declared.Totals.{Totals}
+use Rattle.network.specs.declared.Parsed.{Parsed}
+use Rattle.network.specs.declared.Parsed.the-variants as parsed
 use Rattle.network.specs.Divisor.{lcm}
 use Rattle.network.specs.Lists.{pick}
 use Rattle.network.specs.Network.{Net, netWith, SoFar, Command, statesLine, callsByOffset, callsByRide, ends, maxLines, maxStop, maxCalls, maxCycle, cycle}
@@ -46,7 +46,7 @@ pub record Sound (n : Network) : Type 0 where
   pub cycle-le : n .cycle ≤ maxCycle
 
 -- The numbers that the grounds ask of a network
-pub record HasSize (n : Net) (s : Size) : Type 0 where
+pub record HasTotals (n : Net) (s : Totals) : Type 0 where
   pub lines : s .lines ≡ length (n .periods)
   pub calls : s .calls ≡ length (n .calls)
   pub cycle-is : s .cycle ≡ cycle n
@@ -60,14 +60,14 @@ unfoldable pub Often : List ℕ → List Call → Type 0
 Often often cs = (line stop : ℕ) → line < maxLines → stop ≤ maxStop → getD often (stop * maxLines + line) 0 ≡ howOftenAt line stop cs
 
 -- What one command's function tells is right: the ground that applies first, or, where none does, the command's line or call, or the end
-unfoldable pub Tells : Command → SoFar → ℕ → List ℕ → Told → Type 0
-Tells c f p behind (told.Refused number place) = first (grounds c f p behind) ≡ Refused number place
-Tells c f p behind (told.Line period common) =
+unfoldable pub IsParsed : Command → SoFar → ℕ → List ℕ → Parsed → Type 0
+IsParsed c f p behind (parsed.Refused number place) = first (grounds c f p behind) ≡ Refused number place
+IsParsed c f p behind (parsed.Line period common) =
     (first (grounds c f p behind) ≡ Passes) × (c ≡ statesLine) × (period ≡ word behind 0) × (common ≡ lcm (cycle (f .network)) (word behind 0))
-Tells c f p behind (told.Calls call) =
+IsParsed c f p behind (parsed.Calls call) =
     (first (grounds c f p behind) ≡ Passes)
     × (((c ≡ callsByOffset) × (call ≡ callOf behind (statedOffset behind))) ⊎ ((c ≡ callsByRide) × (call ≡ callOf behind (rideOffset (f .network) behind))))
-Tells c f p behind told.End = (first (grounds c f p behind) ≡ Passes) × (c ≡ ends)
+IsParsed c f p behind parsed.End = (first (grounds c f p behind) ≡ Passes) × (c ≡ ends)
 
 -- What reading a whole file gives
 unfoldable pub readingOf : Check → Network → Reading

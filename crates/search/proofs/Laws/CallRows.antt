@@ -19,8 +19,8 @@ use Rattle.network.proofs.Laws.Integers.{difference-pos, difference-sub, differ
 use Rattle.network.proofs.Laws.Packed.{InLimits, packed-line, packed-offset, packed-stop}
 use Rattle.network.proofs.Laws.Gaps.{residue-eq-of-multiple, arrivalOf-pos, gapOfCalls-is-fold, periodOf-is, periodOf-le, periodOf-pos}
 use Rattle.network.proofs.Laws.Gaps.{residue-pos}
-use Rattle.search.specs.Layout.{byLine}
-use Rattle.search.specs.Held.{Linked, callsByLine, reciprocal, withReciprocal}
+use Rattle.search.specs.Engine.Layout.{byLine}
+use Rattle.search.specs.Engine.Representation.{CallRows, callsByLine, reciprocal, withReciprocal}
 use Rattle.search.proofs.Laws.Layout.{length-byLine-all, byLine-line-lt}
 use Rattle.search.proofs.Laws.Codes.{lineIn, stopIn, offsetIn}
 use Rattle.search.proofs.Laws.Reciprocal.{divisor-part, reciprocal-part}
@@ -42,7 +42,7 @@ residue-of-difference g a b m h =
 arrival-of : (starts : List ℕ) (line offset : ℕ) (c : Call) → line ≡ c .line → offset ≡ c .offset → pos (getD starts line 0 + offset) ≡ arrivalOf (map pos starts) c
 arrival-of starts line offset c e f = ap₂ (λ (a b : ℕ). pos (getD starts a 0 + b)) e f ∙ sym (arrivalOf-pos starts c)
 
-module _ {codes previous divisors : List ℕ} (l : Linked codes previous divisors) where
+module _ {codes previous divisors : List ℕ} (l : CallRows codes previous divisors) where
   -- all calls are in line order
   pub length-callsByLine : length (callsByLine l) ≡ length (l .net .calls)
   length-callsByLine = length-byLine-all (l .net .calls) (length (l .net .periods)) (l .valid .call-line)

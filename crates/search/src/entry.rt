@@ -23,9 +23,9 @@ ghost use Prim.Native.Nat.{ℕ, _<_, _≤_};
 ghost use lib.ListN.{length, getD};
 ghost use Rattle.network.specs.Network as net;
 ghost use Rattle.network.specs.Reading.{readFile};
-ghost use Rattle.network.specs.Stored.{netOf, Sound};
+ghost use Rattle.network.specs.Engine.Stored.{netOf, Sound};
 ghost use Rattle.network.specs.Valid.{Valid, IsBytes};
-ghost use Rattle.search.specs.Held as held;
+ghost use Rattle.search.specs.Engine.Representation as rows;
 ghost use Rattle.search.specs.Search as spec;
 
 // The caps as the numbers of a rating.
@@ -43,7 +43,7 @@ fn widened(row: &[u16; Network::STOPS]) -> [u32; Network::STOPS]
 // Before the first try: no line is placed, and each stop's upper value is its cap.
 fn unplaced(network: Network) -> Placed
     requires { ⌜ Sound network × Valid (netOf network) ⌝ }
-    ensures { λ r. ⌜ held.Represents (netOf network) 0 r ⌝ }
+    ensures { λ r. ⌜ rows.Represents (netOf network) 0 r ⌝ }
 {
     let caps = cap_row(network);
     let served = served_row(network);
@@ -61,7 +61,7 @@ fn unplaced(network: Network) -> Placed
 // The walk over a network.
 fn searched(network: Network, budget: u32) -> Walk
     requires { ⌜ Sound network × Valid (netOf network) ⌝ }
-    ensures { λ r. ⌜ held.stateOf (netOf network) r ≡ spec.searched (netOf network) budget ⌝ }
+    ensures { λ r. ⌜ rows.stateOf (netOf network) r ≡ spec.searched (netOf network) budget ⌝ }
 {
     let ordered = by_line(network);
     let by = ordered.network;
@@ -103,7 +103,7 @@ fn searched(network: Network, budget: u32) -> Walk
 // The best starts, written to the start row.
 fn write_starts(row: &mut [i32], starts: &[u16; Network::MAX_LINES])
     requires { ⌜ length (now row) ≤ net.maxLines ⌝ }
-    ensures { λ _. ⌜ now (row .exit) ≡ held.startsOf (length (now (row .entry))) (now (starts .entry)) ⌝ }
+    ensures { λ _. ⌜ now (row .exit) ≡ rows.startsOf (length (now (row .entry))) (now (starts .entry)) ⌝ }
 {
     let from: &[u16] = starts;
     let count = row.len();
@@ -114,7 +114,7 @@ fn write_starts(row: &mut [i32], starts: &[u16; Network::MAX_LINES])
 
 // What a walk at its end answers.
 fn outcome(walk: Walk) -> SearchAnswer
-    ensures { λ r. ⌜ ((n : net.Net) → spec.searchAnswer r ≡ spec.outcomeOf (held.stateOf n walk)) ⌝ }
+    ensures { λ r. ⌜ ((n : net.Net) → spec.searchAnswer r ≡ spec.outcomeOf (rows.stateOf n walk)) ⌝ }
 {
     let best = walk.best;
     if walk.stopped {

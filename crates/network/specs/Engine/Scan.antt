@@ -11,7 +11,7 @@ use Rattle.network.specs.declared.Network.{Network}
 use Rattle.network.specs.declared.Rating.{Rating}
 use Rattle.network.specs.Lists.{pick, keep, below}
 use Rattle.network.specs.Network.{maxLines, maxStop}
-use Rattle.network.specs.Stored.{netOf, callsIn, Sound}
+use Rattle.network.specs.Engine.Stored.{netOf, callsIn, Sound}
 use Rattle.network.specs.Valid.{Valid, noCall}
 use Rattle.network.specs.Divisor.{gcd}
 use Rattle.network.specs.Gap.{residue, fold}
@@ -29,11 +29,6 @@ callsBefore stop calls k = keep (λ (c : Call). eqb (c .stop) stop) (take k call
 -- A row that leads from each of the first `k` calls to the one before it at its stop
 unfoldable pub LeadsBack : List ℕ → List Call → ℕ → Type 0
 LeadsBack previous calls k = (j : ℕ) → j < k → getD previous j 0 ≡ lastAt (getD calls j noCall .stop) calls j
-
--- The least of a number and a list
-unfoldable pub leastFrom : ℕ → List ℕ → ℕ
-leastFrom v [] = v
-leastFrom v (x ∷ xs) = leastFrom (min v x) xs
 
 -- The stops that a row counts, with the weights of another
 unfoldable pub countedStops : List ℕ → List ℕ → List Counted
