@@ -61,7 +61,7 @@ pub record Marks (file : List ℕ) (sheet : List ℤ) (budget : ℕ) (answer : M
   pub answered : answer ≡ markOutcome (readFile file) sheet budget
 
 -- What a mark that isn't a refusal tells of the sheet and of the search
-record Told (n : Net) (sheet : List ℤ) (budget least sum : ℕ) (searched : SearchOutcome) : Type 0 where
+record SearchTells (n : Net) (sheet : List ℤ) (budget least sum : ℕ) (searched : SearchOutcome) : Type 0 where
   fit : length sheet ≡ length (n .periods)
   its-least : rating n sheet .least ≡ least
   its-sum : rating n sheet .sum ≡ sum
@@ -69,11 +69,11 @@ record Told (n : Net) (sheet : List ℤ) (budget least sum : ℕ) (searched : Se
 
 abbrev ToldDecided : Net → List ℤ → ℕ → ℕ → ℕ → ℕ → ℕ → Bool → ℕ → Type 0
 ToldDecided n sheet budget least sum bestLeast bestSum equal tries =
-    Told n sheet budget least sum (finished bestLeast bestSum tries) × ((eqb least bestLeast && eqb sum bestSum) ≡ equal)
+    SearchTells n sheet budget least sum (finished bestLeast bestSum tries) × ((eqb least bestLeast && eqb sum bestSum) ≡ equal)
 
 abbrev ToldUndecided : Net → List ℤ → ℕ → ℕ → ℕ → ℕ → Type 0
 ToldUndecided n sheet budget least sum tries =
-    ((l : ℕ) × (s : ℕ) × Told n sheet budget least sum (stopped l s tries)) ⊎ Told n sheet budget least sum (stoppedWithNone tries)
+    ((l : ℕ) × (s : ℕ) × SearchTells n sheet budget least sum (stopped l s tries)) ⊎ SearchTells n sheet budget least sum (stoppedWithNone tries)
 
 module _ (n : Net) (sheet : List ℤ) (budget : ℕ) where
   -- By whether the sheet fits, and by what the search answers
@@ -154,7 +154,7 @@ module _ {file : List ℕ} {sheet : List ℤ} {budget : ℕ} {answer : MarkOutco
   found-is : {o : SearchOutcome} → searchOutcome (accepted n) (length sheet) budget ≡ o → searchOutcome (readFile file) (length sheet) budget ≡ o
   found-is e = ap (λ (read : Reading). searchOutcome read (length sheet) budget) reads ∙ e
 
-  rated : {least sum : ℕ} {o : SearchOutcome} → Told n sheet budget least sum o → IsRating n sheet least sum
+  rated : {least sum : ℕ} {o : SearchOutcome} → SearchTells n sheet budget least sum o → IsRating n sheet least sum
   rated t = rw (← t .its-least, ← t .its-sum) (rating-is-rating n (accepted-valid file n (call .bytes) reads) sheet)
 
   tries-are : {o : SearchOutcome} → searchOutcome (accepted n) (length sheet) budget ≡ o

@@ -149,7 +149,7 @@ pub fn place(
         if falls_short(cut, next.least, next.sum) {
             return next;
         }
-        let stop = (codes[i] / Call::STOP_UNIT % 64) as usize;
+        let stop = (codes[i] / Call::STOP_UNIT % Network::STOPS as u32) as usize;
         let old = next.values[stop];
         let value = lowered(codes, previous, divisors, &next.starts, i, old);
         next.values[stop] = value;
