@@ -4,19 +4,19 @@
 -- ---- Demand 1
 
 -- "Every file, sheet and row lent to a call may hold any content and have any length: the call returns"
-pub use Rattle.network.proofs.Demands.{read-asks-nothing, rate-asks-nothing, weighted-asks-nothing, classes-asks-nothing}
+pub use Rattle.network.proofs.Demands.{read-asks-nothing, rate-asks-nothing, weighted-asks-nothing, classes-asks-nothing, archive-asks-nothing}
 pub use Rattle.search.proofs.Demands.{search-asks-nothing}
 pub use Rattle.examination.proofs.Demands.{better-asks-nothing, mark-asks-nothing}
 pub use Rattle.examination.proofs.ExportDemands.{read-export-asks-nothing, rate-export-asks-nothing, weighted-export-asks-nothing}
-pub use Rattle.examination.proofs.ExportDemands.{classes-export-asks-nothing, search-export-asks-nothing, better-export-asks-nothing}
-pub use Rattle.examination.proofs.ExportDemands.{mark-export-asks-nothing}
+pub use Rattle.examination.proofs.ExportDemands.{classes-export-asks-nothing, archive-export-asks-nothing, search-export-asks-nothing}
+pub use Rattle.examination.proofs.ExportDemands.{better-export-asks-nothing, mark-export-asks-nothing}
 -- "faulty input and no other gets the refusal number and place that document 01 sets ..., and a refused call leaves each lent row exactly as it
 -- found it"
-pub use Rattle.network.proofs.Demands.{read-demand-1, file-gives, file-gives-no-other, rate-demand-1, weighted-demand-1, classes-demand-1}
+pub use Rattle.network.proofs.Demands.{read-demand-1, file-gives, file-gives-no-other, rate-demand-1, weighted-demand-1, classes-demand-1, archive-demand-1}
 pub use Rattle.search.proofs.Demands.{search-demand-1}
 pub use Rattle.examination.proofs.Demands.{mark-demand-1}
 pub use Rattle.examination.proofs.ExportDemands.{read-export-demand-1, rate-export-demand-1, weighted-export-demand-1}
-pub use Rattle.examination.proofs.ExportDemands.{classes-export-demand-1, search-export-demand-1, mark-export-demand-1}
+pub use Rattle.examination.proofs.ExportDemands.{classes-export-demand-1, archive-export-demand-1, search-export-demand-1, mark-export-demand-1}
 -- "(better-of-two answers by its part alone)"
 pub use Rattle.examination.proofs.Demands.{better-file-refused, better-neither-fits, better-only-first-fits, better-only-second-fits}
 pub use Rattle.examination.proofs.Demands.{better-both-fit}
@@ -55,3 +55,15 @@ pub use Rattle.examination.proofs.ExportDemands.{weighted-export-as-rat
 -- budget was too small
 pub use Rattle.examination.proofs.Demands.{mark-means-what-it-says}
 pub use Rattle.examination.proofs.ExportDemands.{mark-export-means}
+-- ---- Document 02, A.1
+
+-- "A writer is to produce the archive form of an accepted file into a lent row: lines in order, then calls by line and then stop, all as 43, then
+-- 45. Reading the archive form gives the same periods and offsets. .. the archive form of an archive form is itself. The answer is its length; bytes
+-- behind it stay, and a short row is untouched"
+pub use Rattle.network.proofs.Demands.{archive-writes}
+pub use Rattle.examination.proofs.ExportDemands.{archive-export-writes}
+-- "Two files have equal archive bytes exactly when their periods and offsets are equal"
+pub use Rattle.network.proofs.Demands.{equal-archives}
+-- Two files of one network, a file and its archive form among them, are answered alike
+pub use Rattle.network.proofs.Demands.{same-network-read-alike, same-network-rated-alike, same-network-weighted-alike, same-network-classified-alike}
+pub use Rattle.search.proofs.Demands.{same-network-searched-alike}
