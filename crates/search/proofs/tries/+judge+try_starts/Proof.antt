@@ -44,7 +44,9 @@ abbrev try-starts-below : ℕ → In 4 try-starts-kinds.ps
 try-starts-below t =
     and 4 try-starts-kinds.ps (falls 4 try-starts-kinds.ps _<_ μ-try-starts t) try-starts.Pre
 
-judge-returns : (t : ℕ) → judge-lts.Need-returns (
+-- What the functions that each of the two calls ask and promise, the other one below this measure
+abbrev judge-claims : ℕ → judge-lts.Claims
+judge-claims t = (
   has-ended-reads.Asked,
   has-ended-reads.Learnt,
   cut-of-reads.Asked,
@@ -57,141 +59,47 @@ judge-returns : (t : ℕ) → judge-lts.Need-returns (
   try-starts.Post,
   with-best-reads.Asked,
   with-best-reads.Learnt,
-) (judge-at t) judge.Post
+)
+
+abbrev try-starts-claims : ℕ → try-starts-lts.Claims
+try-starts-claims t = (
+  judge-below t,
+  judge.Post,
+  try-starts-below t,
+  try-starts.Post,
+)
+
+judge-returns : (t : ℕ) → judge-lts.Need-returns (judge-claims t) (judge-at t) judge.Post
 judge-returns t c = let s = c .before .before in (s .pre .1 .1 .1, λ l can. try-stopped (l .call-rows .net) _ _ _ _ _ (s .args .walk) (c .if1 .taken))
 
-judge-has-ended-requires : (t : ℕ) → judge-lts.Need-has-ended-requires (
-  has-ended-reads.Asked,
-  has-ended-reads.Learnt,
-  cut-of-reads.Asked,
-  cut-of-reads.Learnt,
-  place-reads.Asked,
-  place-reads.Learnt,
-  falls-short-reads.Asked,
-  falls-short-reads.Learnt,
-  try-starts-below t,
-  try-starts.Post,
-  with-best-reads.Asked,
-  with-best-reads.Learnt,
-) (judge-at t) judge.Post
+judge-has-ended-requires : (t : ℕ) → judge-lts.Need-has-ended-requires (judge-claims t) (judge-at t) judge.Post
 judge-has-ended-requires t c κs = tt
 
-judge-returns-2 : (t : ℕ) → judge-lts.Need-returns-2 (
-  has-ended-reads.Asked,
-  has-ended-reads.Learnt,
-  cut-of-reads.Asked,
-  cut-of-reads.Learnt,
-  place-reads.Asked,
-  place-reads.Learnt,
-  falls-short-reads.Asked,
-  falls-short-reads.Learnt,
-  try-starts-below t,
-  try-starts.Post,
-  with-best-reads.Asked,
-  with-best-reads.Learnt,
-) (judge-at t) judge.Post
+judge-returns-2 : (t : ℕ) → judge-lts.Need-returns-2 (judge-claims t) (judge-at t) judge.Post
 judge-returns-2 t c = let s = c .before .before .before .before in (
   s .pre .1 .1 .1,
   λ l can. try-ended (l .call-rows .net) _ _ _ _ _ (s .args .walk) (c .before .before .if1 .left) (sym (c .before .has-ended .ensures) ∙ c .if2 .taken),
 )
 
-judge-returns-3 : (t : ℕ) → judge-lts.Need-returns-3 (
-  has-ended-reads.Asked,
-  has-ended-reads.Learnt,
-  cut-of-reads.Asked,
-  cut-of-reads.Learnt,
-  place-reads.Asked,
-  place-reads.Learnt,
-  falls-short-reads.Asked,
-  falls-short-reads.Learnt,
-  try-starts-below t,
-  try-starts.Post,
-  with-best-reads.Asked,
-  with-best-reads.Learnt,
-) (judge-at t) judge.Post
+judge-returns-3 : (t : ℕ) → judge-lts.Need-returns-3 (judge-claims t) (judge-at t) judge.Post
 judge-returns-3 t c = let s = c .before .before .before .before .before .before .before in (
   s .pre .1 .1 .1,
   λ l can. try-at-budget (l .call-rows .net) _ _ _ _ _ (s .args .walk) (c .before .before .before .before .before .if1 .left) (sym (c .before .before .before .before .has-ended .ensures) ∙ c .before .before .before .if2 .left) (c .if3 .taken),
 )
 
-judge-add-next : (t : ℕ) → judge-lts.Need-add-next (
-  has-ended-reads.Asked,
-  has-ended-reads.Learnt,
-  cut-of-reads.Asked,
-  cut-of-reads.Learnt,
-  place-reads.Asked,
-  place-reads.Learnt,
-  falls-short-reads.Asked,
-  falls-short-reads.Learnt,
-  try-starts-below t,
-  try-starts.Post,
-  with-best-reads.Asked,
-  with-best-reads.Learnt,
-) (judge-at t) judge.Post
+judge-add-next : (t : ℕ) → judge-lts.Need-add-next (judge-claims t) (judge-at t) judge.Post
 judge-add-next t c = let s = c .before .before .before .before .before .before .before .before in omega (arith, s .pre .1 .1 .1, c .before .before .struct-known2 .given, c .before .if3 .left)
 
-judge-cut-of-requires : (t : ℕ) → judge-lts.Need-cut-of-requires (
-  has-ended-reads.Asked,
-  has-ended-reads.Learnt,
-  cut-of-reads.Asked,
-  cut-of-reads.Learnt,
-  place-reads.Asked,
-  place-reads.Learnt,
-  falls-short-reads.Asked,
-  falls-short-reads.Learnt,
-  try-starts-below t,
-  try-starts.Post,
-  with-best-reads.Asked,
-  with-best-reads.Learnt,
-) (judge-at t) judge.Post
+judge-cut-of-requires : (t : ℕ) → judge-lts.Need-cut-of-requires (judge-claims t) (judge-at t) judge.Post
 judge-cut-of-requires t c κs = tt
 
-judge-place-requires : (t : ℕ) → judge-lts.Need-place-requires (
-  has-ended-reads.Asked,
-  has-ended-reads.Learnt,
-  cut-of-reads.Asked,
-  cut-of-reads.Learnt,
-  place-reads.Asked,
-  place-reads.Learnt,
-  falls-short-reads.Asked,
-  falls-short-reads.Learnt,
-  try-starts-below t,
-  try-starts.Post,
-  with-best-reads.Asked,
-  with-best-reads.Learnt,
-) (judge-at t) judge.Post
+judge-place-requires : (t : ℕ) → judge-lts.Need-place-requires (judge-claims t) (judge-at t) judge.Post
 judge-place-requires t c κs = let s = c .before .before .before .before .before .before .before .before .before in (s .pre .1 .0 .0, can-place (s .pre .1 .0 .1) _ (s .pre .1 .1 .0))
 
-judge-falls-short-requires : (t : ℕ) → judge-lts.Need-falls-short-requires (
-  has-ended-reads.Asked,
-  has-ended-reads.Learnt,
-  cut-of-reads.Asked,
-  cut-of-reads.Learnt,
-  place-reads.Asked,
-  place-reads.Learnt,
-  falls-short-reads.Asked,
-  falls-short-reads.Learnt,
-  try-starts-below t,
-  try-starts.Post,
-  with-best-reads.Asked,
-  with-best-reads.Learnt,
-) (judge-at t) judge.Post
+judge-falls-short-requires : (t : ℕ) → judge-lts.Need-falls-short-requires (judge-claims t) (judge-at t) judge.Post
 judge-falls-short-requires t c κs = tt
 
-judge-returns-4 : (t : ℕ) → judge-lts.Need-returns-4 (
-  has-ended-reads.Asked,
-  has-ended-reads.Learnt,
-  cut-of-reads.Asked,
-  cut-of-reads.Learnt,
-  place-reads.Asked,
-  place-reads.Learnt,
-  falls-short-reads.Asked,
-  falls-short-reads.Learnt,
-  try-starts-below t,
-  try-starts.Post,
-  with-best-reads.Asked,
-  with-best-reads.Learnt,
-) (judge-at t) judge.Post
+judge-returns-4 : (t : ℕ) → judge-lts.Need-returns-4 (judge-claims t) (judge-at t) judge.Post
 judge-returns-4 t c = let s = c .before .before .before .before .before .before .before .before .before .before .before .before in (
   omega (arith, s .pre .1 .1 .1, c .before .before .before .before .before .if3 .left),
   λ l can.
@@ -201,87 +109,22 @@ judge-returns-4 t c = let s = c .before .before .before .before .before .before 
       (sym (c .before .falls-short .ensures) ∙ c .if4 .taken),
 )
 
-judge-add-line : (t : ℕ) → judge-lts.Need-add-line (
-  has-ended-reads.Asked,
-  has-ended-reads.Learnt,
-  cut-of-reads.Asked,
-  cut-of-reads.Learnt,
-  place-reads.Asked,
-  place-reads.Learnt,
-  falls-short-reads.Asked,
-  falls-short-reads.Learnt,
-  try-starts-below t,
-  try-starts.Post,
-  with-best-reads.Asked,
-  with-best-reads.Learnt,
-) (judge-at t) judge.Post
+judge-add-line : (t : ℕ) → judge-lts.Need-add-line (judge-claims t) (judge-at t) judge.Post
 judge-add-line t c = let s = c .before .before .before .before .before .before .before .before .before .before .before .before .before .before .before .before in omega (arith, s .pre .1 .0 .1 .stated, s .pre .1 .0 .1 .last-of, c .before .if5 .taken, s .pre .1 .0 .0 .call-rows .valid .lines)
 
-judge-mul-t19 : (t : ℕ) → judge-lts.Need-mul-t19 (
-  has-ended-reads.Asked,
-  has-ended-reads.Learnt,
-  cut-of-reads.Asked,
-  cut-of-reads.Learnt,
-  place-reads.Asked,
-  place-reads.Learnt,
-  falls-short-reads.Asked,
-  falls-short-reads.Learnt,
-  try-starts-below t,
-  try-starts.Post,
-  with-best-reads.Asked,
-  with-best-reads.Learnt,
-) (judge-at t) judge.Post
+judge-mul-t19 : (t : ℕ) → judge-lts.Need-mul-t19 (judge-claims t) (judge-at t) judge.Post
 judge-mul-t19 t c = let s = c .before .before .before .before .before .before .before .before .before .before .before .before .before .before .before .before in omega (arith, s .pre .1 .0 .1 .stated, s .pre .1 .0 .1 .last-of, c .before .if5 .taken, s .pre .1 .0 .0 .call-rows .valid .lines)
 
-judge-element-copy-out-t22 : (t : ℕ) → judge-lts.Need-element-copy-out-t22 (
-  has-ended-reads.Asked,
-  has-ended-reads.Learnt,
-  cut-of-reads.Asked,
-  cut-of-reads.Learnt,
-  place-reads.Asked,
-  place-reads.Learnt,
-  falls-short-reads.Asked,
-  falls-short-reads.Learnt,
-  try-starts-below t,
-  try-starts.Post,
-  with-best-reads.Asked,
-  with-best-reads.Learnt,
-) (judge-at t) judge.Post
+judge-element-copy-out-t22 : (t : ℕ) → judge-lts.Need-element-copy-out-t22 (judge-claims t) (judge-at t) judge.Post
 judge-element-copy-out-t22 t c = let s = c .before .before .before .before .before .before .before .before .before .before .before .before .before .before .before .before in omega (arith, s .pre .1 .0 .1 .stated, s .pre .1 .0 .1 .last-of, c .before .if5 .taken, s .pre .1 .0 .0 .call-rows .valid .lines)
 
-judge-cast-t24 : (t : ℕ) → judge-lts.Need-cast-t24 (
-  has-ended-reads.Asked,
-  has-ended-reads.Learnt,
-  cut-of-reads.Asked,
-  cut-of-reads.Learnt,
-  place-reads.Asked,
-  place-reads.Learnt,
-  falls-short-reads.Asked,
-  falls-short-reads.Learnt,
-  try-starts-below t,
-  try-starts.Post,
-  with-best-reads.Asked,
-  with-best-reads.Learnt,
-) (judge-at t) judge.Post
+judge-cast-t24 : (t : ℕ) → judge-lts.Need-cast-t24 (judge-claims t) (judge-at t) judge.Post
 judge-cast-t24 t c = let s = c .before .before .before .before .before .before .before .before .before .before .before .before .before .before .before .before .before in
     let l = s .pre .1 .0 .0 in
     let next : s .args .due .line + 1 < length (l .call-rows .net .periods) = omega (arith, s .pre .1 .0 .1 .last-of, c .before .before .if5 .taken) in
     omega (arith, l .count-of (s .args .due .line + 1) next, startCounts-low (l .call-rows .net) (l .call-rows .valid) (s .args .due .line + 1) next)
 
-judge-try-starts-requires : (t : ℕ) → judge-lts.Need-try-starts-requires (
-  has-ended-reads.Asked,
-  has-ended-reads.Learnt,
-  cut-of-reads.Asked,
-  cut-of-reads.Learnt,
-  place-reads.Asked,
-  place-reads.Learnt,
-  falls-short-reads.Asked,
-  falls-short-reads.Learnt,
-  try-starts-below t,
-  try-starts.Post,
-  with-best-reads.Asked,
-  with-best-reads.Learnt,
-) (judge-at t) judge.Post
+judge-try-starts-requires : (t : ℕ) → judge-lts.Need-try-starts-requires (judge-claims t) (judge-at t) judge.Post
 judge-try-starts-requires t c κs = let s = c .before .before .before .before .before .before .before .before .before .before .before .before .before .before .before .before .before in
     let l = s .pre .1 .0 .0 in
     let more = placed-of-stands (s .pre .1 .0 .1) (c .before .before .before .before .before .before .before .place .ensures l (can-place (s .pre .1 .0 .1) (s .args .due .start) (s .pre .1 .1 .0)))
@@ -295,20 +138,7 @@ judge-try-starts-requires t c κs = let s = c .before .before .before .before .b
       ),
     )
 
-judge-returns-5 : (t : ℕ) → judge-lts.Need-returns-5 (
-  has-ended-reads.Asked,
-  has-ended-reads.Learnt,
-  cut-of-reads.Asked,
-  cut-of-reads.Learnt,
-  place-reads.Asked,
-  place-reads.Learnt,
-  falls-short-reads.Asked,
-  falls-short-reads.Learnt,
-  try-starts-below t,
-  try-starts.Post,
-  with-best-reads.Asked,
-  with-best-reads.Learnt,
-) (judge-at t) judge.Post
+judge-returns-5 : (t : ℕ) → judge-lts.Need-returns-5 (judge-claims t) (judge-at t) judge.Post
 judge-returns-5 t c = let s = c .before .before .before .before .before .before .before .before .before .before .before .before .before .before .before .before .before .before in (
   c .try-starts .ensures .0,
   λ l can.
@@ -322,36 +152,10 @@ judge-returns-5 t c = let s = c .before .before .before .before .before .before 
       (c .try-starts .ensures .1 l (can-try-next can more (c .before .before .before .if5 .taken))),
 )
 
-judge-with-best-requires : (t : ℕ) → judge-lts.Need-with-best-requires (
-  has-ended-reads.Asked,
-  has-ended-reads.Learnt,
-  cut-of-reads.Asked,
-  cut-of-reads.Learnt,
-  place-reads.Asked,
-  place-reads.Learnt,
-  falls-short-reads.Asked,
-  falls-short-reads.Learnt,
-  try-starts-below t,
-  try-starts.Post,
-  with-best-reads.Asked,
-  with-best-reads.Learnt,
-) (judge-at t) judge.Post
+judge-with-best-requires : (t : ℕ) → judge-lts.Need-with-best-requires (judge-claims t) (judge-at t) judge.Post
 judge-with-best-requires t c κs = tt
 
-judge-returns-6 : (t : ℕ) → judge-lts.Need-returns-6 (
-  has-ended-reads.Asked,
-  has-ended-reads.Learnt,
-  cut-of-reads.Asked,
-  cut-of-reads.Learnt,
-  place-reads.Asked,
-  place-reads.Learnt,
-  falls-short-reads.Asked,
-  falls-short-reads.Learnt,
-  try-starts-below t,
-  try-starts.Post,
-  with-best-reads.Asked,
-  with-best-reads.Learnt,
-) (judge-at t) judge.Post
+judge-returns-6 : (t : ℕ) → judge-lts.Need-returns-6 (judge-claims t) (judge-at t) judge.Post
 judge-returns-6 t c = let s = c .before .before .before .before .before .before .before .before .before .before .before .before .before .before .before .before in (
   omega (arith, s .pre .1 .1 .1, c .before .before .before .before .before .before .before .before .before .if3 .left, ap (λ (w : code.Walk). w .tries) (c .with-best .ensures)),
   λ l can.
@@ -362,72 +166,32 @@ judge-returns-6 t c = let s = c .before .before .before .before .before .before 
       (sym (c .before .before .before .before .before .before .before .cut-of .ensures _ _) ∙ stands) (c .before .if5 .left),
 )
 
-try-starts-returns : (t : ℕ) → try-starts-lts.Need-returns (
-  judge-below t,
-  judge.Post,
-  try-starts-below t,
-  try-starts.Post,
-) (try-starts-at t) try-starts.Post
+try-starts-returns : (t : ℕ) → try-starts-lts.Need-returns (try-starts-claims t) (try-starts-at t) try-starts.Post
 try-starts-returns t c = let s = c .before .before in (s .pre .1 .1 .1, λ l can. sym (none-left _ (s .args .starts .from) (s .args .starts .count) _ (c .if1 .taken)))
 
-try-starts-judge-requires : (t : ℕ) → try-starts-lts.Need-judge-requires (
-  judge-below t,
-  judge.Post,
-  try-starts-below t,
-  try-starts.Post,
-) (try-starts-at t) try-starts.Post
+try-starts-judge-requires : (t : ℕ) → try-starts-lts.Need-judge-requires (try-starts-claims t) (try-starts-at t) try-starts.Post
 try-starts-judge-requires t c κs = let s = c .before .before .before .before in (omega (arith, s .pre .0, c .if2 .taken), (s .pre .1 .0, (omega (arith, s .pre .1 .1 .0, c .if2 .taken), s .pre .1 .1 .1)))
 
-try-starts-returns-2 : (t : ℕ) → try-starts-lts.Need-returns-2 (
-  judge-below t,
-  judge.Post,
-  try-starts-below t,
-  try-starts.Post,
-) (try-starts-at t) try-starts.Post
+try-starts-returns-2 : (t : ℕ) → try-starts-lts.Need-returns-2 (try-starts-claims t) (try-starts-at t) try-starts.Post
 try-starts-returns-2 t c = let s = c .before .before .before .before .before in (
   c .judge .ensures .0,
   λ l can. c .judge .ensures .1 l can ∙ sym (one-left _ (s .args .starts .from) (s .args .starts .count) _ (c .before .if2 .taken)),
 )
 
-try-starts-try-starts-requires : (t : ℕ) → try-starts-lts.Need-try-starts-requires (
-  judge-below t,
-  judge.Post,
-  try-starts-below t,
-  try-starts.Post,
-) (try-starts-at t) try-starts.Post
+try-starts-try-starts-requires : (t : ℕ) → try-starts-lts.Need-try-starts-requires (try-starts-claims t) (try-starts-at t) try-starts.Post
 try-starts-try-starts-requires t c κs = let s = c .before .before .before .before .before in (omega (arith, s .pre .0, c .before .before .before .if1 .left, c .before .if2 .left), (s .pre .1 .0, (omega (arith, s .pre .1 .1 .0), s .pre .1 .1 .1)))
 
-try-starts-add-upper : (t : ℕ) → try-starts-lts.Need-add-upper (
-  judge-below t,
-  judge.Post,
-  try-starts-below t,
-  try-starts.Post,
-) (try-starts-at t) try-starts.Post
+try-starts-add-upper : (t : ℕ) → try-starts-lts.Need-add-upper (try-starts-claims t) (try-starts-at t) try-starts.Post
 try-starts-add-upper t c = let s = c .before .before .before .before .before .before .before in omega (arith, s .pre .1 .1 .0)
 
-try-starts-sub-upper : (t : ℕ) → try-starts-lts.Need-sub-upper (
-  judge-below t,
-  judge.Post,
-  try-starts-below t,
-  try-starts.Post,
-) (try-starts-at t) try-starts.Post
+try-starts-sub-upper : (t : ℕ) → try-starts-lts.Need-sub-upper (try-starts-claims t) (try-starts-at t) try-starts.Post
 try-starts-sub-upper t c = omega (arith)
 
-try-starts-try-starts-requires-2 : (t : ℕ) → try-starts-lts.Need-try-starts-requires-2 (
-  judge-below t,
-  judge.Post,
-  try-starts-below t,
-  try-starts.Post,
-) (try-starts-at t) try-starts.Post
+try-starts-try-starts-requires-2 : (t : ℕ) → try-starts-lts.Need-try-starts-requires-2 (try-starts-claims t) (try-starts-at t) try-starts.Post
 try-starts-try-starts-requires-2 t c κs = let s = c .before .before .before .before .before .before .before .before in
     (omega (arith, s .pre .0, c .before .before .before .before .before .before .if1 .left, c .before .before .before .before .if2 .left), (s .pre .1 .0, (omega (arith, s .pre .1 .1 .0), c .before .before .try-starts .ensures .0)))
 
-try-starts-returns-3 : (t : ℕ) → try-starts-lts.Need-returns-3 (
-  judge-below t,
-  judge.Post,
-  try-starts-below t,
-  try-starts.Post,
-) (try-starts-at t) try-starts.Post
+try-starts-returns-3 : (t : ℕ) → try-starts-lts.Need-returns-3 (try-starts-claims t) (try-starts-at t) try-starts.Post
 try-starts-returns-3 t c = let s = c .before .before .before .before .before .before .before .before .before in (
   c .try-starts2 .ensures .0,
   λ l can.
@@ -435,20 +199,7 @@ try-starts-returns-3 t c = let s = c .before .before .before .before .before .be
 )
 
 pub +judge+try-starts-spec : {M : Type 1} → statement M
-+judge+try-starts-spec = close μ-judge μ-try-starts (λ t. judge-lts.spec (
-  has-ended-reads.Asked,
-  has-ended-reads.Learnt,
-  cut-of-reads.Asked,
-  cut-of-reads.Learnt,
-  place-reads.Asked,
-  place-reads.Learnt,
-  falls-short-reads.Asked,
-  falls-short-reads.Learnt,
-  try-starts-below t,
-  try-starts.Post,
-  with-best-reads.Asked,
-  with-best-reads.Learnt,
-)
++judge+try-starts-spec = close μ-judge μ-try-starts (λ t. judge-lts.spec (judge-claims t)
     (judge-at t)
     judge.Post
     (judge-returns t)
