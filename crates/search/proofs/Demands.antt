@@ -31,6 +31,10 @@ use Rattle.search.proofs.entry.search as search
 use Rattle.search.proofs.entry.search.Kinds as search-kinds
 use Rattle.search.proofs.entry.search.Reads as search-contract
 
+-- ---- What each answer of the call tells
+
+pub use Rattle.search.proofs.Laws.Answers.{searchAnswer-finished, searchAnswer-stopped, searchAnswer-none, searchAnswer-refused}
+
 -- ---- What is demanded, of an accepted network, the start row and the budget as lent, the answer, and the row afterwards
 
 -- 1 + T1 + T1×T2 + .. over the periods after the first

@@ -1,4 +1,4 @@
--- The laws of the definitions of `specs/`. `Answers` is what other crates read of the search call's answer.
+-- The laws of the definitions of `specs/`.
 pub mod Walk
 pub mod Bounds
 pub mod Cover

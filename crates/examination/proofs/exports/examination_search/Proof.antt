@@ -5,7 +5,7 @@ use borrow.Author.Needs.{needs}
 use lib.ListN.{length}
 use Rattle.network.specs.Reading.{readFile}
 use Rattle.search.specs.Search.{SearchOutcome, refusal, searchAnswer, searchOutcome}
-use Rattle.search.proofs.Laws.Answers.{searchAnswer-finished, searchAnswer-stopped, searchAnswer-none, searchAnswer-refused}
+use Rattle.search.proofs.Demands.{searchAnswer-finished, searchAnswer-stopped, searchAnswer-none, searchAnswer-refused}
 use Rattle.examination.specs.Exports.{searchStatus, searchRow}
 use Rattle.examination.proofs.Laws.Refusals.{search-low}
 use Rattle.examination.proofs.exports.examination_search.Statement.{statement}

@@ -4,7 +4,7 @@ use mathlib.Core.Bool.{Bool}
 use borrow.Author.Needs.{needs}
 use Rattle.network.proofs.Laws.Gaps.{isEqual-numbers}
 use Rattle.search.specs.Search.{SearchOutcome, searchAnswer}
-use Rattle.search.proofs.Laws.Answers.{searchAnswer-finished, searchAnswer-stopped, searchAnswer-none, searchAnswer-refused}
+use Rattle.search.proofs.Demands.{searchAnswer-finished, searchAnswer-stopped, searchAnswer-none, searchAnswer-refused}
 use Rattle.examination.specs.Sheets as sheets
 use Rattle.examination.proofs.marking.marked.Statement.{statement}
 use Rattle.examination.proofs.marking.marked.Tie as tie
