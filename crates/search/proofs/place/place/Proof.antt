@@ -235,6 +235,12 @@ element-copy-out-stop c = small (c .before .before)
 cast-stop : tie.Need-cast-stop Inv-loop μ-loop
 cast-stop c = omega (arith, known-low (c .before .before .before))
 
+rem-stop : tie.Need-rem-stop Inv-loop μ-loop
+rem-stop c = search needs
+
+cast-stop-2 : tie.Need-cast-stop-2 Inv-loop μ-loop
+cast-stop-2 c = search needs
+
 mul-old : tie.Need-mul-old Inv-loop μ-loop
 mul-old c = omega (arith, known-low (c .before .before .before))
 
@@ -342,6 +348,8 @@ place-spec =
     mul-stop
     element-copy-out-stop
     cast-stop
+    rem-stop
+    cast-stop-2
     mul-old
     element-copy-out-old
     lowered-requires
