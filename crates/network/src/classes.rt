@@ -95,7 +95,7 @@ fn weighted_rating(network: Network, sheet: &[i32]) -> Rating
     fill_rows(network, &mut classes, &mut weights);
     let counts = lowest_row(&classes);
     let periods = network.periods;
-    let gaps = stop_gaps(&periods, &network.list, network.calls, sheet, &counts);
+    let gaps = stop_gaps(&periods, &network.list, network.count, sheet, &counts);
     rating_over(&gaps, &counts, &weights)
 }
 

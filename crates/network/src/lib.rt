@@ -50,11 +50,11 @@ impl Call {
 }
 
 // A network: the periods of its lines and its calls, each packed, both in file order, and the common cycle. Of each row the first places
-// count, as many as `lines` and `calls` say.
+// count: `lines` says how many places of `periods` count, and `count` says how many places of `list` count.
 pub struct Network {
     pub lines: usize,
     pub periods: [u16; Network::MAX_LINES],
-    pub calls: usize,
+    pub count: usize,
     pub list: [u32; Network::MAX_CALLS],
     pub cycle: u32,
 }
@@ -100,7 +100,7 @@ impl Network {
         Network {
             lines: 0,
             periods: [0u16; Network::MAX_LINES],
-            calls: 0,
+            count: 0,
             list: [0u32; Network::MAX_CALLS],
             cycle: 1,
         }
@@ -108,12 +108,12 @@ impl Network {
 
     // One call more.
     pub fn with_call(mut self, call: Call) -> Network
-        requires { ⌜ Sound self × (self .calls < net.maxCalls) × (call .line < net.maxLines) × (call .stop ≤ net.maxStop) ⌝ }
+        requires { ⌜ Sound self × (self .count < net.maxCalls) × (call .line < net.maxLines) × (call .stop ≤ net.maxStop) ⌝ }
         ensures { λ r. ⌜ Sound r × (netOf r ≡ net.withCall (netOf self) call) ⌝ }
     {
-        let at = self.calls;
+        let at = self.count;
         self.list[at] = call.packed();
-        self.calls = at + 1;
+        self.count = at + 1;
         self
     }
 }

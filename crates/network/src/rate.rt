@@ -44,7 +44,7 @@ pub fn rate(file: &[u8], sheet: &[i32]) -> RateAnswer
         Check::Passes => {
             if sheet.len() == step.network.lines {
                 let periods = step.network.periods;
-                let rating = sheet_rating(&periods, &step.network.list, step.network.calls, sheet);
+                let rating = sheet_rating(&periods, &step.network.list, step.network.count, sheet);
                 return RateAnswer::Rated {
                     least: rating.least,
                     sum: rating.sum,

@@ -168,5 +168,5 @@ pub fn served_row(network: Network) -> [u8; Network::STOPS]
     requires { ⌜ Sound network × Valid (netOf network) ⌝ }
     ensures { λ r. ⌜ ((stop : ℕ) → stop < net.stopCount → ltb 0 (getD r stop 0) ≡ net.isServed stop (netOf network .calls)) ⌝ }
 {
-    served_by(&network.list, network.calls)
+    served_by(&network.list, network.count)
 }

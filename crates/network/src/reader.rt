@@ -323,7 +323,7 @@ pub fn read_network(file: &[u8]) -> Step
         let behind = &rest[1..];
         let totals = Totals {
             lines: network.lines,
-            calls: network.calls,
+            calls: network.count,
             cycle: network.cycle,
         };
         let parsed = read_command(code, totals, &often, &latest, behind, at);
@@ -337,9 +337,9 @@ pub fn read_network(file: &[u8]) -> Step
                 network.cycle = cycle;
             }
             Parsed::Calls { call } => {
-                let place = network.calls;
+                let place = network.count;
                 network.list[place] = call.packed();
-                network.calls = place + 1;
+                network.count = place + 1;
                 let at_stop = call.stop as usize * Network::MAX_LINES + call.line as usize;
                 often[at_stop] = often[at_stop] + 1;
                 latest[call.line as usize] = call.offset as u32 + 1;
@@ -377,8 +377,8 @@ pub fn read(file: &[u8]) -> ReadAnswer
         Check::Refused { number, place } => ReadAnswer::Refused { number, place },
         Check::Passes => ReadAnswer::Accepted {
             lines: network.lines as u32,
-            stops: served_stops(&network.list, network.calls),
-            calls: network.calls as u32,
+            stops: served_stops(&network.list, network.count),
+            calls: network.count as u32,
             cycle: network.cycle,
         },
     }

@@ -18,7 +18,7 @@ ghost use Rattle.search.specs.Engine.CapScan.{halfOf, boundsOf};
 // The least of a number and the halves of g over the pairs of a call with those before it at its stop.
 fn least_half(network: Network, call: Call, at: usize, least: u32) -> u32
     requires { ⌜ Sound network × Valid (netOf network) ⌝ }
-    requires { ⌜ (call .line < length (netOf network .periods)) × (at ≤ network .calls) ⌝ }
+    requires { ⌜ (call .line < length (netOf network .periods)) × (at ≤ network .count) ⌝ }
     ensures { λ r. ⌜ r ≡ leastFrom least (map (λ d. halfOf (netOf network) d call) (callsBefore (call .stop) (callsIn (network .list)) at)) ⌝ }
 {
     let line = call.line as usize;
@@ -48,7 +48,7 @@ pub struct Bounds {
 // The same with one call more.
 fn with_call(bounds: Bounds, network: Network, call: Call, at: usize) -> Bounds
     requires { ⌜ Sound network × Valid (netOf network) ⌝ }
-    requires { ⌜ (call .line < length (netOf network .periods)) × (at ≤ network .calls) ⌝ }
+    requires { ⌜ (call .line < length (netOf network .periods)) × (at ≤ network .count) ⌝ }
     requires { ⌜ bounds ≡ boundsOf (netOf network) (callsBefore (call .stop) (callsIn (network .list)) at) ⌝ }
     ensures { λ r. ⌜ r ≡ boundsOf (netOf network) (callsBefore (call .stop) (callsIn (network .list)) at ++ (call ∷ [])) ⌝ }
 {
@@ -79,7 +79,7 @@ fn bounds_of(network: Network, stop: u8) -> Bounds
         visits: 0,
         half: 0,
     };
-    let count = network.calls;
+    let count = network.count;
     for i in 0..count {
         let call = Call::unpacked(network.list[i]);
         if call.stop == stop {

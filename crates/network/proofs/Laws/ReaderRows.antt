@@ -32,7 +32,7 @@ module _ (n : Network) (often latest : List ℕ) (k : ReaderRows n often latest)
         latest-is = k .latest-is;
       }
 
-  pub rows-with-call : (code : ℕ) (call : Call) → code ≡ packed call → callIn code ≡ call → n .calls < maxCalls → call .line < maxLines → call .stop ≤ maxStop
+  pub rows-with-call : (code : ℕ) (call : Call) → code ≡ packed call → callIn code ≡ call → n .count < maxCalls → call .line < maxLines → call .stop ≤ maxStop
       → ReaderRows (callAdded n code) (set often (call .stop * 16 + call .line) (getD often (call .stop * 16 + call .line) 0 + 1)) (set latest (call .line) (call .offset + 1))
   unfolding withCall
   rows-with-call code call d e room low high =

@@ -105,7 +105,7 @@ module _ (stop : ℕ) (l : List Call) where
       rw (getD-take k l j noCall (omega arith)) (f j (omega arith) (omega arith)))
 
 -- The calls at a stop of the network that is held
-pub callsOfStop-held : (n : Network) (stop : ℕ) → callsOfStop (netOf n) stop ≡ callsBefore stop (callsIn (n .list)) (n .calls)
+pub callsOfStop-held : (n : Network) (stop : ℕ) → callsOfStop (netOf n) stop ≡ callsBefore stop (callsIn (n .list)) (n .count)
 unfolding callsOfStop callsBefore netOf
 callsOfStop-held n stop = refl
 

@@ -30,25 +30,25 @@ held-lines n s = length-take-le (n .lines) (n .periods) (omega (arith, s .lines,
 pub length-held : (n : Network) → Sound n → length (callsIn (n .list)) ≡ maxCalls
 length-held n s = length-map (n .list) callIn ∙ s .list-row
 
-pub held-calls : (n : Network) → Sound n → length (netOf n .calls) ≡ n .calls
+pub held-calls : (n : Network) → Sound n → length (netOf n .calls) ≡ n .count
 unfolding netOf
-held-calls n s = length-take-le (n .calls) (callsIn (n .list)) (omega (arith, s .calls, length-held n s))
+held-calls n s = length-take-le (n .count) (callsIn (n .list)) (omega (arith, s .calls, length-held n s))
 
 pub held-period : (n : Network) (line : ℕ) → line < n .lines → getD (netOf n .periods) line 0 ≡ getD (n .periods) line 0
 unfolding netOf
 held-period n line h = getD-take (n .lines) (n .periods) line 0 h
 
-pub held-call : (n : Network) (k : ℕ) → k < n .calls → getD (netOf n .calls) k noCall ≡ getD (callsIn (n .list)) k noCall
+pub held-call : (n : Network) (k : ℕ) → k < n .count → getD (netOf n .calls) k noCall ≡ getD (callsIn (n .list)) k noCall
 unfolding netOf
-held-call n k h = getD-take (n .calls) (callsIn (n .list)) k noCall h
+held-call n k h = getD-take (n .count) (callsIn (n .list)) k noCall h
 
 -- The calls that count are of stated lines, whose periods are at least 1
 module _ (n : Network) (s : Sound n) (v : Valid (netOf n)) where
-  pub held-call-line : (k : ℕ) → k < n .calls → getD (callsIn (n .list)) k noCall .line < n .lines
+  pub held-call-line : (k : ℕ) → k < n .count → getD (callsIn (n .list)) k noCall .line < n .lines
   held-call-line k h =
       rw (held-lines n s) at (rw (held-call n k h) at (v .call-line k (rw (held-calls n s) h)))
 
-  pub held-call-stop : (k : ℕ) → k < n .calls → getD (callsIn (n .list)) k noCall .stop ≤ maxStop
+  pub held-call-stop : (k : ℕ) → k < n .count → getD (callsIn (n .list)) k noCall .stop ≤ maxStop
   held-call-stop k h = rw (held-call n k h) at (v .call-stop k (rw (held-calls n s) h))
 
   pub held-period-pos : (line : ℕ) → line < n .lines → 0 < getD (n .periods) line 0
@@ -58,18 +58,18 @@ module _ (n : Network) (s : Sound n) (v : Valid (netOf n)) where
 
 abbrev pub lineAdded : Network → ℕ → ℕ → Network
 lineAdded n period common =
-    record { lines = n .lines + 1; periods = set (n .periods) (n .lines) period; calls = n .calls; list = n .list; cycle = common }
+    record { lines = n .lines + 1; periods = set (n .periods) (n .lines) period; count = n .count; list = n .list; cycle = common }
 
 abbrev pub callAdded : Network → ℕ → Network
 callAdded n code =
-    record { lines = n .lines; periods = n .periods; calls = n .calls + 1; list = set (n .list) (n .calls) code; cycle = n .cycle }
+    record { lines = n .lines; periods = n .periods; count = n .count + 1; list = set (n .list) (n .count) code; cycle = n .cycle }
 
 module _ (n : Network) (s : Sound n) where
   module _ (period common : ℕ) (room : n .lines < maxLines) where
     pub line-added : netOf (lineAdded n period common) ≡ withLine (netOf n) period
     unfolding netOf withLine
     line-added =
-        ap (λ (ps : List ℕ). netWith ps (take (n .calls) (callsIn (n .list))))
+        ap (λ (ps : List ℕ). netWith ps (take (n .count) (callsIn (n .list))))
         (take-set-next (n .periods) (n .lines) period (omega (arith, s .periods-row)))
 
     pub sound-line : 0 < common → common ≤ maxCycle → common ≡ cycle (withLine (netOf n) period) → Sound (lineAdded n period common)
@@ -85,42 +85,42 @@ module _ (n : Network) (s : Sound n) where
           cycle-le = low;
         }
 
-  module _ (code : ℕ) (room : n .calls < maxCalls) where
+  module _ (code : ℕ) (room : n .count < maxCalls) where
     pub call-added : (call : Call) → callIn code ≡ call → netOf (callAdded n code) ≡ withCall (netOf n) call
     unfolding netOf withCall
     call-added call e =
-        ap (λ (cs : List Call). netWith (take (n .lines) (n .periods)) (take (n .calls + 1) cs)) (map-set callIn (n .list) (n .calls) code)
+        ap (λ (cs : List Call). netWith (take (n .lines) (n .periods)) (take (n .count + 1) cs)) (map-set callIn (n .list) (n .count) code)
         ∙ ap (λ (cs : List Call). netWith (take (n .lines) (n .periods)) cs)
-        (take-set-next (callsIn (n .list)) (n .calls) (callIn code) (omega (arith, length-held n s)))
-        ∙ ap (λ (c : Call). netWith (take (n .lines) (n .periods)) (take (n .calls) (callsIn (n .list)) ++ (c ∷ []))) e
+        (take-set-next (callsIn (n .list)) (n .count) (callIn code) (omega (arith, length-held n s)))
+        ∙ ap (λ (c : Call). netWith (take (n .lines) (n .periods)) (take (n .count) (callsIn (n .list)) ++ (c ∷ []))) e
 
     pub sound-call : packed (callIn code) ≡ code → Sound (callAdded n code)
     unfolding netOf cycle
     sound-call packs =
         record {
           periods-row = s .periods-row;
-          list-row = length-set (n .list) (n .calls) code ∙ s .list-row;
+          list-row = length-set (n .list) (n .count) code ∙ s .list-row;
           lines = s .lines;
           calls = omega arith;
-          packs = λ i h. packs-at i h (ℕ-discrete i (n .calls));
+          packs = λ i h. packs-at i h (ℕ-discrete i (n .count));
           cycle-is = s .cycle-is;
           cycle-pos = s .cycle-pos;
           cycle-le = s .cycle-le;
         }
       where
         row : List ℕ
-        row = set (n .list) (n .calls) code
+        row = set (n .list) (n .count) code
 
-        packs-at : (i : ℕ) → i < n .calls + 1 → Dec (i ≡ n .calls) → packed (callIn (getD row i 0)) ≡ getD row i 0
+        packs-at : (i : ℕ) → i < n .count + 1 → Dec (i ≡ n .count) → packed (callIn (getD row i 0)) ≡ getD row i 0
         packs-at i h (yes e) =
-            let there : getD row i 0 ≡ code = ap (λ (k : ℕ). getD row k 0) e ∙ getD-set-same (n .list) (n .calls) code 0 (omega (arith, s .list-row)) in
+            let there : getD row i 0 ≡ code = ap (λ (k : ℕ). getD row k 0) e ∙ getD-set-same (n .list) (n .count) code 0 (omega (arith, s .list-row)) in
             ap (λ (k : ℕ). packed (callIn k)) there ∙ packs ∙ sym there
         packs-at i h (no f) =
-            let there : getD row i 0 ≡ getD (n .list) i 0 = getD-set-other (n .list) (n .calls) i code 0 f in
+            let there : getD row i 0 ≡ getD (n .list) i 0 = getD-set-other (n .list) (n .count) i code 0 f in
             ap (λ (k : ℕ). packed (callIn k)) there ∙ s .packs i (omega (arith, h, f)) ∙ sym there
 
 -- The numbers of a network that is held are those that the grounds ask for
-pub has-totals : (n : Network) → Sound n → HasTotals (netOf n) (record { lines = n .lines; calls = n .calls; cycle = n .cycle })
+pub has-totals : (n : Network) → Sound n → HasTotals (netOf n) (record { lines = n .lines; calls = n .count; cycle = n .cycle })
 has-totals n s = record { lines = sym (held-lines n s); calls = sym (held-calls n s); cycle-is = s .cycle-is }
 
 -- ---- what a command tells
@@ -192,7 +192,7 @@ held-periods n = refl
 
 -- without its calls
 abbrev pub callsDropped : Network → Network
-callsDropped n = record { lines = n .lines; periods = n .periods; calls = 0; list = n .list; cycle = n .cycle }
+callsDropped n = record { lines = n .lines; periods = n .periods; count = 0; list = n .list; cycle = n .cycle }
 
 pub netOf-callsDropped : (n : Network) → netOf (callsDropped n) ≡ netWith (netOf n .periods) []
 unfolding netOf

@@ -57,7 +57,7 @@ pub record Lent (periods list : List ℕ) (lines calls : ℕ) : Type 0 where
   pub periods-are : periods ≡ network .periods
   pub list-is : list ≡ network .list
   pub lines-are : lines ≡ length (netOf network .periods)
-  pub calls-are : calls ≡ network .calls
+  pub calls-are : calls ≡ network .count
 
 -- A row that has for each two lines the greatest common divisor of their periods, the pairs of a line side by side
 unfoldable pub DivisorsOf : List ℕ → List ℕ → Type 0
@@ -81,5 +81,5 @@ pub record Rows (list divisors previous : List ℕ) (k : ℕ) : Type 0 where
 pub record Beside (n : Network) (sheet : List ℤ) (call : Call) (k : ℕ) : Type 0 where
   pub fits : length sheet ≡ length (netOf n .periods)
   pub own-line : call .line < length (netOf n .periods)
-  pub within : k ≤ n .calls
+  pub within : k ≤ n .count
   pub lands : 0 < k → getD (callsIn (n .list)) (k - 1) noCall .stop ≡ call .stop

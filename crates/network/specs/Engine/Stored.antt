@@ -32,15 +32,15 @@ callsIn row = map callIn row
 
 -- The network that is held
 unfoldable pub netOf : Network → Net
-netOf n = netWith (take (n .lines) (n .periods)) (take (n .calls) (callsIn (n .list)))
+netOf n = netWith (take (n .lines) (n .periods)) (take (n .count) (callsIn (n .list)))
 
 -- The counts are within the rows, each number is a call packed, and the cycle is that of the periods
 pub record Sound (n : Network) : Type 0 where
   pub periods-row : length (n .periods) ≡ maxLines
   pub list-row : length (n .list) ≡ maxCalls
   pub lines : n .lines ≤ maxLines
-  pub calls : n .calls ≤ maxCalls
-  pub packs : (i : ℕ) → i < n .calls → packed (callIn (getD (n .list) i 0)) ≡ getD (n .list) i 0
+  pub calls : n .count ≤ maxCalls
+  pub packs : (i : ℕ) → i < n .count → packed (callIn (getD (n .list) i 0)) ≡ getD (n .list) i 0
   pub cycle-is : n .cycle ≡ cycle (netOf n)
   pub cycle-pos : 0 < n .cycle
   pub cycle-le : n .cycle ≤ maxCycle

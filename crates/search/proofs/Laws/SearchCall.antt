@@ -106,13 +106,13 @@ module _
   length-inOrder : length callsInOrder ≡ length (netOf network .calls)
   length-inOrder = length-byLine-all (netOf network .calls) (length (netOf network .periods)) (valid .call-line)
 
-  pub count-is : by .calls ≡ length (netOf network .calls)
+  pub count-is : by .count ≡ length (netOf network .calls)
   count-is = sym (held-calls by by-sound) ∙ ap (λ (cs : List Call). length cs) calls-are ∙ length-inOrder
 
   pub call-at : (i : ℕ) → i < length (netOf network .calls) → getD (callsIn (by .list)) i noCall ≡ getD callsInOrder i noCall
   call-at i h = sym (held-call by i (omega (arith, h, count-is))) ∙ ap (λ (cs : List Call). getD cs i noCall) calls-are
 
-  pub stops-low : (i : ℕ) → i < by .calls → getD (callsIn (by .list)) i noCall .stop < 64
+  pub stops-low : (i : ℕ) → i < by .count → getD (callsIn (by .list)) i noCall .stop < 64
   stops-low i h =
       omega (
         arith,
@@ -122,19 +122,19 @@ module _
       )
 
   -- each number of its row is a call packed
-  pub codes-are : (i : ℕ) → i < by .calls → getD (by .list) i 0 ≡ packed (getD (callsIn (by .list)) i noCall)
+  pub codes-are : (i : ℕ) → i < by .count → getD (by .list) i 0 ≡ packed (getD (callsIn (by .list)) i noCall)
   codes-are i h = sym (by-sound .packs i h) ∙ ap packed (sym (call-in-row (by .list) i))
 
   module _
       (previous divisors lines : List ℕ)
-      (leads : LeadsBack previous (callsIn (by .list)) (by .calls))
+      (leads : LeadsBack previous (callsIn (by .list)) (by .count))
       (divisor-of : (i j : ℕ) → i < 16 → j < 16 → getD divisors (i * 16 + j) 0 ≡ withReciprocal (gcd (getD (network .periods) j 0) (getD (network .periods) i 0)))
       (first-of : (k : ℕ) → k ≤ length (netOf network .periods) → firstIn (getD lines k 0) ≡ length (byLine (netOf network .calls) k))
       (count-of : (k : ℕ) → k < length (netOf network .periods) → countIn (getD lines k 0) ≡ getD (startCounts (netOf network .periods)) k 0) where
     pub leads-in-order : LeadsBack previous callsInOrder (length (netOf network .calls))
     leads-in-order =
         leadsBack-same previous (callsIn (by .list)) (length (netOf network .calls))
-        (leadsBack-fewer previous (callsIn (by .list)) (by .calls) leads (length (netOf network .calls)) (omega (arith, count-is))) callsInOrder call-at
+        (leadsBack-fewer previous (callsIn (by .list)) (by .count) leads (length (netOf network .calls)) (omega (arith, count-is))) callsInOrder call-at
 
     pub divisor-in-order :
         (i j : ℕ)

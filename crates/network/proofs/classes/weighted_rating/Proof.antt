@@ -41,7 +41,7 @@ module _ (c : tie.After-lowest-row) where
       (λ stop h. c .lowest-row .ensures stop h ∙ ap (λ (l : List ℕ). eqb (getD l stop 0) stop) (filled .fill-rows .ensures .1 .0))
 
   -- what is lent in the network's place
-  lent : Lent (start .args .t1 .periods) (start .args .t1 .list) (length (start .args .sheet .now)) (start .args .t1 .calls)
+  lent : Lent (start .args .t1 .periods) (start .args .t1 .list) (length (start .args .sheet .now)) (start .args .t1 .count)
   lent =
       record {
         network = start .args .t1;

@@ -44,7 +44,7 @@ enum-told c = search needs
 -- what is lent in the network's place
 lent : (c : tie.Then1)
     → let n = c .before .before .before .read-network .result .network in
-    Lent (n .periods) (n .list) (length (c .before .before .before .before .before .args .sheet .now)) (n .calls)
+    Lent (n .periods) (n .list) (length (c .before .before .before .before .before .args .sheet .now)) (n .count)
 lent c =
     let r = c .before .before .before .read-network in
     record {

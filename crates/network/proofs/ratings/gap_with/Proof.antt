@@ -20,7 +20,7 @@ use Rattle.network.proofs.ratings.gap_with.Statement.{statement}
 use Rattle.network.proofs.ratings.gap_with.Tie as tie
 
 -- In a network that the rows hold, the calls that stand at the stop have periods of at least 1
-module _ (n : Network) (sound : Sound n) (valid : Valid (netOf n)) (stop k : ℕ) (within : k ≤ n .calls) where
+module _ (n : Network) (sound : Sound n) (valid : Valid (netOf n)) (stop k : ℕ) (within : k ≤ n .count) where
   periods-pos : (i : ℕ) → i < length (callsBefore stop (callsIn (n .list)) k) → 0 < periodOf (netOf n) (getD (callsBefore stop (callsIn (n .list)) k) i noCall)
   unfolding periodOf
   periods-pos =

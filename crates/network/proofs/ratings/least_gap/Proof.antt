@@ -69,7 +69,7 @@ module _ (c : tie.In-loop Inv-loop μ-loop) where
 
   -- in a network that the rows hold
   module _ (h : Held) (b : Beside (h .network) (start .args .sheet .now) (start .args .call) (start .args .next)) where
-    in-file : at < h .network .calls
+    in-file : at < h .network .count
     in-file = omega (arith, c .loop-test .taken, c .before .loop .inv .0, b .within)
 
     landed : getD (callsIn (h .network .list)) at noCall .stop ≡ start .args .call .stop

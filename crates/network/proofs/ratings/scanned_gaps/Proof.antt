@@ -79,7 +79,7 @@ module _ (u : tie.After-unpacked Inv-loop μ-loop) (held-by : Held (u .before .b
   call-is : call ≡ getD held i noCall
   call-is = u .unpacked .ensures ∙ ap (λ (l : List ℕ). callIn (getD l i 0)) (h .list-is) ∙ sym (call-in-row (network .list) i)
 
-  in-file : i < network .calls
+  in-file : i < network .count
   in-file = omega (arith, turn .loop-test .taken, h .calls-are)
 
   stated : i < length held

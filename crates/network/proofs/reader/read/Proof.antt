@@ -18,7 +18,7 @@ values-are :
     (n : Network) (stops : ℕ)
     → Sound n
     → stops ≡ servedStops (netOf n)
-    → values (n .lines ∷ stops ∷ n .calls ∷ n .cycle ∷ [])
+    → values (n .lines ∷ stops ∷ n .count ∷ n .cycle ∷ [])
     ≡ values (length (netOf n .periods) ∷ servedStops (netOf n) ∷ length (netOf n .calls) ∷ cycle (netOf n) ∷ [])
 values-are n stops s e = cc (held-lines n s, held-calls n s, s .cycle-is)
 

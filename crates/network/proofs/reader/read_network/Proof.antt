@@ -90,7 +90,7 @@ module _ (r : tie.After-read-command Inv-loop μ-loop) where
   line-room : {period common : ℕ} → result ≡ parsed.Line period common → network .lines < maxLines
   line-room e = omega (arith, line-parsed e .room, held-lines network (kept .sound))
 
-  call-room : {call : Call} → result ≡ parsed.Calls call → network .calls < maxCalls
+  call-room : {call : Call} → result ≡ parsed.Calls call → network .count < maxCalls
   call-room e = omega (arith, call-parsed e .room, held-calls network (kept .sound))
 
   line-low : {call : Call} → result ≡ parsed.Calls call → call .line < maxLines
