@@ -12,9 +12,13 @@ use Rattle.network.specs.Divisor.{gcd}
 use Rattle.network.specs.Network.{Net, cycle}
 use Rattle.network.specs.Rating.{periodOf, pairGaps, callsOfStop, counted, ratingBy}
 
--- The halves of g, rounded down, over all pairs of different calls
+-- The half of g, rounded down, of two calls
+unfoldable pub halfOf : Net → Call → Call → ℕ
+halfOf n c d = gcd (periodOf n c) (periodOf n d) / 2
+
+-- The halves over all pairs of different calls
 unfoldable pub halves : Net → List Call → List ℕ
-halves n cs = pairsOf (λ (c d : Call). gcd (periodOf n c) (periodOf n d) / 2) cs
+halves n cs = pairsOf (halfOf n) cs
 
 -- The whole part of C / (sum of C/T over the lines)
 unfoldable pub evenSpacing : Net → List Call → ℕ

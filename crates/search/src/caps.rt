@@ -12,8 +12,8 @@ ghost use Rattle.network.specs.Lists.{leastFrom};
 ghost use Rattle.network.specs.Engine.Scan.{callsBefore};
 ghost use Rattle.network.specs.Engine.Stored.{netOf, callsIn, Sound};
 ghost use Rattle.network.specs.Valid.{Valid};
-ghost use Rattle.search.specs.Caps.{cap};
-ghost use Rattle.search.specs.Engine.CapScan.{halfOf, boundsOf};
+ghost use Rattle.search.specs.Caps.{halfOf, cap};
+ghost use Rattle.search.specs.Engine.CapScan.{boundsOf};
 
 // The least of a number and the halves of g over the pairs of a call with those before it at its stop.
 fn least_half(network: Network, call: Call, at: usize, least: u32) -> u32

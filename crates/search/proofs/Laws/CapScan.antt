@@ -8,7 +8,7 @@ use native.Mathlib.Decide.{decLt}
 use native.Mathlib.Omega.{arith}
 use lib.ListN.{length, getD}
 use Rattle.network.specs.declared.Call.{Call}
-use Rattle.network.specs.Lists.{leastOf, pairsOf, leastFrom}
+use Rattle.network.specs.Lists.{leastOf, leastFrom}
 use Rattle.network.specs.Network.{Net, cycle, maxPeriod}
 use Rattle.network.specs.Rating.{periodOf, callsOfStop}
 use Rattle.network.specs.Engine.Scan.{callsBefore}
@@ -20,8 +20,8 @@ use Rattle.network.proofs.Laws.Sums.{le-sumOf, sumOf-le, sumOf-nil, sumOf-snoc}
 use Rattle.network.proofs.Laws.Divisor.{gcd-le-left, quotient-pos}
 use Rattle.network.proofs.Laws.Gaps.{callsBefore-hit, callsBefore-miss, cycle-pos, callsBefore-none, callsOfStop-stated}
 use Rattle.network.proofs.Laws.Gaps.{period-divides-cycle, periodOf-le, periodOf-pos}
-use Rattle.search.specs.Caps.{halves, evenSpacing, capOfCalls, cap}
-use Rattle.search.specs.Engine.CapScan.{halfOf, visitsOf, leastHalf, boundsOf}
+use Rattle.search.specs.Caps.{halfOf, halves, evenSpacing, capOfCalls, cap}
+use Rattle.search.specs.Engine.CapScan.{visitsOf, leastHalf, boundsOf}
 
 -- ---- forward through the calls at a stop
 
@@ -44,12 +44,9 @@ module _ (g : Call → ℕ) (v stop : ℕ) (l : List Call) (k : ℕ) (stated : k
   least-miss f = ap (λ cs. leastFrom v (map g cs)) (callsBefore-miss stop l k stated f)
 
 module _ (n : Net) where
-  halves-pairs : (cs : List Call) → halves n cs ≡ pairsOf (halfOf n) cs
-  unfolding halves halfOf
-  halves-pairs cs = refl
-
   leastFrom-halves-few : (v : ℕ) (cs : List Call) → length cs ≤ 1 → leastFrom v (halves n cs) ≡ v
-  leastFrom-halves-few v cs h = ap (leastFrom v) (halves-pairs cs ∙ pairsOf-few (halfOf n) cs h) ∙ leastFrom-nil v
+  unfolding halves
+  leastFrom-halves-few v cs h = ap (leastFrom v) (pairsOf-few (halfOf n) cs h) ∙ leastFrom-nil v
 
   -- ---- one call more
 
@@ -62,10 +59,9 @@ module _ (n : Net) where
       (cs : List Call) (d : Call)
       → 0 < length cs
       → leastHalf n (cs ++ (d ∷ [])) ≡ leastFrom (leastHalf n cs) (map (λ c. halfOf n c d) cs)
-  unfolding leastHalf
+  unfolding leastHalf halves
   leastHalf-snoc [] d h = absurd (omega arith)
-  leastHalf-snoc (c ∷ cs) d h =
-      rw (halves-pairs ((c ∷ cs) ++ (d ∷ [])), halves-pairs (c ∷ cs)) (leastFrom-pairsOf-snoc (halfOf n) (periodOf n c) (c ∷ cs) d)
+  leastHalf-snoc (c ∷ cs) d h = leastFrom-pairsOf-snoc (halfOf n) (periodOf n c) (c ∷ cs) d
 
   pub visitsOf-snoc : (cs : List Call) (d : Call) → visitsOf n (cs ++ (d ∷ [])) ≡ visitsOf n cs + cycle n / periodOf n d
   unfolding visitsOf
@@ -107,17 +103,17 @@ module _ (n : Net) where
       → 2 ≤ length cs
       → 0 < periodOf n (getD cs 0 noCall)
       → min (leastHalf n cs) (cycle n / visitsOf n cs) ≡ capOfCalls n cs
-  unfolding capOfCalls leastHalf evenSpacing visitsOf
+  unfolding capOfCalls leastHalf halves evenSpacing visitsOf
   cap-of-many [] h p = absurd (omega arith)
   cap-of-many (c ∷ []) h p = absurd (omega arith)
   cap-of-many (c ∷ d ∷ cs) h p =
       ap (λ (v : ℕ). min v (evenSpacing n (c ∷ d ∷ cs)))
-      (leastFrom-leastOf (periodOf n c) (halves n (c ∷ d ∷ cs)) (rw halves-pairs (pairsOf-some (halfOf n) (c ∷ d ∷ cs) (omega arith))) ∙ omega (arith, below))
+      (leastFrom-leastOf (periodOf n c) (halves n (c ∷ d ∷ cs)) (pairsOf-some (halfOf n) (c ∷ d ∷ cs) (omega arith)) ∙ omega (arith, below))
     where
       below : leastOf (halves n (c ∷ d ∷ cs)) ≤ periodOf n c
       below =
           le-trans
-          (leastOf-le (halves n (c ∷ d ∷ cs)) (rw halves-pairs (member-of-pairsOf (halfOf n) noCall (c ∷ d ∷ cs) 0 1 (omega arith) (omega arith))))
+          (leastOf-le (halves n (c ∷ d ∷ cs)) (member-of-pairsOf (halfOf n) noCall (c ∷ d ∷ cs) 0 1 (omega arith) (omega arith)))
           (half-le-period c d p)
 
   visitsOf-pos : (cs : List Call) → 0 < length cs → 0 < cycle n / periodOf n (getD cs 0 noCall) → 0 < visitsOf n cs

@@ -9,7 +9,7 @@ use lib.IntN.{ℤ}
 use lib.ListN.{length, getD}
 use Rattle.network.specs.declared.Call.{Call}
 use Rattle.network.specs.Lists.{sumOf, leastOf}
-use Rattle.network.specs.Divisor.{Divides, gcd}
+use Rattle.network.specs.Divisor.{Divides}
 use Rattle.network.specs.Network.{Net, cycle}
 use Rattle.network.specs.Valid.{noCall, Valid}
 use Rattle.network.specs.Rating.{periodOf, gapOfStop, callsOfStop, stopGap}
@@ -19,13 +19,8 @@ use Rattle.network.proofs.Laws.Sums.{le-sumOf}
 use Rattle.network.proofs.Laws.Divisor.{gcd-le-left, pos-of-divides, quotient-pos}
 use Rattle.network.proofs.Laws.Gaps.{gapOfStop-half, gapOfStop-le-pair, cycle-pos, callsOfStop-stated, gapOfStop-none, gapOfStop-single}
 use Rattle.network.proofs.Laws.Gaps.{period-divides-cycle, stopGap-is}
-use Rattle.search.specs.Caps.{halves, evenSpacing, capOfCalls, cap}
+use Rattle.search.specs.Caps.{halfOf, halves, evenSpacing, capOfCalls, cap}
 use Rattle.search.proofs.Laws.Cover.{cover-calls}
-
--- ---- the halves of g
-
-abbrev half : Net → Call → Call → ℕ
-half n c d = gcd (periodOf n c) (periodOf n d) / 2
 
 -- ---- two calls or more
 
@@ -37,9 +32,9 @@ module _ (n : Net) (starts : List ℤ) (c d : Call) (rest : List Call) where
   gap = gapOfStop n starts cs
 
   gap-le-least-half : gap ≤ leastOf (halves n cs)
-  unfolding halves
+  unfolding halves halfOf
   gap-le-least-half =
-      let (j, k, h, l, e) = pair-of-pairsOf (half n) noCall cs (leastOf-member (halves n cs) (pairsOf-some (half n) cs (omega arith))) in
+      let (j, k, h, l, e) = pair-of-pairsOf (halfOf n) noCall cs (leastOf-member (halves n cs) (pairsOf-some (halfOf n) cs (omega arith))) in
       subst (λ v. gap ≤ v) e (gapOfStop-half n starts cs j k (λ e. omega arith) (omega arith) l)
 
   module _ (C-pos : 0 < cycle n) (divides : All noCall (λ c. Divides (periodOf n c) (cycle n)) cs) where

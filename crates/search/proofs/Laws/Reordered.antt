@@ -12,7 +12,6 @@ use lib.ListN.{length}
 use Rattle.network.specs.declared.Call.{Call}
 use Rattle.network.specs.declared.Rating.{Rating}
 use Rattle.network.specs.Archive.{tidied, SameNetwork}
-use Rattle.network.specs.Divisor.{gcd}
 use Rattle.network.specs.Lists.{pick, leastOf, pairsOf, sumOf, leastFrom}
 use Rattle.network.specs.Network.{Net, cycle}
 use Rattle.network.specs.Rating.{periodOf, pairGaps, callsOfStop, ratingBy}
@@ -25,7 +24,7 @@ use Rattle.network.proofs.Laws.Least.{leastOf-permuted}
 use Rattle.network.proofs.Laws.Members.{All, keep-all}
 use Rattle.network.proofs.Laws.Permutations.{length-permuted, keep-permuted, sumOf-permuted, pairsOf-permuted}
 use Rattle.network.proofs.Laws.Sums.{sumOf-nil, sumOf-snoc}
-use Rattle.search.specs.Caps.{halves, evenSpacing, capOfCalls, cap, placedCalls, upperValue, upperRating}
+use Rattle.search.specs.Caps.{halfOf, halves, evenSpacing, capOfCalls, cap, placedCalls, upperValue, upperRating}
 use Rattle.search.specs.Search.{aboveBest, startCounts, searched, outcomeOf, refusal, searchOutcome, startRowAfter}
 use Rattle.search.specs.Walk.{State, atFirst, walk}
 
@@ -33,10 +32,10 @@ use Rattle.search.specs.Walk.{State, atFirst, walk}
 
 module _ (n : Net) where
   halves-permuted : {cs ds : List Call} → List·Permᴰ cs ds → leastOf (halves n cs) ≡ leastOf (halves n ds)
-  unfolding halves
+  unfolding halves halfOf
   halves-permuted π =
       leastOf-permuted
-      (pairsOf-permuted (λ (c d : Call). gcd (periodOf n c) (periodOf n d) / 2) (λ c d. ap (λ (g : ℕ). g / 2) (gcd-comm (periodOf n c) (periodOf n d))) π)
+      (pairsOf-permuted (halfOf n) (λ c d. ap (λ (g : ℕ). g / 2) (gcd-comm (periodOf n c) (periodOf n d))) π)
 
   evenSpacing-permuted : {cs ds : List Call} → List·Permᴰ cs ds → evenSpacing n cs ≡ evenSpacing n ds
   unfolding evenSpacing
@@ -81,15 +80,17 @@ leastFrom-permuted n starts v {cs} {ds} π positive = go (decLt 1 (length cs))
 -- ---- a network with its calls in order
 
 module _ {n : Net} (valid : Valid n) where
+  halfOf-tidied : halfOf (tidied n) ≡ halfOf n
+  unfolding halfOf
+  halfOf-tidied = fun-ext (λ c. fun-ext (λ d. rw (periodOf-tidied n) refl))
+
   capOfCalls-tidied : (cs : List Call) → capOfCalls (tidied n) cs ≡ capOfCalls n cs
   unfolding capOfCalls halves evenSpacing
   capOfCalls-tidied [] = refl
   capOfCalls-tidied (c ∷ []) = ap (λ (period : Call → ℕ). period c) (periodOf-tidied n)
   capOfCalls-tidied (c ∷ d ∷ cs) =
-      ap₂ (λ (period : Call → ℕ) (common : ℕ).
-      min (leastOf (pairsOf (λ (c d : Call). gcd (period c) (period d) / 2) (c ∷ d ∷ cs)))
-      (common / sumOf (λ (c : Call). common / period c) (c ∷ d ∷ cs)))
-      (periodOf-tidied n) (cycle-tidied n)
+      ap₂ min (ap (λ (half : Call → Call → ℕ). leastOf (pairsOf half (c ∷ d ∷ cs))) halfOf-tidied)
+      (ap₂ (λ (period : Call → ℕ) (common : ℕ). common / sumOf (λ (c : Call). common / period c) (c ∷ d ∷ cs)) (periodOf-tidied n) (cycle-tidied n))
 
   cap-tidied : (stop : ℕ) → cap (tidied n) stop ≡ cap n stop
   unfolding cap

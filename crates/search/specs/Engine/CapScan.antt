@@ -5,15 +5,10 @@ use mathlib.Core.List.{List, [], _∷_}
 use lib.ListN.{length}
 use Rattle.network.specs.declared.Call.{Call}
 use Rattle.network.specs.Lists.{sumOf, leastFrom}
-use Rattle.network.specs.Divisor.{gcd}
 use Rattle.network.specs.Network.{Net, cycle}
 use Rattle.network.specs.Rating.{periodOf}
 use Rattle.search.specs.declared.caps.Bounds.{Bounds}
 use Rattle.search.specs.Caps.{halves}
-
--- The half of g, rounded down, of two calls
-unfoldable pub halfOf : Net → Call → Call → ℕ
-halfOf n c d = gcd (periodOf n c) (periodOf n d) / 2
 
 -- The sum of C/T over the calls
 unfoldable pub visitsOf : Net → List Call → ℕ

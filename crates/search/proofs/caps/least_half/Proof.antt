@@ -18,7 +18,7 @@ use Rattle.network.specs.Valid.{noCall}
 use Rattle.network.proofs.Laws.Packed.{call-in-row}
 use Rattle.network.proofs.Laws.Stored.{length-held, held-lines, held-period, held-call-line}
 use Rattle.network.proofs.Laws.Gaps.{periodOf-is}
-use Rattle.search.specs.Engine.CapScan.{halfOf}
+use Rattle.search.specs.Caps.{halfOf}
 use Rattle.search.proofs.Laws.CapScan.{least-none, least-hit, least-miss}
 use Rattle.search.proofs.caps.least_half.Statement.{statement}
 use Rattle.search.proofs.caps.least_half.Tie as tie

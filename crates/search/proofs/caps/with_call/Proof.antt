@@ -15,7 +15,8 @@ use Rattle.network.specs.Engine.Stored.{netOf, callsIn}
 use Rattle.network.proofs.Laws.Stored.{held-lines, held-period, held-period-pos}
 use Rattle.network.proofs.Laws.Gaps.{length-callsBefore, periodOf-is}
 use Rattle.search.specs.declared.caps.Bounds.{Bounds}
-use Rattle.search.specs.Engine.CapScan.{halfOf, visitsOf, leastHalf, boundsOf}
+use Rattle.search.specs.Caps.{halfOf}
+use Rattle.search.specs.Engine.CapScan.{visitsOf, leastHalf, boundsOf}
 use Rattle.search.proofs.Laws.CapScan.{leastHalf-first, leastHalf-snoc, visitsOf-snoc, visitsOf-le, boundsOf-made}
 use borrow.Author.Needs.{needs}
 use Rattle.search.proofs.caps.with_call.Statement.{statement}
