@@ -30,7 +30,6 @@ use Rattle.search.proofs.Laws.Outcome.{search-refuses, search-refuses-o
 use Rattle.search.proofs.entry.search as search
 use Rattle.search.proofs.entry.search.Kinds as search-kinds
 use Rattle.search.proofs.entry.search.Reads as search-contract
-
 -- ---- What each answer of the call tells
 
 pub use Rattle.search.proofs.Laws.Answers.{searchAnswer-finished, searchAnswer-stopped, searchAnswer-none, searchAnswer-refused}
