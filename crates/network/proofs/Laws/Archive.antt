@@ -245,7 +245,7 @@ unfolding IsBytes
 end-byte zero = omega arith
 end-byte (suc i) = omega arith
 
-pub fileOf-bytes : {n : Net} → Valid n → IsBytes (fileOf n)
+fileOf-bytes : {n : Net} → Valid n → IsBytes (fileOf n)
 unfolding fileOf
 fileOf-bytes {n} v =
     bytes-append (joined lineBytes (n .periods) ++ joined callBytes (n .calls)) (0x45 ∷ [])

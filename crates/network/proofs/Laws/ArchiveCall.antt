@@ -19,7 +19,7 @@ use Rattle.network.proofs.Laws.Refusals.{same-refusal}
 use Rattle.network.proofs.Laws.Valid.{accepted-valid}
 
 -- 16 lines and 256 calls at most
-pub archiveLength-le : {n : Net} → Valid n → archiveLength n ≤ 1329
+archiveLength-le : {n : Net} → Valid n → archiveLength n ≤ 1329
 unfolding archiveLength
 archiveLength-le v = omega (arith, v .lines, v .calls)
 

@@ -10,7 +10,7 @@ use lib.Seq.{take-suc, take-at, drop-append-add, drop-drop, sets, sets-eq}
 use Rattle.network.specs.Lists.{joined}
 
 module _ {A : Type 0} (f : A → List ℕ) where
-  pub joined-append : (xs ys : List A) → joined f (xs ++ ys) ≡ joined f xs ++ joined f ys
+  joined-append : (xs ys : List A) → joined f (xs ++ ys) ≡ joined f xs ++ joined f ys
   unfolding joined
   joined-append [] ys = refl
   joined-append (x ∷ xs) ys = ap (λ (l : List ℕ). f x ++ l) (joined-append xs ys) ∙ sym (append-assoc (f x) (joined f xs) (joined f ys))
