@@ -24,11 +24,13 @@ use Rattle.network.specs.Tidy.{notAfter}
 use Rattle.network.specs.Archive.{tidied, archive, archiveLength, SameNetwork, archiveAnswer}
 use Rattle.network.specs.Valid.{IsBytes, Valid}
 use Rattle.network.specs.Rating.{Counted, counted, IsRatingOver, IsRating, rating, ratingOver}
-use Rattle.network.specs.ByLines.{IsStopGapOfLines}
+use Rattle.network.specs.ByLines.{IsRatingOfLines}
 use Rattle.network.specs.Rate.{rateAnswer, rateOutcome}
+use Rattle.network.specs.Loops.{WithoutLoops, AlikeOfCalls}
 use Rattle.network.specs.ByLines.{AlikeOfLines}
 use Rattle.network.specs.Classes.{unserved, classRow, weightRow, classCount, lowestStops}
 use Rattle.network.specs.ClassCall.{classAnswer, classOutcome, classRowAfter, weightRowAfter, weightedRating, weightedOutcome}
+use Rattle.network.proofs.Laws.AlikeByCalls.{alike-by-calls}
 use Rattle.network.proofs.Laws.AlikeByLines.{alike-by-lines}
 use Rattle.network.proofs.Laws.Valid.{accepted-valid, cycle-multiple, cycle-least, cycle-pos}
 use Rattle.network.proofs.Laws.Reading.{gives-what-is-read, readFile-gives}
@@ -38,7 +40,7 @@ use Rattle.network.proofs.Laws.Tidy.{Sorted, tidy-sorted}
 use Rattle.network.proofs.Laws.Archive.{read-archive, same-tidied, archive-tidied, archive-of-same, same-of-archive, length-archive, archive-bytes}
 use Rattle.network.proofs.Laws.ArchiveCall.{archive-refuses, archive-refuses-only, archive-row-as-found, archive-answers}
 use Rattle.network.proofs.Laws.SameNetwork.{AnswersAlike, same-answers-alike}
-use Rattle.network.proofs.Laws.ByLines.{stop-gap-by-lines}
+use Rattle.network.proofs.Laws.ByLines.{rating-by-lines}
 use Rattle.network.proofs.Laws.Rating.{rating-is-rating, IsRating-unique}
 use Rattle.network.proofs.Laws.Ranges.{served-range, class-range, calls-some, least-range, sum-range}
 use Rattle.network.proofs.Laws.Classes.{length-classRow, length-weightRow, lowest-rating}
@@ -143,8 +145,8 @@ pub record RatedAs (n : Net) (sheet : List ℤ) (answer : Outcome) : Type 0 wher
   pub sum : ℕ
   pub answered : answer ≡ values (least ∷ sum ∷ [])
   pub is-rating : IsRating n sheet least sum
-  -- each stop's gap in document 01's own words: the least over its pairs of different lines, with one line only that line's period
-  pub by-lines : (s : Counted) → List·Memᴰ s (counted n) → IsStopGapOfLines n sheet (s .stop) (is-rating .gap (s .stop))
+  -- without loops in document 01's own words: a stop's gap is the least over its pairs of different lines, with one line only that line's period
+  pub by-lines : WithoutLoops n → IsRatingOfLines n sheet least sum
   pub only-rating : (l s : ℕ) → IsRating n sheet l s → answer ≡ values (l ∷ s ∷ [])
   pub ranges : (least ≤ maxPeriod) × (sum ≤ 92160)
 
@@ -155,7 +157,7 @@ rated-as {n} valid sheet =
       sum = rating n sheet .sum;
       answered = refl;
       is-rating = rating-is-rating n valid sheet;
-      by-lines = λ s m. stop-gap-by-lines valid .0 (rating-is-rating n valid sheet .is-gap s m);
+      by-lines = λ loopless. rating-by-lines valid loopless .0 (rating-is-rating n valid sheet);
       only-rating = λ l s q.
           let (e, f) = IsRating-unique valid q in ap₂ (λ (x y : ℕ). values (x ∷ y ∷ [])) (sym e) (sym f);
       ranges = (least-range valid sheet, sum-range valid sheet);
@@ -212,8 +214,8 @@ module _ (κs : Lfts 2) (a : ArgsD weighted.signature κs) (r : ResD weighted.si
 pub record Classified (n : Net) (answer : Outcome) (classes weights : List ℕ) : Type 0 where
   pub lengths : (length classes ≡ stopCount) × (length weights ≡ stopCount)
   -- the class row holds for each served stop the lowest stop alike to it ..
-  pub alike : (s : ℕ) → s ≤ maxStop → isServed s (n .calls) ≡ true → AlikeOfLines n (getD classes s 0) s
-  pub lowest : (s t : ℕ) → s ≤ maxStop → AlikeOfLines n t s → getD classes s 0 ≤ t
+  pub alike : (s : ℕ) → s ≤ maxStop → isServed s (n .calls) ≡ true → AlikeOfCalls n (getD classes s 0) s
+  pub lowest : (s t : ℕ) → s ≤ maxStop → AlikeOfCalls n t s → getD classes s 0 ≤ t
   -- .. and 255 if unserved
   pub unserved-is-255 : (s : ℕ) → s ≤ maxStop → isServed s (n .calls) ≡ false → getD classes s 0 ≡ unserved
   -- the weight row the size of the class at its lowest stop, 0 elsewhere: how many stops have it for their lowest
@@ -231,8 +233,8 @@ pub classified : {n : Net} → Valid n → Classified n (values (classCount n �
 classified {n} valid =
     record {
       lengths = (length-classRow n, length-weightRow n);
-      alike = λ s low e. alike-by-lines valid (getD (classRow n) s 0) s .0 (entry-alike valid s low e);
-      lowest = λ s t low a. entry-least valid s low (alike-by-lines valid t s .1 a);
+      alike = λ s low e. alike-by-calls n (getD (classRow n) s 0) s .0 (entry-alike valid s low e);
+      lowest = λ s t low a. entry-least valid s low (alike-by-calls n t s .1 a);
       unserved-is-255 = λ s low. entry-unserved n s low;
       weight = λ s low. weight-counts valid s low;
       count = classCount n;

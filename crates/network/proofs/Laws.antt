@@ -21,6 +21,7 @@ pub mod Gap
 pub mod Paired
 pub mod Pairs
 pub mod StopGap
+pub mod Loops
 pub mod ByLines
 pub mod Order
 pub mod Rating
@@ -37,6 +38,7 @@ pub mod ArchiveCall
 pub mod Representatives
 pub mod Alike
 pub mod AlikeGap
+pub mod AlikeByCalls
 pub mod AlikeByLines
 pub mod Placed
 pub mod Classes

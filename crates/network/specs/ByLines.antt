@@ -1,20 +1,21 @@
 -- Document 01, "Gap and rating" and "Classes of stops", in its own words: the gap of two lines at a stop, the gap of a stop as the least over its
--- pairs of different lines (source 000, definitions 2.1.4 and 2.1.5), and stops that are alike over lines and pairs of lines. No line calls twice
--- at a stop, so that these are the gap by calls of specs/Rating.antt and the stops alike by places of specs/Classes.antt.
-use Prim.Native.Nat.{ℕ, _<_, _≤_}
+-- pairs of different lines (source 000, definitions 2.1.4 and 2.1.5), the rating by these, and stops that are alike over lines and pairs of lines.
+-- On a network without loops no line calls twice at a stop, so that these are the gap by calls of specs/Rating.antt, the rating there, and the
+-- stops alike by places of specs/Classes.antt.
+use Prim.Native.Nat.{ℕ, _*_, _<_, _≤_}
 use mathlib.Core.Path.{_≡_}
 use mathlib.Core.Bool.{true, _&&_}
-use mathlib.Core.List.{List, [], _∷_}
+use mathlib.Core.List.{List, [], _∷_, List·Memᴰ}
 use lib.Dec.{eqb}
 use lib.IntN.{ℤ, pos, _-ℤ_}
 use lib.ListN.{length, getD}
 use Rattle.network.specs.declared.Call.{Call}
-use Rattle.network.specs.Lists.{pick}
+use Rattle.network.specs.Lists.{pick, sumOf}
 use Rattle.network.specs.Divisor.{gcd}
 use Rattle.network.specs.Network.{Net, callsAt, isServed}
 use Rattle.network.specs.Valid.{noCall}
 use Rattle.network.specs.Gap.{trip, distance, residue}
-use Rattle.network.specs.Rating.{arrivalOf}
+use Rattle.network.specs.Rating.{Counted, counted, arrivalOf}
 
 -- ---- Gap and rating
 
@@ -52,6 +53,14 @@ pub data IsStopGapOfLines (n : Net) (starts : List ℤ) (stop : ℕ) : ℕ → T
       → ((call : ℕ) × LineCallsThere n i stop call)
       → ((j call : ℕ) → LineCallsThere n j stop call → j ≡ i)
       → IsStopGapOfLines n starts stop (getD (n .periods) i 0)
+
+-- The rating by these gaps (definition 2.1.6)
+pub record IsRatingOfLines (n : Net) (starts : List ℤ) (least sum : ℕ) : Type 0 where
+  pub gap : ℕ → ℕ
+  pub is-gap : (s : Counted) → List·Memᴰ s (counted n) → IsStopGapOfLines n starts (s .stop) (gap (s .stop))
+  pub attained : (s : Counted) × List·Memᴰ s (counted n) × (gap (s .stop) ≡ least)
+  pub is-least : (s : Counted) → List·Memᴰ s (counted n) → least ≤ gap (s .stop)
+  pub is-sum : sum ≡ sumOf (λ (s : Counted). s .weight * gap (s .stop)) (counted n)
 
 -- ---- Classes of stops
 

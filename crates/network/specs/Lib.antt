@@ -10,6 +10,7 @@ pub mod Refusals
 pub mod Valid
 pub mod Gap
 pub mod Rating
+pub mod Loops
 pub mod ByLines
 pub mod Classes
 pub mod Rate

@@ -50,8 +50,9 @@ maxOffset = 65535
 abbrev pub maxCalls : ℕ
 maxCalls = 256
 
+-- .. and of document 02, A.2: how often a line may call at a stop
 abbrev pub maxCallsAtStop : ℕ
-maxCallsAtStop = 1
+maxCallsAtStop = 2
 
 -- .. so that a stop has at most so many calls
 abbrev pub maxAtStop : ℕ

@@ -3,7 +3,7 @@ mod alike;
 pub mod archive;
 pub mod classes;
 pub mod divisor;
-mod gaps;
+pub mod gaps;
 mod places;
 pub mod rate;
 pub mod ratings;
@@ -73,7 +73,7 @@ impl Network {
     pub const MAX_CALLS: usize = 256;
 
     // How often a line may call at a stop.
-    pub const MAX_CALLS_AT_STOP: u8 = 1;
+    pub const MAX_CALLS_AT_STOP: u8 = 2;
 
     // One more than the highest stop.
     pub const STOPS: usize = 64;
@@ -82,10 +82,10 @@ impl Network {
     pub const TABLE: usize = 1024;
 
     // The most calls that a stop can have: each line as often as it may call there.
-    pub const MAX_AT_STOP: usize = 16;
+    pub const MAX_AT_STOP: usize = 32;
 
     // So many places for each stop.
-    pub const PLACES: usize = 1024;
+    pub const PLACES: usize = 2048;
 
     // A place for each two lines.
     pub const PAIRS: usize = 256;

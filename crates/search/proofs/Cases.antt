@@ -16,13 +16,14 @@ use Rattle.network.specs.Rating.{arrivalOf, periodOf, gapOfCalls, pairGaps, gap
 use Rattle.network.specs.Rate.{ratingValues, onSheet, rateOutcome}
 use Rattle.network.specs.Tidy.{insertBy, sortBy, notAfter, tidy}
 use Rattle.network.specs.Classes.{ordered, remainder, sameLine, sameRemainder, isAlike, firstBelow, lowestAlike, isLowest, table, classRow, weightRow, classCount}
-use Rattle.search.specs.Caps.{halfOf, halves, evenSpacing, capOfCalls, cap, placedCalls, upperValue, upperRating}
+use Rattle.network.specs.Loops.{ownGap}
+use Rattle.search.specs.Caps.{halfOf, pairCap, pairCaps, evenSpacing, capOfCalls, cap, placedCalls, upperValue, upperRating}
 use Rattle.search.specs.Walk.{isOver, tryMade, stop, becomesBest, unless, stopIf, oneTry, eachStart, walk, mostTries}
 use Rattle.search.specs.Search.{SearchOutcome, finished, stopped, stoppedWithNone, startCounts, notAbove, aboveBest, searched, triesBound, walkOutcome, outcomeOf, searchOutcome, startRowAfter}
 
 -- Opens every definition
 opened : ℕ
-unfolding any keep allBelow countBelow below sumOf leastOf gcd gcdWithin lcm commonCycle cycleFrom cycle callsAt howOftenAt callsAnywhere isServed servedStops latestOffset word command operandBytes lineOperand stopOperand statedOffset rideOffset withLine withCall callOf extend first cutOff periodOutOfRange someLineSilent callGrounds grounds proceed readFrom readFile readOutcome residue fold gapOf arrivalOf periodOf gapOfCalls pairGaps gapOfStop callsOfStop stopGap eachOnce counted ratingBy servedList ratingOver rating isAbove ratingValues onSheet rateOutcome insertBy sortBy notAfter tidy ordered remainder sameLine sameRemainder isAlike firstBelow lowestAlike isLowest table classRow weightRow classCount leastFrom halfOf halves evenSpacing capOfCalls cap placedCalls upperValue upperRating isOver tryMade stop becomesBest unless stopIf oneTry eachStart walk mostTries startCounts notAbove aboveBest searched triesBound walkOutcome outcomeOf searchOutcome startRowAfter pairsOf
+unfolding any keep allBelow countBelow below sumOf leastOf gcd gcdWithin lcm commonCycle cycleFrom cycle callsAt howOftenAt callsAnywhere isServed servedStops latestOffset word command operandBytes lineOperand stopOperand statedOffset rideOffset withLine withCall callOf extend first cutOff periodOutOfRange someLineSilent callGrounds grounds proceed readFrom readFile readOutcome residue fold gapOf arrivalOf periodOf gapOfCalls pairGaps gapOfStop callsOfStop stopGap eachOnce counted ratingBy servedList ratingOver rating isAbove ratingValues onSheet rateOutcome insertBy sortBy notAfter tidy ordered remainder sameLine sameRemainder isAlike firstBelow lowestAlike isLowest table classRow weightRow classCount leastFrom halfOf ownGap pairCap pairCaps evenSpacing capOfCalls cap placedCalls upperValue upperRating isOver tryMade stop becomesBest unless stopIf oneTry eachStart walk mostTries startCounts notAbove aboveBest searched triesBound walkOutcome outcomeOf searchOutcome startRowAfter pairsOf
 opened = 0
 
 -- The files

@@ -2,24 +2,40 @@
 use network::Call;
 use network::Network;
 use network::divisor::gcd;
+use network::gaps::gap;
 ghost use mathlib.Core.Path.{_≡_};
 ghost use mathlib.Core.List.{map, _++_, _∷_, []};
-ghost use Prim.Native.Nat.{ℕ, _<_, _≤_};
+ghost use Prim.Native.Nat.{ℕ, _/_, _<_, _≤_};
+ghost use lib.IntN.{pos, _-ℤ_};
 ghost use lib.ListN.{length, getD};
 ghost use Rattle.network.specs.Network as net;
 ghost use Rattle.network.specs.Rating.{callsOfStop};
-ghost use Rattle.network.specs.Lists.{leastFrom};
+ghost use Rattle.network.specs.Divisor as divisor;
+ghost use Rattle.network.specs.Gap as gaps;
+ghost use Rattle.network.specs.Lists.{pick, leastFrom};
 ghost use Rattle.network.specs.Engine.Scan.{callsBefore};
 ghost use Rattle.network.specs.Engine.Stored.{netOf, callsIn, Sound};
 ghost use Rattle.network.specs.Valid.{Valid};
-ghost use Rattle.search.specs.Caps.{halfOf, cap};
+ghost use Rattle.search.specs.Caps.{pairCap, cap};
 ghost use Rattle.search.specs.Engine.CapScan.{boundsOf};
 
-// The least of a number and the halves of g over the pairs of a call with those before it at its stop.
-fn least_half(network: Network, call: Call, at: usize, least: u32) -> u32
+// What a pair of calls with these offsets and periods caps its stop at. Of two lines it is the half of the periods' divisor; of one line the
+// exact gap of its two calls, which are as far apart as their offsets whatever the line's start.
+fn pair_cap(own: bool, first: u16, second: u16, period: u32, other: u32) -> u32
+    requires { ⌜ 0 < period ⌝ }
+    ensures { λ r. ⌜ r ≡ pick own (gaps.fold period (gaps.residue (pos first -ℤ pos second) period)) (divisor.gcd period other / 2) ⌝ }
+{
+    if own {
+        return gap(first as i64, second as i64, period);
+    }
+    gcd(period, other) / 2
+}
+
+// The least of a number and what the pairs of a call with those before it at its stop cap the stop at.
+fn least_pair_cap(network: Network, call: Call, at: usize, least: u32) -> u32
     requires { ⌜ Sound network × Valid (netOf network) ⌝ }
     requires { ⌜ (call .line < length (netOf network .periods)) × (at ≤ network .count) ⌝ }
-    ensures { λ r. ⌜ r ≡ leastFrom least (map (λ d. halfOf (netOf network) d call) (callsBefore (call .stop) (callsIn (network .list)) at)) ⌝ }
+    ensures { λ r. ⌜ r ≡ leastFrom least (map (λ d. pairCap (netOf network) d call) (callsBefore (call .stop) (callsIn (network .list)) at)) ⌝ }
 {
     let line = call.line as usize;
     let period = network.periods[line] as u32;
@@ -28,21 +44,27 @@ fn least_half(network: Network, call: Call, at: usize, least: u32) -> u32
         let other = Call::unpacked(network.list[i]);
         if other.stop == call.stop {
             let other_line = other.line as usize;
-            let half = gcd(network.periods[other_line] as u32, period) / 2;
-            if half < lesser {
-                lesser = half;
+            let cap = pair_cap(
+                other_line == line,
+                other.offset,
+                call.offset,
+                network.periods[other_line] as u32,
+                period,
+            );
+            if cap < lesser {
+                lesser = cap;
             }
         }
     }
     lesser
 }
 
-// What the cap of a stop is made of: how many calls it has, the sum of C/T over them, and the least of the first one's period and the
-// halves of g over their pairs.
+// What the cap of a stop is made of: how many calls it has, the sum of C/T over them, and the least of the first one's period and what
+// their pairs cap it at.
 pub struct Bounds {
     pub calls: u32,
     pub visits: u32,
-    pub half: u32,
+    pub pair: u32,
 }
 
 // The same with one call more.
@@ -59,13 +81,13 @@ fn with_call(bounds: Bounds, network: Network, call: Call, at: usize) -> Bounds
         return Bounds {
             calls: 1,
             visits,
-            half: period,
+            pair: period,
         };
     }
     Bounds {
         calls: bounds.calls + 1,
         visits,
-        half: least_half(network, call, at, bounds.half),
+        pair: least_pair_cap(network, call, at, bounds.pair),
     }
 }
 
@@ -77,7 +99,7 @@ fn bounds_of(network: Network, stop: u8) -> Bounds
     let mut bounds = Bounds {
         calls: 0,
         visits: 0,
-        half: 0,
+        pair: 0,
     };
     let count = network.count;
     for i in 0..count {
@@ -96,11 +118,11 @@ fn cap_of(network: Network, stop: u8) -> u32
 {
     let bounds = bounds_of(network, stop);
     if bounds.calls < 2 {
-        return bounds.half;
+        return bounds.pair;
     }
     let spacing = network.cycle / bounds.visits;
-    if bounds.half < spacing {
-        bounds.half
+    if bounds.pair < spacing {
+        bounds.pair
     } else {
         spacing
     }

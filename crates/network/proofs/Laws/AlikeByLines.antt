@@ -1,5 +1,5 @@
--- Two stops are alike by places exactly when they are in document 01's words, over lines and pairs of lines: no line calls twice at a stop, so that
--- each line has one place, and the lines rise. Assumes nothing.
+-- Two stops of a network without loops are alike by places exactly when they are in document 01's words, over lines and pairs of lines: each line
+-- has one place, and the lines rise. Assumes nothing.
 use Prim.Native.Nat.{ℕ, _<_, _≤_}
 use mathlib.Core.Path.{_≡_, refl, sym, ap, ap₂, _∙_}
 use mathlib.Core.Bool.{Bool, true, false, _&&_, _||_, and-eq-true-iff}
@@ -15,7 +15,8 @@ use Rattle.network.specs.declared.Call.{Call}
 use Rattle.network.specs.Lists.{pick}
 use Rattle.network.specs.Divisor.{gcd}
 use Rattle.network.specs.Network.{Net, callsAt}
-use Rattle.network.specs.Valid.{noCall, Valid}
+use Rattle.network.specs.Loops.{WithoutLoops}
+use Rattle.network.specs.Valid.{noCall}
 use Rattle.network.specs.Gap.{residue}
 use Rattle.network.specs.Rating.{periodOf, callsOfStop}
 use Rattle.network.specs.Tidy.{notAfter}
@@ -118,9 +119,9 @@ not-after-line c d = go (ltb (c .line) (d .line)) (eqb (c .line) (d .line)) refl
 
 -- ---- the calls at a stop
 
-module _ {n : Net} (v : Valid n) where
+module _ {n : Net} (loopless : WithoutLoops n) where
   calls-apart : EveryTwo Apart (n .calls)
-  calls-apart = everyTwo-of-places Apart noCall (n .calls) (no-line-twice v)
+  calls-apart = everyTwo-of-places Apart noCall (n .calls) (no-line-twice loopless)
 
   module _ (s : ℕ) where
     lines-apart : EveryTwo (λ c d. c .line ≡ d .line → ⊥) (callsOfStop n s)

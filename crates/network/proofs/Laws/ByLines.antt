@@ -1,5 +1,5 @@
--- The gap of a stop over pairs of different lines, as document 01 words it, is its gap over pairs of calls: no line calls twice at a stop, so that
--- the gaps of its pairs of calls are those of its pairs of lines. Assumes nothing.
+-- On a network without loops the gap of a stop over pairs of different lines, as document 01 words it, is its gap over pairs of calls, and so for
+-- the rating: no line calls twice at a stop, so that the gaps of its pairs of calls are those of its pairs of lines. Assumes nothing.
 use Prim.Native.Nat.{ℕ, zero, suc, _≤_, _<_}
 use mathlib.Core.Path.{_≡_, refl, sym, ap, ap₂, subst, subst₂, _∙_}
 use mathlib.Core.Bool.{true}
@@ -12,10 +12,11 @@ use lib.IntN.{ℤ}
 use lib.ListN.{length, getD}
 use Rattle.network.specs.declared.Call.{Call}
 use Rattle.network.specs.Network.{Net, isServed}
+use Rattle.network.specs.Loops.{WithoutLoops}
 use Rattle.network.specs.Valid.{noCall, Valid}
 use Rattle.network.specs.Gap.{trip, distance}
-use Rattle.network.specs.Rating.{arrivalOf, periodOf, CallsThere, IsStopGap, gapOfCalls, callsOfStop, stopGap}
-use Rattle.network.specs.ByLines.{LineCallsThere, Reaches, IsLinesGap, IsStopGapOfLines, least-of-lines, period-of-line}
+use Rattle.network.specs.Rating.{arrivalOf, periodOf, CallsThere, IsStopGap, IsRating, gapOfCalls, callsOfStop, stopGap}
+use Rattle.network.specs.ByLines.{LineCallsThere, Reaches, IsLinesGap, IsStopGapOfLines, least-of-lines, period-of-line, IsRatingOfLines}
 use Rattle.network.proofs.Laws.Members.{AllPairs, place-of-member}
 use Rattle.network.proofs.Laws.Often.{no-line-twice}
 use Rattle.network.proofs.Laws.Gap.{distance-comm}
@@ -31,14 +32,14 @@ by-call h = record { stated = h .stated; at-stop = h .at-stop }
 of-number : (n : Net) (stop : ℕ) {c : Call} {k : ℕ} → IsNumber n stop c k → LineCallsThere n (c .line) stop k
 of-number n stop (h, e) = record { stated = h .stated; of-line = ap (λ (d : Call). d .line) e; at-stop = h .at-stop }
 
-module _ {n : Net} (valid : Valid n) where
+module _ {n : Net} (valid : Valid n) (loopless : WithoutLoops n) where
   -- No line calls twice at a stop ..
   pub once-one-call-of-a-line : {line stop c d : ℕ} → LineCallsThere n line stop c → LineCallsThere n line stop d → c ≡ d
   once-one-call-of-a-line {c = c} {d = d} h k = go (decLt c d) (decLt d c)
     where
       go : Dec (c < d) → Dec (d < c) → c ≡ d
-      go (yes l) m = absurd (no-line-twice valid c d l (k .stated) (h .of-line ∙ sym (k .of-line)) (h .at-stop ∙ sym (k .at-stop)))
-      go (no f) (yes l) = absurd (no-line-twice valid d c l (h .stated) (k .of-line ∙ sym (h .of-line)) (k .at-stop ∙ sym (h .at-stop)))
+      go (yes l) m = absurd (no-line-twice loopless c d l (k .stated) (h .of-line ∙ sym (k .of-line)) (h .at-stop ∙ sym (k .at-stop)))
+      go (no f) (yes l) = absurd (no-line-twice loopless d c l (h .stated) (k .of-line ∙ sym (h .of-line)) (k .at-stop ∙ sym (h .at-stop)))
       go (no f) (no g) = omega arith
 
   -- .. so that two calls at a stop are of two lines
@@ -118,14 +119,14 @@ module _ {n : Net} (valid : Valid n) where
             let first : i ≡ 0 = omega arith in
             sym (q .of-line) ∙ ap (λ (c : Call). c .line) (sym e) ∙ ap (λ (i : ℕ). getD (callsOfStop n stop) i noCall .line) first
 
-pub stopGap-is-stop-gap-of-lines : (n : Net) → Valid n → (starts : List ℤ) (stop : ℕ) → isServed stop (n .calls) ≡ true
+pub stopGap-is-stop-gap-of-lines : (n : Net) → Valid n → WithoutLoops n → (starts : List ℤ) (stop : ℕ) → isServed stop (n .calls) ≡ true
     → IsStopGapOfLines n starts stop (stopGap n starts stop)
-stopGap-is-stop-gap-of-lines n valid starts stop e = go (length (callsOfStop n stop)) refl
+stopGap-is-stop-gap-of-lines n valid loopless starts stop e = go (length (callsOfStop n stop)) refl
   where
     go : (l : ℕ) → length (callsOfStop n stop) ≡ l → IsStopGapOfLines n starts stop (stopGap n starts stop)
     go zero f = let (k, c) = call-of-served n stop e in let (i, h, g) = place-of-member (callsOfStop n stop) noCall (callsOfStop-member n stop c) in absurd (omega arith)
-    go (suc zero) f = lines-gap-of-one valid starts stop f
-    go (suc (suc l)) f = lines-gap-of-pairs valid starts stop (omega arith)
+    go (suc zero) f = lines-gap-of-one valid loopless starts stop f
+    go (suc (suc l)) f = lines-gap-of-pairs valid loopless starts stop (omega arith)
 
 -- ---- each gap is one number
 
@@ -155,13 +156,34 @@ module _ {n : Net} {starts : List ℤ} {stop : ℕ} where
   IsStopGapOfLines-served (least-of-lines i j f g h) = served-of-call n stop (by-call (g .attained .2 .there))
   IsStopGapOfLines-served (period-of-line i c o) = served-of-call n stop (by-call (c .1))
 
-  pub IsStopGapOfLines-unique : {v : ℕ} → Valid n → IsStopGapOfLines n starts stop v → v ≡ stopGap n starts stop
-  IsStopGapOfLines-unique valid g = IsStopGapOfLines-same g (stopGap-is-stop-gap-of-lines n valid starts stop (IsStopGapOfLines-served g))
+  pub IsStopGapOfLines-unique : {v : ℕ} → Valid n → WithoutLoops n → IsStopGapOfLines n starts stop v → v ≡ stopGap n starts stop
+  IsStopGapOfLines-unique valid loopless g = IsStopGapOfLines-same g (stopGap-is-stop-gap-of-lines n valid loopless starts stop (IsStopGapOfLines-served g))
 
 -- ---- by calls and by lines it is one gap
 
-pub stop-gap-by-lines : {n : Net} {starts : List ℤ} {stop gap : ℕ} → Valid n → IsStopGap n starts stop gap ↔ IsStopGapOfLines n starts stop gap
-stop-gap-by-lines {n} {starts} {stop} {gap} valid = (
-  λ g. rw (IsStopGap-unique valid g) (stopGap-is-stop-gap-of-lines n valid starts stop (IsStopGap-served g)),
-  λ g. rw (IsStopGapOfLines-unique valid g) (stopGap-is-stop-gap n valid starts stop (IsStopGapOfLines-served g)),
+pub stop-gap-by-lines : {n : Net} {starts : List ℤ} {stop gap : ℕ} → Valid n → WithoutLoops n → IsStopGap n starts stop gap ↔ IsStopGapOfLines n starts stop gap
+stop-gap-by-lines {n} {starts} {stop} {gap} valid loopless = (
+  λ g. rw (IsStopGap-unique valid g) (stopGap-is-stop-gap-of-lines n valid loopless starts stop (IsStopGap-served g)),
+  λ g. rw (IsStopGapOfLines-unique valid loopless g) (stopGap-is-stop-gap n valid starts stop (IsStopGapOfLines-served g)),
+)
+
+-- .. and one rating
+pub rating-by-lines : {n : Net} {starts : List ℤ} {least sum : ℕ} → Valid n → WithoutLoops n → IsRating n starts least sum ↔ IsRatingOfLines n starts least sum
+rating-by-lines valid loopless = (
+  λ r.
+      record {
+        gap = r .gap;
+        is-gap = λ s m. stop-gap-by-lines valid loopless .0 (r .is-gap s m);
+        attained = r .attained;
+        is-least = r .is-least;
+        is-sum = r .is-sum;
+      },
+  λ r.
+      record {
+        gap = r .gap;
+        is-gap = λ s m. stop-gap-by-lines valid loopless .1 (r .is-gap s m);
+        attained = r .attained;
+        is-least = r .is-least;
+        is-sum = r .is-sum;
+      },
 )

@@ -156,6 +156,9 @@ gcd-comm a b = divides-antisymm (gcd a b) (gcd b a) (swap a b) (swap b a)
     swap : (a b : ℕ) → Divides (gcd a b) (gcd b a)
     swap a b = gcd-greatest (gcd a b) b a (gcd-divides-right a b) (gcd-divides-left a b)
 
+pub gcd-self : (a : ℕ) → gcd a a ≡ a
+gcd-self a = divides-antisymm (gcd a a) a (gcd-divides-left a a) (gcd-greatest a a a (divides-refl a) (divides-refl a))
+
 pub gcd-pos-left : (a b : ℕ) → 0 < a → 0 < gcd a b
 gcd-pos-left a b = pos-of-divides (gcd a b) a (gcd-divides-left a b)
 

@@ -4,7 +4,8 @@
 pub use Rattle.network.proofs.Laws.Gap.{theorem-3-1-2, difference-trip, distance-of-difference, fold-is}
 pub use Rattle.network.proofs.Laws.Gap.{residue-pos, residue-lt, residue-of-residue, residue-of-add, residue-eq-of-multiple, multiple-of-residue-eq}
 -- two calls: their gap by the formula, of which only their lines' starts and periods count
-pub use Rattle.network.proofs.Laws.Pairs.{arrivalOf-pos, gapOfCalls-is-gapOf, gapOfCalls-is-fold, SameStart, gapOfCalls-local}
+pub use Rattle.network.proofs.Laws.Pairs.{arrivalOf-pos, gapOfCalls-is-gapOf, gapOfCalls-is-fold, gapOfCalls-half, SameStart, gapOfCalls-local}
+pub use Rattle.network.proofs.Laws.Loops.{gapOfCalls-own, ownGap-is-fold, ownGap-half, ownGap-symmetric}
 pub use Rattle.network.proofs.Laws.StopGap.{periodOf-is, periodOf-pos, periodOf-le, period-divides-cycle}
 -- any calls: their gap is the least over their pairs, at most half of any g; with one call, the period
 pub use Rattle.network.proofs.Laws.Pairs.{gapOfStop-le-pair, gapOfStop-attained, gapOfStop-none, gapOfStop-single, gapOfStop-half, gapOfStop-cong}
@@ -12,7 +13,6 @@ pub use Rattle.network.proofs.Laws.Pairs.{leastFrom-pairGaps-few, least
 pub use Rattle.network.proofs.Laws.Permuted.{gapOfStop-permuted}
 -- the calls of a stop
 pub use Rattle.network.proofs.Laws.StopGap.{callsOfStop-is, callsOfStop-stated, callsOfStop-period-pos, served-of-call, stopGap-is}
-pub use Rattle.network.proofs.Laws.ByLines.{stop-gap-by-lines}
 -- those among the first calls, and the row that leads back through them
 pub use Rattle.network.proofs.Laws.Scan.{callsBefore-none, callsBefore-is, callsBefore-all, callsBefore-hit, callsBefore-miss}
 pub use Rattle.network.proofs.Laws.Scan.{length-callsBefore, callsOfStop-held, leastFrom-pairGaps-snoc}

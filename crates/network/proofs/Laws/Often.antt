@@ -1,5 +1,5 @@
 -- How often a line calls at a stop: one call more is one more at its line and stop, and at no other; so for the table that has the numbers, since
--- each line at each stop has a place of its own; and no line calls at a stop twice. Assumes nothing.
+-- each line at each stop has a place of its own; and without loops no line calls at a stop twice. Assumes nothing.
 use Prim.Native.Nat.{ℕ, _*_, _+_, _<_, _≤_}
 use mathlib.Core.Path.{_≡_, refl, sym, ap, _∙_}
 use mathlib.Core.Bool.{Bool, true, false, _&&_, and-false}
@@ -14,7 +14,8 @@ use Rattle.network.specs.declared.Call.{Call}
 use Rattle.network.specs.Lists.{pick, keep}
 use Rattle.network.specs.Network.{Net, maxLines, maxStop, maxCallsAtStop, howOftenAt}
 use Rattle.network.specs.Engine.Stored.{Often}
-use Rattle.network.specs.Valid.{noCall, Valid}
+use Rattle.network.specs.Loops.{WithoutLoops}
+use Rattle.network.specs.Valid.{noCall}
 use Rattle.network.proofs.Laws.Lists.{and-both}
 use Rattle.network.proofs.Laws.Members.{keep-has-pair, keep-append}
 
@@ -66,17 +67,17 @@ howOftenAt-before cs c ds all e few =
     ap (keep isIt) (sym e) ∙ keep-append isIt cs (c ∷ ds) ∙ ap (λ (t : Bool). keep isIt cs ++ pick t (c ∷ keep isIt ds) (keep isIt ds)) itself in
     omega (arith, few, ap length split, length-append (keep isIt cs) (c ∷ keep isIt ds))
 
--- ---- no line calls twice at a stop
+-- ---- without loops no line calls twice at a stop
 
-pub no-line-twice : {n : Net} → Valid n → (j k : ℕ) → j < k → k < length (n .calls)
+pub no-line-twice : {n : Net} → WithoutLoops n → (j k : ℕ) → j < k → k < length (n .calls)
     → getD (n .calls) j noCall .line ≡ getD (n .calls) k noCall .line → getD (n .calls) j noCall .stop ≡ getD (n .calls) k noCall .stop → ⊥
 unfolding howOftenAt
-no-line-twice {n} v j k h l e f =
+no-line-twice {n} loopless j k h l e f =
     let isIt : Call → Bool = λ (c : Call). eqb (c .line) (getD (n .calls) k noCall .line) && eqb (c .stop) (getD (n .calls) k noCall .stop) in
     let first : isIt (getD (n .calls) j noCall) ≡ true = and-both _ _ (eq-eqb _ _ e) (eq-eqb _ _ f) in
     let second : isIt (getD (n .calls) k noCall) ≡ true = and-both _ _ (eq-eqb (getD (n .calls) k noCall .line) _ refl) (eq-eqb (getD (n .calls) k noCall .stop) _ refl) in
     let (p, q, m, o, _, _) = keep-has-pair noCall isIt (n .calls) j k h l first second in
-    omega (arith, m, o, v .often (getD (n .calls) k noCall .line) (getD (n .calls) k noCall .stop))
+    omega (arith, m, o, loopless .once (getD (n .calls) k noCall .line) (getD (n .calls) k noCall .stop))
 
 -- ---- the table
 

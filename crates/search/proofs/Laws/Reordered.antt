@@ -1,41 +1,52 @@
--- The walk is the same whatever order a file lists its calls in: caps and upper values depend on a stop's calls and not on their order, since halves
--- of g and gaps are those of a pair whichever comes first, and a sum is that of its terms. Assumes nothing.
+-- The walk is the same whatever order a file lists its calls in: caps and upper values depend on a stop's calls and not on their order, since
+-- what a pair caps its stop at and gaps are those of a pair whichever comes first, and a sum is that of its terms. Assumes nothing.
 use Prim.Native.Nat.{ℕ, zero, suc, _/_, _<_, min}
 use mathlib.Core.Path.{_≡_, refl, sym, ap, ap₂, fun-ext, _∙_}
 use mathlib.Core.Bool.{_&&_}
 use mathlib.Core.List.{List, [], _∷_, List·Permᴰ}
-use native.Mathlib.Decide.{decLt}
+use native.Mathlib.Decide.{decLt, ℕ-discrete}
 use native.Mathlib.Omega.{arith}
 use lib.Dec.{eqb, ltb}
 use lib.IntN.{ℤ}
 use lib.ListN.{length}
+use borrow.Author.Tests.{eq-eqb, ne-eqb}
 use Rattle.network.specs.declared.Call.{Call}
 use Rattle.network.specs.declared.Rating.{Rating}
 use Rattle.network.specs.Archive.{tidied, SameNetwork}
 use Rattle.network.specs.Lists.{pick, leastOf, pairsOf, sumOf, leastFrom}
+use Rattle.network.specs.Divisor.{gcd}
+use Rattle.network.specs.Loops.{ownGap}
 use Rattle.network.specs.Network.{Net, cycle}
 use Rattle.network.specs.Rating.{periodOf, pairGaps, callsOfStop, ratingBy}
 use Rattle.network.specs.Reading.{accepted}
 use Rattle.network.specs.Valid.{noCall, Valid}
 use Rattle.network.proofs.Laws.Divisor.{gcd-comm}
-use Rattle.network.proofs.Laws.Gaps.{gapOfStop-permuted, leastFrom-pairGaps-few, leastFrom-pairGaps-more, callsOfStop-period-pos}
+use Rattle.network.proofs.Laws.Gaps.{gapOfStop-permuted, leastFrom-pairGaps-few, leastFrom-pairGaps-more, callsOfStop-period-pos, ownGap-is-fold, ownGap-symmetric}
 use Rattle.network.proofs.Laws.Gaps.{tidied-same, callsOfStop-tidied, periods-tidied, cycle-tidied, periodOf-tidied, pairGaps-tidied, counted-tidied}
 use Rattle.network.proofs.Laws.Least.{leastOf-permuted}
 use Rattle.network.proofs.Laws.Members.{All, keep-all}
 use Rattle.network.proofs.Laws.Permutations.{length-permuted, keep-permuted, sumOf-permuted, pairsOf-permuted}
 use Rattle.network.proofs.Laws.Sums.{sumOf-nil, sumOf-snoc}
-use Rattle.search.specs.Caps.{halfOf, halves, evenSpacing, capOfCalls, cap, placedCalls, upperValue, upperRating}
+use Rattle.search.specs.Caps.{halfOf, pairCap, pairCaps, evenSpacing, capOfCalls, cap, placedCalls, upperValue, upperRating}
 use Rattle.search.specs.Search.{aboveBest, startCounts, searched, outcomeOf, refusal, searchOutcome, startRowAfter}
 use Rattle.search.specs.Walk.{State, atFirst, walk}
 
 -- ---- caps
 
 module _ (n : Net) where
-  halves-permuted : {cs ds : List Call} → List·Permᴰ cs ds → leastOf (halves n cs) ≡ leastOf (halves n ds)
-  unfolding halves halfOf
-  halves-permuted π =
-      leastOf-permuted
-      (pairsOf-permuted (halfOf n) (λ c d. ap (λ (g : ℕ). g / 2) (gcd-comm (periodOf n c) (periodOf n d))) π)
+  pairCap-symmetric : (c d : Call) → pairCap n c d ≡ pairCap n d c
+  unfolding pairCap halfOf
+  pairCap-symmetric c d = go (ℕ-discrete (c .line) (d .line))
+    where
+      go : Dec (c .line ≡ d .line) → pick (eqb (c .line) (d .line)) (ownGap n c d) (halfOf n c d) ≡ pick (eqb (d .line) (c .line)) (ownGap n d c) (halfOf n d c)
+      go (yes same) = rw (eq-eqb (c .line) (d .line) same, eq-eqb (d .line) (c .line) (sym same)) (ownGap-symmetric n c d same)
+      go (no differ) =
+          rw (ne-eqb (c .line) (d .line) differ, ne-eqb (d .line) (c .line) (λ e. differ (sym e)))
+          (ap (λ (g : ℕ). g / 2) (gcd-comm (periodOf n c) (periodOf n d)))
+
+  pairCaps-permuted : {cs ds : List Call} → List·Permᴰ cs ds → leastOf (pairCaps n cs) ≡ leastOf (pairCaps n ds)
+  unfolding pairCaps
+  pairCaps-permuted π = leastOf-permuted (pairsOf-permuted (pairCap n) pairCap-symmetric π)
 
   evenSpacing-permuted : {cs ds : List Call} → List·Permᴰ cs ds → evenSpacing n cs ≡ evenSpacing n ds
   unfolding evenSpacing
@@ -45,7 +56,7 @@ module _ (n : Net) where
   capBy : ℕ → List Call → ℕ
   capBy zero cs = 0
   capBy (suc zero) cs = sumOf (periodOf n) cs
-  capBy (suc (suc k)) cs = min (leastOf (halves n cs)) (evenSpacing n cs)
+  capBy (suc (suc k)) cs = min (leastOf (pairCaps n cs)) (evenSpacing n cs)
 
   capBy-is : (cs : List Call) → capOfCalls n cs ≡ capBy (length cs) cs
   unfolding capOfCalls capBy
@@ -57,7 +68,7 @@ module _ (n : Net) where
   unfolding capBy
   capBy-permuted zero π = refl
   capBy-permuted (suc zero) π = sumOf-permuted (periodOf n) π
-  capBy-permuted (suc (suc k)) π = ap₂ min (halves-permuted π) (evenSpacing-permuted π)
+  capBy-permuted (suc (suc k)) π = ap₂ min (pairCaps-permuted π) (evenSpacing-permuted π)
 
   capOfCalls-permuted : {cs ds : List Call} → List·Permᴰ cs ds → capOfCalls n cs ≡ capOfCalls n ds
   capOfCalls-permuted {cs} {ds} π =
@@ -80,16 +91,27 @@ leastFrom-permuted n starts v {cs} {ds} π positive = go (decLt 1 (length cs))
 -- ---- a network with its calls in order
 
 module _ {n : Net} (valid : Valid n) where
-  halfOf-tidied : halfOf (tidied n) ≡ halfOf n
-  unfolding halfOf
-  halfOf-tidied = fun-ext (λ c. fun-ext (λ d. rw (periodOf-tidied n) refl))
+  ownGap-tidied : (c d : Call) → ownGap (tidied n) c d ≡ ownGap n c d
+  ownGap-tidied c d =
+      sym (ownGap-is-fold (tidied n) c d (periodOf (tidied n) c) refl)
+      ∙ ownGap-is-fold n c d (periodOf (tidied n) c) (ap (λ (period : Call → ℕ). period c) (periodOf-tidied n))
+
+  pairCap-tidied : pairCap (tidied n) ≡ pairCap n
+  unfolding pairCap halfOf
+  pairCap-tidied =
+      fun-ext
+      (λ c.
+      fun-ext
+      (λ d.
+      ap₂ (pick (eqb (c .line) (d .line))) (ownGap-tidied c d)
+      (ap (λ (period : Call → ℕ). gcd (period c) (period d) / 2) (periodOf-tidied n))))
 
   capOfCalls-tidied : (cs : List Call) → capOfCalls (tidied n) cs ≡ capOfCalls n cs
-  unfolding capOfCalls halves evenSpacing
+  unfolding capOfCalls pairCaps evenSpacing
   capOfCalls-tidied [] = refl
   capOfCalls-tidied (c ∷ []) = ap (λ (period : Call → ℕ). period c) (periodOf-tidied n)
   capOfCalls-tidied (c ∷ d ∷ cs) =
-      ap₂ min (ap (λ (half : Call → Call → ℕ). leastOf (pairsOf half (c ∷ d ∷ cs))) halfOf-tidied)
+      ap₂ min (ap (λ (pair : Call → Call → ℕ). leastOf (pairsOf pair (c ∷ d ∷ cs))) pairCap-tidied)
       (ap₂ (λ (period : Call → ℕ) (common : ℕ). common / sumOf (λ (c : Call). common / period c) (c ∷ d ∷ cs)) (periodOf-tidied n) (cycle-tidied n))
 
   cap-tidied : (stop : ℕ) → cap (tidied n) stop ≡ cap n stop

@@ -33,7 +33,7 @@ module _ (s : tie.Start Inv-loop μ-loop) where
   second-low : s .args .second ≤ maxStop
   second-low = omega (arith, s .pre .3)
 
-  few : getD (s .args .counts .now) (s .args .first) 0 ≤ 16
+  few : getD (s .args .counts .now) (s .args .first) 0 ≤ 32
   few = counts-few _ (s .args .counts .now) _ (s .args .first) (s .args .second) (s .pre .0) (s .pre .1) first-low second-low
 
 -- Behind the first test the stops have as many calls

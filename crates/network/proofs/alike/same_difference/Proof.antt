@@ -12,7 +12,7 @@ use Rattle.network.proofs.alike.same_difference.Statement.{statement}
 use Rattle.network.proofs.alike.same_difference.Tie as tie
 
 -- The places are within the stops' runs
-low : (s : tie.Start) → (s .args .first < 64) × (s .args .second < 64) × (s .args .place < 16) × (s .args .before < 16)
+low : (s : tie.Start) → (s .args .first < 64) × (s .args .second < 64) × (s .args .place < 32) × (s .args .before < 32)
 low s =
     let (h, l, p, b) = s .pre in
     let few = ordered-le-maxAtStop (h .valid) (s .args .first) in

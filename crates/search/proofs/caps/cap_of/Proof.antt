@@ -1,4 +1,4 @@
--- `search::caps::cap_of` meets its contract: with one call at most the half is the cap, and otherwise the lesser of it and the spacing.
+-- `search::caps::cap_of` meets its contract: with one call at most what its pairs give is the cap, and otherwise the lesser of it and the spacing.
 -- Assumes nothing.
 use Prim.Native.Nat.{_/_, _≤_, min}
 use mathlib.Core.Path.{_≡_, ap, ap₂, _∙_}
@@ -10,7 +10,7 @@ use Rattle.network.specs.Rating.{callsOfStop}
 use Rattle.network.specs.Engine.Stored.{netOf}
 use Rattle.search.specs.declared.caps.Bounds.{Bounds}
 use Rattle.search.specs.Caps.{cap}
-use Rattle.search.specs.Engine.CapScan.{visitsOf, leastHalf, boundsOf}
+use Rattle.search.specs.Engine.CapScan.{visitsOf, leastPairCap, boundsOf}
 use Rattle.search.proofs.Laws.CapScan.{visits-pos, cap-few, cap-many}
 use Rattle.search.proofs.caps.cap_of.Statement.{statement}
 use Rattle.search.proofs.caps.cap_of.Tie as tie
@@ -31,15 +31,15 @@ module _ (a : tie.After-bounds-of) where
   unfolding boundsOf
   visits-are = ap (λ (b : Bounds). b .visits) (a .bounds-of .ensures)
 
-  half-is : a .bounds-of .result .half ≡ leastHalf (netOf (start .args .network)) calls
+  pair-is : a .bounds-of .result .pair ≡ leastPairCap (netOf (start .args .network)) calls
   unfolding boundsOf
-  half-is = ap (λ (b : Bounds). b .half) (a .bounds-of .ensures)
+  pair-is = ap (λ (b : Bounds). b .pair) (a .bounds-of .ensures)
 
   lesser-is :
       2 ≤ a .bounds-of .result .calls
-      → min (a .bounds-of .result .half) (start .args .network .cycle / a .bounds-of .result .visits) ≡ cap (netOf (start .args .network)) (start .args .stop)
+      → min (a .bounds-of .result .pair) (start .args .network .cycle / a .bounds-of .result .visits) ≡ cap (netOf (start .args .network)) (start .args .stop)
   lesser-is h =
-      ap₂ min half-is (ap₂ _/_ (start .pre .0 .cycle-is) visits-are)
+      ap₂ min pair-is (ap₂ _/_ (start .pre .0 .cycle-is) visits-are)
       ∙ cap-many (netOf (start .args .network)) (start .pre .1) (start .args .stop) (omega (arith, calls-are, h))
 
 bounds-of-requires : tie.Need-bounds-of-requires
@@ -48,7 +48,7 @@ bounds-of-requires c κs = c .pre
 returns : tie.Need-returns
 returns c =
     let a = c .before .before in
-    half-is a ∙ cap-few (netOf (start a .args .network)) (start a .pre .1) (start a .args .stop) (omega (arith, calls-are a, c .if1 .taken))
+    pair-is a ∙ cap-few (netOf (start a .args .network)) (start a .pre .1) (start a .args .stop) (omega (arith, calls-are a, c .if1 .taken))
 
 div-spacing : tie.Need-div-spacing
 div-spacing c =

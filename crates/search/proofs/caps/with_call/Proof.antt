@@ -1,4 +1,4 @@
--- `search::caps::with_call` meets its contract: one call more adds its visits, and the halves to the calls before where there are any.
+-- `search::caps::with_call` meets its contract: one call more adds its visits, and its pairs with the calls before where there are any.
 -- Assumes nothing.
 use Prim.Native.Nat.{ℕ, _+_, _/_, _<_, _≤_}
 use mathlib.Core.Path.{_≡_, sym, ap, ap₂, _∙_}
@@ -15,9 +15,9 @@ use Rattle.network.specs.Engine.Stored.{netOf, callsIn}
 use Rattle.network.proofs.Laws.Stored.{held-lines, held-period, held-period-pos}
 use Rattle.network.proofs.Laws.Gaps.{length-callsBefore, periodOf-is}
 use Rattle.search.specs.declared.caps.Bounds.{Bounds}
-use Rattle.search.specs.Caps.{halfOf}
-use Rattle.search.specs.Engine.CapScan.{visitsOf, leastHalf, boundsOf}
-use Rattle.search.proofs.Laws.CapScan.{leastHalf-first, leastHalf-snoc, visitsOf-snoc, visitsOf-le, boundsOf-made}
+use Rattle.search.specs.Caps.{pairCap}
+use Rattle.search.specs.Engine.CapScan.{visitsOf, leastPairCap, boundsOf}
+use Rattle.search.proofs.Laws.CapScan.{leastPairCap-first, leastPairCap-snoc, visitsOf-snoc, visitsOf-le, boundsOf-made}
 use borrow.Author.Needs.{needs}
 use Rattle.search.proofs.caps.with_call.Statement.{statement}
 use Rattle.search.proofs.caps.with_call.Tie as tie
@@ -61,19 +61,19 @@ module _ (s : tie.Start) where
   visits-next =
       ap₂ _+_ visits-are (ap₂ _/_ (s .pre .0 .0 .cycle-is) period-is) ∙ sym (visitsOf-snoc (netOf network) calls call)
 
-  half-is : s .args .bounds .half ≡ leastHalf (netOf network) calls
+  pair-is : s .args .bounds .pair ≡ leastPairCap (netOf network) calls
   unfolding boundsOf
-  half-is = ap (λ (b : Bounds). b .half) (s .pre .1 .1)
+  pair-is = ap (λ (b : Bounds). b .pair) (s .pre .1 .1)
 
-  half-next :
-      (half : ℕ)
+  pair-next :
+      (pair : ℕ)
       → (s .args .bounds .calls ≡ 0 → ⊥)
-      → half ≡ leastFrom (s .args .bounds .half) (map (λ d. halfOf (netOf network) d call) calls)
-      → half ≡ leastHalf (netOf network) (calls ++ (call ∷ []))
-  half-next half f e =
+      → pair ≡ leastFrom (s .args .bounds .pair) (map (λ d. pairCap (netOf network) d call) calls)
+      → pair ≡ leastPairCap (netOf network) (calls ++ (call ∷ []))
+  pair-next pair f e =
       e
-      ∙ ap (λ (v : ℕ). leastFrom v (map (λ d. halfOf (netOf network) d call) calls)) half-is
-      ∙ sym (leastHalf-snoc (netOf network) calls call (omega (arith, pos-of-ne-zero f, calls-are)))
+      ∙ ap (λ (v : ℕ). leastFrom v (map (λ d. pairCap (netOf network) d call) calls)) pair-is
+      ∙ sym (leastPairCap-snoc (netOf network) calls call (omega (arith, pos-of-ne-zero f, calls-are)))
 
 cast-line : tie.Need-cast-line
 cast-line c = search needs
@@ -99,19 +99,19 @@ returns c =
     let s = c .before .before .before .before .before in
     let none : length (calls s) ≡ 0 = sym (calls-are s) ∙ c .if1 .taken in
     boundsOf-made (netOf (network s)) _ _ _ (calls s ++ (call s ∷ [])) (omega (arith, none, length-append (calls s) (call s ∷ []))) (visits-next s)
-    (period-is s ∙ sym (leastHalf-first (netOf (network s)) (calls s) (call s) none))
+    (period-is s ∙ sym (leastPairCap-first (netOf (network s)) (calls s) (call s) none))
 
 add-t13 : tie.Need-add-t13
 add-t13 c = let s = c .before .before .before .before .before .before in omega (arith, calls-are s, calls-few s)
 
-least-half-requires : tie.Need-least-half-requires
-least-half-requires c κs = search needs
+least-pair-cap-requires : tie.Need-least-pair-cap-requires
+least-pair-cap-requires c κs = search needs
 
 returns-2 : tie.Need-returns-2
 returns-2 c =
     let s = c .before .before .before .before .before .before .before in
     boundsOf-made (netOf (network s)) _ _ _ (calls s ++ (call s ∷ [])) (omega (arith, calls-are s, length-append (calls s) (call s ∷ []))) (visits-next s)
-    (half-next s _ (c .before .before .if1 .left) (c .least-half .ensures))
+    (pair-next s _ (c .before .before .if1 .left) (c .least-pair-cap .ensures))
 
 pub with-call-spec : {M : Type 1} → statement M
 with-call-spec =
@@ -125,5 +125,5 @@ with-call-spec =
     add-visits
     returns
     add-t13
-    least-half-requires
+    least-pair-cap-requires
     returns-2)

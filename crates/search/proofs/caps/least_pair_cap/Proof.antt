@@ -1,31 +1,34 @@
--- `search::caps::least_half` meets its contract. The loop's invariant: `lesser` is the least of `least` and the halves over the calls passed.
+-- `search::caps::least_pair_cap` meets its contract. The loop's invariant: `lesser` is the least of `least` and what the pairs with the calls passed give.
 -- Assumes nothing.
 use Prim.Native.Nat.{ℕ, _+_, _-_, _/_, _<_, _≤_, min}
-use mathlib.Core.Path.{_≡_, sym, ap, ap₂, subst, _∙_}
+use mathlib.Core.Path.{_≡_, refl, sym, ap, ap₂, subst, _∙_}
 use mathlib.Core.List.{List, map}
 use mathlib.Core.Logic.{⊎-elim}
 use native.Mathlib.Nat.{le-antisymm}
 use native.Mathlib.Omega.{arith}
 use borrow.Author.Needs.{needs}
+use lib.Dec.{eqb}
+use lib.IntN.{pos, _-ℤ_}
 use lib.ListN.{length, getD}
 use Rattle.network.specs.declared.Call.{Call}
 use Rattle.network.specs.declared.Network.{Network}
 use Rattle.network.specs.Divisor as divisor
-use Rattle.network.specs.Lists.{leastFrom}
+use Rattle.network.specs.Gap as gaps
+use Rattle.network.specs.Lists.{pick, leastFrom}
 use Rattle.network.specs.Engine.Scan.{callsBefore}
 use Rattle.network.specs.Engine.Stored.{netOf, callsIn}
 use Rattle.network.specs.Valid.{noCall}
 use Rattle.network.proofs.Laws.Packed.{call-in-row}
 use Rattle.network.proofs.Laws.Stored.{length-held, held-lines, held-period, held-call-line}
-use Rattle.network.proofs.Laws.Gaps.{periodOf-is}
-use Rattle.search.specs.Caps.{halfOf}
+use Rattle.network.proofs.Laws.Gaps.{periodOf-is, ownGap-is-fold}
+use Rattle.search.specs.Caps.{halfOf, pairCap}
 use Rattle.search.proofs.Laws.CapScan.{least-none, least-hit, least-miss}
-use Rattle.search.proofs.caps.least_half.Statement.{statement}
-use Rattle.search.proofs.caps.least_half.Tie as tie
+use Rattle.search.proofs.caps.least_pair_cap.Statement.{statement}
+use Rattle.search.proofs.caps.least_pair_cap.Tie as tie
 
--- The least of a number and the halves of g of a call with those at its stop among the first `i`
+-- The least of a number and what the pairs of a call with those at its stop among the first `i` give
 abbrev leastTo : Network → Call → ℕ → ℕ → ℕ
-leastTo network call least i = leastFrom least (map (λ d. halfOf (netOf network) d call) (callsBefore (call .stop) (callsIn (network .list)) i))
+leastTo network call least i = leastFrom least (map (λ d. pairCap (netOf network) d call) (callsBefore (call .stop) (callsIn (network .list)) i))
 
 abbrev Inv-loop : tie.InvT-loop
 Inv-loop call at least network line period lesser₀ i₀ lesser i = (i ≤ at) × (lesser ≡ leastTo network call least i)
@@ -77,37 +80,45 @@ module _ (u : tie.After-unpacked Inv-loop μ-loop) where
   other-period =
       rw (held-period network (other .line) other-line) at (start .pre .0 .1 .period (other .line) (omega (arith, other-line, held-lines network (start .pre .0 .0))))
 
+  other-period-pos : 0 < getD (network .periods) (other .line) 0
+  other-period-pos =
+      rw (held-period network (other .line) other-line) at (start .pre .0 .1 .period-pos (other .line) (omega (arith, other-line, held-lines network (start .pre .0 .0))))
+
   own-line : call .line < network .lines
   own-line = omega (arith, start .pre .1 .0, held-lines network (start .pre .0 .0))
 
-  -- the half that the code computes
-  abbrev half : ℕ
-  half = divisor.gcd (getD (network .periods) (other .line) 0) (getD (network .periods) (call .line) 0) / 2
+  -- what the code takes of the pair
+  given : ℕ → ℕ → ℕ
+  given a b =
+      pick (eqb (other .line) (call .line)) (gaps.fold a (gaps.residue (pos (other .offset) -ℤ pos (call .offset)) a)) (divisor.gcd a b / 2)
 
-  half-is : half ≡ halfOf (netOf network) other call
-  unfolding halfOf
-  half-is =
-      sym
-      (ap₂ (λ (a b : ℕ). divisor.gcd a b / 2)
-      (periodOf-is (netOf network) other ∙ held-period network (other .line) other-line)
-      (periodOf-is (netOf network) call ∙ held-period network (call .line) own-line))
+  abbrev taken : ℕ
+  taken = given (getD (network .periods) (other .line) 0) (getD (network .periods) (call .line) 0)
+
+  taken-is : taken ≡ pairCap (netOf network) other call
+  unfolding given pairCap halfOf
+  taken-is =
+      let own = periodOf-is (netOf network) other ∙ held-period network (other .line) other-line in
+      let own2 = periodOf-is (netOf network) call ∙ held-period network (call .line) own-line in
+      ap₂ given (sym own) (sym own2)
+      ∙ ap (λ (v : ℕ). pick (eqb (other .line) (call .line)) v (halfOf (netOf network) other call)) (ownGap-is-fold (netOf network) other call _ refl)
 
   abbrev next : ℕ
   next = leastTo network call (start .args .least) (i + 1)
 
-  at-stop : (lesser : ℕ) → other .stop ≡ call .stop → lesser ≡ min (turn .before .loop .lesser) half → lesser ≡ next
+  at-stop : (lesser : ℕ) → other .stop ≡ call .stop → lesser ≡ min (turn .before .loop .lesser) taken → lesser ≡ next
   at-stop lesser e f =
       f
-      ∙ ap₂ min (turn .before .loop .inv .1) (half-is ∙ ap (λ (k : Call). halfOf (netOf network) k call) other-is)
+      ∙ ap₂ min (turn .before .loop .inv .1) (taken-is ∙ ap (λ (k : Call). pairCap (netOf network) k call) other-is)
       ∙ sym
-      (least-hit (λ d. halfOf (netOf network) d call) (start .args .least) (call .stop) held i stated (ap (λ (k : Call). k .stop) (sym other-is) ∙ e))
+      (least-hit (λ d. pairCap (netOf network) d call) (start .args .least) (call .stop) held i stated (ap (λ (k : Call). k .stop) (sym other-is) ∙ e))
 
   elsewhere : (lesser : ℕ) → (other .stop ≡ call .stop → ⊥) → lesser ≡ turn .before .loop .lesser → lesser ≡ next
   elsewhere lesser g f =
       f
       ∙ turn .before .loop .inv .1
       ∙ sym
-      (least-miss (λ d. halfOf (netOf network) d call) (start .args .least) (call .stop) held i stated (λ e. g (ap (λ (k : Call). k .stop) other-is ∙ e)))
+      (least-miss (λ d. pairCap (netOf network) d call) (start .args .least) (call .stop) held i stated (λ e. g (ap (λ (k : Call). k .stop) other-is ∙ e)))
 
 cast-line : tie.Need-cast-line Inv-loop μ-loop
 cast-line c = search needs
@@ -122,7 +133,7 @@ cast-period : tie.Need-cast-period Inv-loop μ-loop
 cast-period c = search needs
 
 loop-holds : tie.Need-loop-holds Inv-loop μ-loop
-loop-holds c = (omega arith, sym (least-none (λ d. halfOf (netOf (c .before .before .args .t1)) d (c .before .before .args .call)) _ _ _))
+loop-holds c = (omega arith, sym (least-none (λ d. pairCap (netOf (c .before .before .args .t1)) d (c .before .before .args .call)) _ _ _))
 
 mul-unpacked : tie.Need-mul-unpacked Inv-loop μ-loop
 mul-unpacked c = omega (arith, small c)
@@ -136,17 +147,17 @@ unpacked-requires c κs = tt
 cast-other-line : tie.Need-cast-other-line Inv-loop μ-loop
 cast-other-line c = omega (arith, other-small (c .before .before .before .before))
 
-mul-gcd : tie.Need-mul-gcd Inv-loop μ-loop
-mul-gcd c = omega (arith, other-small (c .before .before .before .before))
+mul-pair-cap : tie.Need-mul-pair-cap Inv-loop μ-loop
+mul-pair-cap c = omega (arith, other-small (c .before .before .before .before))
 
-element-copy-out-gcd : tie.Need-element-copy-out-gcd Inv-loop μ-loop
-element-copy-out-gcd c = other-small (c .before .before .before .before)
+element-copy-out-pair-cap : tie.Need-element-copy-out-pair-cap Inv-loop μ-loop
+element-copy-out-pair-cap c = other-small (c .before .before .before .before)
 
-cast-gcd : tie.Need-cast-gcd Inv-loop μ-loop
-cast-gcd c = omega (arith, other-period (c .before .before .before .before .before))
+cast-pair-cap : tie.Need-cast-pair-cap Inv-loop μ-loop
+cast-pair-cap c = omega (arith, other-period (c .before .before .before .before .before))
 
-gcd-requires : tie.Need-gcd-requires Inv-loop μ-loop
-gcd-requires c κs = search needs
+pair-cap-requires : tie.Need-pair-cap-requires Inv-loop μ-loop
+pair-cap-requires c κs = other-period-pos (c .before .before .before .before .before)
 
 add-i : tie.Need-add-i Inv-loop μ-loop
 add-i c = omega (arith, small (turn (c .before .before .before)))
@@ -155,13 +166,14 @@ loop-less : tie.Need-loop-less Inv-loop μ-loop
 loop-less c = omega (arith, turn (c .before .before .before) .loop-test .taken)
 
 loop-again : tie.Need-loop-again Inv-loop μ-loop
+unfolding given
 loop-again c =
     let u = c .before .before .before in (
       omega (arith, turn u .loop-test .taken),
       ⊎-elim
-          (λ w. at-stop u _ (w .0 .taken) (omega (arith, w .5, w .4 .taken, ap (λ (g : ℕ). g / 2) (w .3 .ensures))))
+          (λ w. let got : w .3 .result ≡ taken u = w .3 .ensures in at-stop u _ (w .0 .taken) (omega (arith, w .5, w .4 .taken, got)))
           (⊎-elim
-          (λ w. at-stop u _ (w .0 .taken) (omega (arith, w .5, w .4 .left, ap (λ (g : ℕ). g / 2) (w .3 .ensures))))
+          (λ w. let got : w .3 .result ≡ taken u = w .3 .ensures in at-stop u _ (w .0 .taken) (omega (arith, w .5, w .4 .left, got)))
           (λ w. elsewhere u _ (w .0 .left) (w .1)))
           (c .if1 .came),
     )
@@ -171,8 +183,8 @@ returns c =
     let s = c .before .before .before .before in
     c .before .loop .inv .1 ∙ ap (leastTo (s .args .t1) (s .args .call) (s .args .least)) (le-antisymm (c .before .loop .inv .0) (c .loop-test .left))
 
-pub least-half-spec : {M : Type 1} → statement M
-least-half-spec =
+pub least-pair-cap-spec : {M : Type 1} → statement M
+least-pair-cap-spec =
     tie.close
     (tie.spec
     Inv-loop
@@ -186,10 +198,10 @@ least-half-spec =
     element-copy-out-unpacked
     unpacked-requires
     cast-other-line
-    mul-gcd
-    element-copy-out-gcd
-    cast-gcd
-    gcd-requires
+    mul-pair-cap
+    element-copy-out-pair-cap
+    cast-pair-cap
+    pair-cap-requires
     add-i
     loop-less
     loop-again
