@@ -17,6 +17,7 @@ pub fn all() {
     order();
     rides();
     other_networks();
+    loops();
     twice();
 }
 
@@ -76,6 +77,20 @@ fn other_networks() {
     );
     case(b"period 15, offset 8: 4C000F 4300000008 45", 64);
     case(b"period 15, offset 23: 4C000F 4300000017 45", 64);
+}
+
+// A line's two calls at a stop stand by offset as stated, equal ones both; the ride counts from the call before it in the file.
+fn loops() {
+    case(
+        b"twice, the later first: 4C000A 4300000005 4300000002 45",
+        64,
+    );
+    case(b"twice by a ride: 4C000A 4300000005 4600000002 45", 64);
+    case(b"twice the same: 4C000A 4300000005 4300000005 45", 64);
+    case(
+        b"twice, by remainder the other way: 4C000A 430000000C 4300000005 45",
+        64,
+    );
 }
 
 // The archive form of an archive form is itself.

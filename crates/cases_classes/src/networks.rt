@@ -12,6 +12,7 @@ pub fn all() {
     one_line();
     unserved();
     large();
+    loops();
 }
 
 fn paper() {
@@ -79,4 +80,26 @@ fn large() {
     large_case(b"64 stops of four lines, period 1: 45", 4, 1, 256, 4);
     large_case(b"64 stops of four lines, period 60: 45", 4, 60, 256, 5);
     large_case(b"16 stops of sixteen lines, period 60: 45", 16, 60, 256, 4);
+}
+
+// Loop routes, period 10. Calls are matched in order of offset as stated, whatever the file's order: 2, 5 and 12, 15 both differ by -3, which
+// leaves 7, and 5, 12 by -7, which leaves 3, though its gap is 3 too; in the order of the remainders, 2 and 5, it would be alike. Stop 3 has one
+// call. 0, 3 and 0, 7 have the same gap and are not alike. Two lines: equally many of each, 2 and 1 beside 1 and 2.
+fn loops() {
+    case(
+        b"matched by offset: 4C000A 4300000002 4300000005 430001000F 430001000C 430002000C 4300020005 4300030000 45",
+        5,
+    );
+    case(
+        b"same gap: 4C000A 4300000000 4300000003 4300010000 4300010007 45",
+        3,
+    );
+    case(
+        b"two and one, one and two: 4C000A 4C000A 4300000000 4300000003 4301000003 4300010000 4301010000 4301010003 45",
+        3,
+    );
+    case(
+        b"the other line's pairs: 4C000A 4C000A 4300000000 4300000003 4301000005 430001000D 430001000A 4301010005 4300020000 4300020003 4301020006 45",
+        4,
+    );
 }

@@ -4,6 +4,7 @@
 // the difference of two arrivals reduced to 0..g-1.
 mod cases;
 mod extremes;
+mod loops;
 mod mistakes;
 mod paper;
 mod periods;
@@ -15,4 +16,5 @@ fn main() {
     mistakes::all();
     periods::all();
     refusals::all();
+    loops::all();
 }

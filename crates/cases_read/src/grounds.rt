@@ -84,11 +84,11 @@ fn stop_above_63() {
     case(b"8 ride to stop 64: 4C000F 4300000008 4600400000");
 }
 
-// Ground 9.
+// Ground 9: a line's third call at a stop, whatever the offsets and whichever command states it.
 fn calls_there() {
-    case(b"9 same offset: 4C000F 4300000008 4300000008");
-    case(b"9 another offset: 4C000F 4300000008 4300010009 4300000007");
-    case(b"9 ride to the same stop: 4C000F 4300000008 4600000001");
+    case(b"9 same offset: 4C000F 4300000008 4300000008 4300000008");
+    case(b"9 another offset: 4C000F 4300000008 4300010009 4300000007 4300000006");
+    case(b"9 ride to the same stop: 4C000F 4300000008 4600000001 4600000001");
 }
 
 // Ground 10. None of the 16 lines calls at stop 16.

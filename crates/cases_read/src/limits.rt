@@ -9,6 +9,7 @@ pub fn all() {
     rides();
     line_of_latest_call();
     place_of_latest_call();
+    loops();
 }
 
 // Lines, periods and cycles. 160 and 63 make 10,080, of which 1,440 is a divisor.
@@ -59,4 +60,18 @@ fn place_of_latest_call() {
     case(b"65535, 0, ride 65535: 4C000F 430000FFFF 4300010000 460002FFFF 45");
     case(b"0, 10, 65520, ride 15: 4C000F 4300050000 460002000A 430003FFF0 460001000F 45");
     case(b"0, 10, 65520, ride 16: 4C000F 4300050000 460002000A 430003FFF0 4600010010 45");
+}
+
+// Loop routes: a line calls twice at a stop, by either command, and two calls with equal offsets are two calls.
+fn loops() {
+    case(b"twice at a stop: 4C000A 4300000002 4300000005 45");
+    case(b"twice with equal offsets: 4C000A 4300000002 4300000002 45");
+    case(b"twice by a ride: 4C000F 4300000008 4600000001 45");
+    case(b"twice at two stops in turn: 4C000A 4300000000 4600010001 4600000001 4600010001 45");
+    large_case(
+        b"call 256 the line's second there: 4300000000 45",
+        16,
+        16,
+        255,
+    );
 }

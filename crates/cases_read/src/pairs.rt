@@ -35,7 +35,7 @@ fn lines() {
 fn cut_calls() {
     case(b"call 3 and 7: 4C000F 43010000");
     case(b"call 3 and 8: 4C000F 43004000");
-    case(b"call 3 and 9: 4C000F 4300000008 43000000");
+    case(b"call 3 and 9: 4C000F 4300000008 4300000008 43000000");
     full_case(b"call 3 and 10: 43001000");
 }
 
@@ -44,14 +44,15 @@ fn calls() {
     case(b"call 7 and 8: 4C000F 4301400000");
     full_case(b"call 7 and 10: 4310000000");
     full_case(b"call 8 and 10: 4300400000");
-    full_case(b"call 9 and 10: 4300000000");
+    large_case(b"call 9 and 10: 4300000000 4300000000", 16, 16, 255);
+    full_case(b"call 10, the line's second there: 4300000000");
 }
 
 // 46, its last byte cut off. Behind offset 65,535 a ride whose first byte is FF is too long by any second byte.
 fn cut_rides() {
     case(b"ride 3 and 7: 4C000F 46010000");
     case(b"ride 3 and 8: 4C000F 4300000008 46004000");
-    case(b"ride 3 and 9: 4C000F 4300000008 46000000");
+    case(b"ride 3 and 9: 4C000F 4300000008 4300000008 46000000");
     full_case(b"ride 3 and 10: 46001000");
     case(b"ride 3 and 11: 4C000F 46000000");
     case(b"ride 3 and 12: 4C000F 430000FFFF 460001FF");
@@ -63,14 +64,15 @@ fn rides_to_a_wrong_place() {
     case(b"ride 7 and 11: 4C000F 4601000000");
     case(b"ride 8 and 11: 4C000F 4600400000");
     case(b"ride 8 and 12: 4C000F 430000FFFF 4600400001");
-    case(b"ride 9 and 12: 4C000F 430000FFFF 4600000001");
+    case(b"ride 9 and 12: 4C000F 4300000000 430000FFFF 4600000001");
 }
 
 // Line 15 has no call where 15 lines make the 256; else each line's latest call is at offset 1.
 fn rides_too_many() {
     full_case(b"ride 7 and 10: 4610000000");
     full_case(b"ride 8 and 10: 4600400000");
-    full_case(b"ride 9 and 10: 4600000000");
+    large_case(b"ride 9 and 10: 4600000000 4600000000", 16, 16, 255);
+    full_case(b"ride 10, the line's second there: 4600000000");
     large_case(b"ride 10 and 11: 460F000000", 16, 15, 256);
     full_case(b"ride 10 and 12: 460010FFFF");
 }
