@@ -7,11 +7,12 @@ use mathlib.Core.Bool.{Bool, true, false}
 use mathlib.Core.List.{List, [], _∷_}
 use mathlib.Core.Logic.{_⊎_, inl, inr}
 use native.Mathlib.Omega.{arith}
-use borrow.Author.Tests.{eq-eqb, ne-eqb}
+use borrow.Author.Tests.{eqb-true, eqb-false, eq-eqb, ne-eqb}
 use borrow.Fn.World.{ArgsD, ResD}
 use borrow.Fn.Kinds.{endedOf}
 use contract.Lifetimes.{Lfts}
 use denote.Triple.Clauses.{AtExit}
+use lib.Dec.{eqb}
 use lib.IntN.{ℤ}
 use lib.ListN.{length, getD}
 use Rattle.network.specs.declared.Rating.{Rating}
@@ -34,10 +35,10 @@ use Rattle.network.proofs.Laws.Refusals.{classes-as-found, weights-as-found, cl
 use Rattle.network.proofs.Laws.Weighted.{weighted-is-rate}
 use Rattle.search.specs.Search.{SearchOutcome, finished, stopped, stoppedWithNone, searchOutcome}
 use Rattle.search.specs.Search as search
-use Rattle.search.proofs.Demands.{Searches, demandedBound, Demand3, Answers, demand-1, demand-3, answers}
+use Rattle.search.proofs.Demands.{Searches, demandedBound, Demand3, WalkedStarts, Answers, demand-1, demand-3, answers}
 use Rattle.examination.specs.Bytes.{starts, bytesFit, byBytes, betterBytes, BytesUnfit}
 use Rattle.examination.specs.Exports.{placeLimit, TellsRefusal, status, rowAfter, archiveStatus, searchStatus, searchRow, betterStatus, oneIf, markStatus, markRow}
-use Rattle.examination.specs.Sheets.{Better, first, second, fits, betterBy, betterOf, MarkOutcome, decided, undecided, markOutcome}
+use Rattle.examination.specs.Sheets.{Better, first, second, neither, fits, betterBy, betterOf, MarkOutcome, decided, undecided, markOutcome}
 use Rattle.examination.specs.Sheets as sheets
 use Rattle.examination.proofs.BetterSheet.{Chosen, first-not-below, second-above, both-fit}
 use Rattle.examination.proofs.Codes.{export-demand-1, status-tells, status-code, archive-status-tells, archive-status-code, search-status-tells, search-status-code, mark-status-tells, mark-status-code}
@@ -45,6 +46,9 @@ use Rattle.examination.proofs.Laws.Bytes.{rated-on-bytes}
 use Rattle.examination.proofs.Laws.Refusals.{refuses-range, sheet-bytes-refuse, sheet-bytes-refuse-only, mark-bytes-refuse, mark-bytes-refuse-only, mark-refuses-only}
 use Rattle.examination.proofs.Mark.{MarkMeans, mark-means}
 use Rattle.examination.proofs.SheetBytes.{All32, bytesOf, starts-of-bytes, length-bytesOf}
+use Rattle.examination.proofs.better.better as part
+use Rattle.examination.proofs.better.better.Kinds as part-kinds
+use Rattle.examination.proofs.better.better.Reads as part-contract
 use Rattle.examination.proofs.exports.examination_read as read
 use Rattle.examination.proofs.exports.examination_read.Kinds as read-kinds
 use Rattle.examination.proofs.exports.examination_read.Reads as read-contract
@@ -181,6 +185,18 @@ module _ (κs : Lfts 3) (a : ArgsD weighted.signature κs) (r : ResD weighted.si
   unfolding weightedOutcome
   weighted-export-demand-1 = sheet-demand-1 weightedRating (a .0 .now) (kept .1 .1) (a .1 .0 .now) (a .1 .1 .0 .now) (kept .0) (kept .1 .0)
 
+  -- The same rating as rate's, over all trips of the sheet whose bytes are lent
+  pub weighted-export-demand-2 : {n : Net} → readFile (a .0 .now) ≡ accepted n → (sheet : List ℤ) → All32 sheet → length sheet ≡ length (n .periods)
+      → a .1 .0 .now ≡ bytesOf sheet → (r ≡ 0) × RatedAs n sheet (values (s .1 .1 .0 .now))
+  unfolding weightedOutcome rateOutcome
+  weighted-export-demand-2 {n} reads sheet in32 fit lent =
+      let told = ap (byBytes (ratedOnSheet weightedRating) refusal (readFile (a .0 .now))) lent
+      ∙ on-its-bytes (ratedOnSheet weightedRating) refusal (readFile (a .0 .now)) reads sheet in32 fit
+      ∙ weighted-is-rate (a .0 .now) (kept .1 .1) sheet
+      ∙ sheet-answers rating (a .0 .now) sheet reads fit in
+      let q = answered (a .1 .1 .0 .now) (kept .0) (kept .1 .0) told in
+      (q .0, rw (q .1 ∙ told) (rated-as (accepted-valid (a .0 .now) n (kept .1 .1) reads) sheet))
+
   -- Demand 3, (6): on every file and every sheet's bytes both exports return the same, and leave the same in rows that were the same
   pub weighted-export-as-rate : (κs′ : Lfts 3) (a′ : ArgsD rate.signature κs′) (r′ : ResD rate.signature κs′)
       (s′ : AtExit (endedOf 3 rate-kinds.ps rate-kinds.r) κs′) → rate-contract.Post κs′ a′ r′ s′
@@ -268,8 +284,11 @@ pub record HallSearch (n : Net) (row : List ℤ) (budget returned : ℕ) (answer
   pub stopped-has-its-rating : returned ≡ 1 → (length exit ≡ length (n .periods)) × IsRating n exit (getD answer 0 0) (getD answer 1 0)
   pub none-leaves-the-row : returned ≡ 2 → exit ≡ row
   pub stopped-at-budget : (returned ≡ 1) ⊎ (returned ≡ 2) → getD answer 2 0 ≡ budget
-  -- the rating's numbers
+  -- the starts it wrote: line 0's is 0, each is 0 up to its line's period less 1
+  pub starts-in-range : (returned ≡ 0) ⊎ (returned ≡ 1) → WalkedStarts n exit
+  -- the rating's numbers; without a best they are 0
   pub ranges : (getD answer 0 0 ≤ maxPeriod) × (getD answer 1 0 ≤ 92160)
+  pub none-has-zeros : returned ≡ 2 → (getD answer 0 0 ≡ 0) × (getD answer 1 0 ≡ 0)
 
 module _ {n : Net} {row : List ℤ} {budget : ℕ} {exit : List ℤ} (fit : length row ≡ length (n .periods)) where
   hall-search : (o : SearchOutcome) (before : List ℕ) → ((number place : ℕ) → o ≡ search.refusal number place → ⊥)
@@ -285,7 +304,9 @@ module _ {n : Net} {row : List ℤ} {budget : ℕ} {exit : List ℤ} (fit : leng
         stopped-has-its-rating = λ e. absurd (omega (arith, e));
         none-leaves-the-row = λ e. absurd (omega (arith, e));
         stopped-at-budget = λ e. absurd (neither-of e);
+        starts-in-range = λ e. b .finished-starts refl;
         ranges = b .finished-range refl;
+        none-has-zeros = λ e. absurd (omega (arith, e));
       }
     where
       neither-of : (_≡_ {A = ℕ} 0 1) ⊎ (_≡_ {A = ℕ} 0 2) → ⊥
@@ -301,7 +322,9 @@ module _ {n : Net} {row : List ℤ} {budget : ℕ} {exit : List ℤ} (fit : leng
         stopped-has-its-rating = λ e. b .stopped-has-its-rating refl;
         none-leaves-the-row = λ e. absurd (omega (arith, e));
         stopped-at-budget = λ e. b .stopped-at-budget refl;
+        starts-in-range = λ e. b .stopped-starts refl;
         ranges = b .stopped-range refl;
+        none-has-zeros = λ e. absurd (omega (arith, e));
       }
   hall-search (stoppedWithNone t) before answers d b =
       record {
@@ -313,8 +336,14 @@ module _ {n : Net} {row : List ℤ} {budget : ℕ} {exit : List ℤ} (fit : leng
         stopped-has-its-rating = λ e. absurd (omega (arith, e));
         none-leaves-the-row = λ e. b .none-at-budget refl .1;
         stopped-at-budget = λ e. b .none-at-budget refl .0;
+        starts-in-range = λ e. absurd (neither-of e);
         ranges = (omega arith, omega arith);
+        none-has-zeros = λ e. (refl, refl);
       }
+    where
+      neither-of : (_≡_ {A = ℕ} 2 0) ⊎ (_≡_ {A = ℕ} 2 1) → ⊥
+      neither-of (inl e) = omega (arith, e)
+      neither-of (inr e) = omega (arith, e)
   hall-search (search.refusal number place) before answers d b = absurd (answers number place refl)
 
 -- A start row that fits is no ground
@@ -373,6 +402,9 @@ pub record HallMark (n : Net) (sheet : List ℤ) (budget returned : ℕ) (answer
   pub undecided-at-budget : returned ≡ 1 → getD answer 5 0 ≡ budget
   -- under a budget of at least the bound it is decided
   pub decides : demandedBound n ≤ budget → returned ≡ 0
+  -- the ratings' numbers; undecided, what is not known is 0
+  pub ranges : ((getD answer 0 0 ≤ maxPeriod) × (getD answer 1 0 ≤ 92160)) × ((getD answer 2 0 ≤ maxPeriod) × (getD answer 3 0 ≤ 92160))
+  pub undecided-has-zeros : returned ≡ 1 → (getD answer 2 0 ≡ 0) × (getD answer 3 0 ≡ 0) × (getD answer 4 0 ≡ 0)
 
 module _ {n : Net} {sheet : List ℤ} {budget : ℕ} (fit : length sheet ≡ length (n .periods)) where
   hall-mark : (o : MarkOutcome) (before : List ℕ) → ((number place : ℕ) → o ≡ sheets.refusal number place → ⊥)
@@ -390,6 +422,8 @@ module _ {n : Net} {sheet : List ℤ} {budget : ℕ} (fit : length sheet ≡ len
         tries-at-most = d .decided-tries refl;
         undecided-at-budget = λ e. absurd (omega (arith, e));
         decides = λ h. refl;
+        ranges = d .decided-range refl;
+        undecided-has-zeros = λ e. absurd (omega (arith, e));
       }
   hall-mark (decided l u m v false t) before answers d =
       record {
@@ -403,6 +437,8 @@ module _ {n : Net} {sheet : List ℤ} {budget : ℕ} (fit : length sheet ≡ len
         tries-at-most = d .decided-tries refl;
         undecided-at-budget = λ e. absurd (omega (arith, e));
         decides = λ h. refl;
+        ranges = d .decided-range refl;
+        undecided-has-zeros = λ e. absurd (omega (arith, e));
       }
   hall-mark (undecided l u t) before answers d =
       let q = d .undecided-tries refl in
@@ -417,6 +453,8 @@ module _ {n : Net} {sheet : List ℤ} {budget : ℕ} (fit : length sheet ≡ len
         tries-at-most = (q .0, omega (arith, q .1));
         undecided-at-budget = λ e. q .1;
         decides = λ h. let (a, b, c, x, y, z, e) = d .decides fit h in absurd (zero-ne-one (cc));
+        ranges = (d .undecided-range refl, (omega arith, omega arith));
+        undecided-has-zeros = λ e. (refl, refl, refl);
       }
   hall-mark (sheets.refusal number place) before answers d = absurd (answers number place refl)
 
@@ -450,8 +488,55 @@ module _ (κs : Lfts 3) (a : ArgsD mark.signature κs) (r : ResD mark.signature 
 
 -- ---- Better-of-two, on two sheets' bytes: 1 the first, 2 the second, 0 neither
 
+-- On the bytes of sheets of 32 bits, whether they fit or not, it is better-of-two on the sheets
+better-on-its-bytes : (read : Reading) (one other : List ℤ) → All32 one → All32 other
+    → betterBytes read (bytesOf one) (bytesOf other) ≡ betterOf read one other
+unfolding betterBytes betterOf bytesFit fits
+better-on-its-bytes (refused number place) one other e f = refl
+better-on-its-bytes (accepted n) one other e f =
+    rw (same-fit one, same-fit other, starts-of-bytes one e, starts-of-bytes other f) refl
+  where
+    same-fit : (sheet : List ℤ) → bytesFit n (bytesOf sheet) ≡ fits n sheet
+    same-fit sheet = go (eqb (length sheet) (length (n .periods))) refl
+      where
+        go : (b : Bool) → eqb (length sheet) (length (n .periods)) ≡ b → eqb (length (bytesOf sheet)) (4 * length (n .periods)) ≡ b
+        go true e = eq-eqb (length (bytesOf sheet)) (4 * length (n .periods)) (omega (arith, length-bytesOf sheet, eqb-true (length sheet) (length (n .periods)) e))
+        go false e = ne-eqb (length (bytesOf sheet)) (4 * length (n .periods)) (λ g. eqb-false (length sheet) (length (n .periods)) e (omega (arith, length-bytesOf sheet, g)))
+
 module _ (κs : Lfts 3) (a : ArgsD better.signature κs) (r : ResD better.signature κs) (s : AtExit (endedOf 3 better-kinds.ps better-kinds.r) κs)
     (kept : better-contract.Post κs a r s) where
+  pub better-export-returns : (r ≡ 0) ⊎ ((r ≡ 1) ⊎ (r ≡ 2))
+  unfolding betterStatus
+  better-export-returns = go (betterBytes (readFile (a .0 .now)) (a .1 .0 .now) (a .1 .1 .0 .now)) (kept .0)
+    where
+      go : (b : Better) → r ≡ betterStatus b → (r ≡ 0) ⊎ ((r ≡ 1) ⊎ (r ≡ 2))
+      go first e = inr (inl e)
+      go second e = inr (inr e)
+      go neither e = inl e
+
+  -- The part that better-of-two hands back on these sheets follows from the number: 1, the first row itself; 2, the second row itself; 0, the
+  -- empty part at the first one's beginning
+  pub better-export-names-the-part : (κs′ : Lfts 2) (a′ : ArgsD part.signature κs′) (r′ : ResD part.signature κs′)
+      (s′ : AtExit (endedOf 2 part-kinds.ps part-kinds.r) κs′) → part-contract.Post κs′ a′ r′ s′
+      → a .0 .now ≡ a′ .0 .now → All32 (a′ .1 .0 .now) → All32 (a′ .1 .1 .0 .now)
+      → a .1 .0 .now ≡ bytesOf (a′ .1 .0 .now) → a .1 .1 .0 .now ≡ bytesOf (a′ .1 .1 .0 .now)
+      → ((r ≡ 1) × (r′ ≡ a′ .1 .0)) ⊎ (((r ≡ 2) × (r′ ≡ a′ .1 .1 .0)) ⊎ ((r ≡ 0) × (r′ .ptr ≡ a′ .1 .0 .ptr) × (r′ .now ≡ [])))
+  unfolding betterStatus
+  better-export-names-the-part κs′ a′ r′ s′ kept′ file in32 in32′ lent lent′ =
+      go (betterOf (readFile (a′ .0 .now)) (a′ .1 .0 .now) (a′ .1 .1 .0 .now)) refl
+      (kept .0
+      ∙ ap betterStatus
+      (ap (λ (f : List ℕ). betterBytes (readFile f) (a .1 .0 .now) (a .1 .1 .0 .now)) file
+      ∙ ap₂ (betterBytes (readFile (a′ .0 .now))) lent lent′
+      ∙ better-on-its-bytes (readFile (a′ .0 .now)) (a′ .1 .0 .now) (a′ .1 .1 .0 .now) in32 in32′))
+    where
+      go : (b : Better) → betterOf (readFile (a′ .0 .now)) (a′ .1 .0 .now) (a′ .1 .1 .0 .now) ≡ b
+          → r ≡ betterStatus (betterOf (readFile (a′ .0 .now)) (a′ .1 .0 .now) (a′ .1 .1 .0 .now))
+          → ((r ≡ 1) × (r′ ≡ a′ .1 .0)) ⊎ (((r ≡ 2) × (r′ ≡ a′ .1 .1 .0)) ⊎ ((r ≡ 0) × (r′ .ptr ≡ a′ .1 .0 .ptr) × (r′ .now ≡ [])))
+      go first e f = inl (f ∙ ap betterStatus e, kept′ .0 e)
+      go second e f = inr (inl (f ∙ ap betterStatus e, kept′ .1 .0 e))
+      go neither e f = inr (inr (f ∙ ap betterStatus e, kept′ .1 .1 .0 e .0, kept′ .1 .1 .0 e .1))
+
   -- neither, if the file is refused
   pub better-export-file-refused : {number place : ℕ} → readFile (a .0 .now) ≡ refused number place → r ≡ 0
   unfolding betterStatus betterBytes

@@ -12,12 +12,12 @@ use lib.Dec.{eqb}
 use lib.IntN.{ℤ}
 use lib.ListN.{length}
 use Rattle.network.specs.Lists.{pick}
-use Rattle.network.specs.Network.{Net}
+use Rattle.network.specs.Network.{Net, maxPeriod}
 use Rattle.network.specs.Rating.{IsRating, rating}
 use Rattle.network.specs.Rate.{onSheet}
 use Rattle.network.specs.Reading.{Reading, accepted, readFile}
-use Rattle.network.specs.Valid.{IsBytes}
-use Rattle.network.proofs.Laws.Gaps.{accepted-valid, rating-is-rating}
+use Rattle.network.specs.Valid.{IsBytes, Valid}
+use Rattle.network.proofs.Laws.Gaps.{accepted-valid, rating-is-rating, IsRating-range}
 use Rattle.network.proofs.Laws.Lists.{zero-ne-one}
 use Rattle.search.specs.Search.{SearchOutcome, finished, stopped, stoppedWithNone, triesOf, searchOutcome, startRowAfter}
 use Rattle.search.specs.Search as search
@@ -48,6 +48,10 @@ pub record MarkMeans (n : Net) (sheet : List ℤ) (budget : ℕ) (answer : MarkO
   pub decided-tries : {least sum bestLeast bestSum : ℕ} {equal : Bool} {tries : ℕ} → answer ≡ decided least sum bestLeast bestSum equal tries
       → (tries ≤ demandedBound n) × (tries ≤ budget)
   pub undecided-tries : {least sum tries : ℕ} → answer ≡ undecided least sum tries → (tries ≤ demandedBound n) × (tries ≡ budget)
+  -- the ratings' numbers
+  pub decided-range : {least sum bestLeast bestSum : ℕ} {equal : Bool} {tries : ℕ} → answer ≡ decided least sum bestLeast bestSum equal tries
+      → ((least ≤ maxPeriod) × (sum ≤ 92160)) × ((bestLeast ≤ maxPeriod) × (bestSum ≤ 92160))
+  pub undecided-range : {least sum tries : ℕ} → answer ≡ undecided least sum tries → (least ≤ maxPeriod) × (sum ≤ 92160)
   -- under a budget of at least the bound it is never undecided
   pub decides : length sheet ≡ length (n .periods) → demandedBound n ≤ budget
       → (least : ℕ) × (sum : ℕ) × (bestLeast : ℕ) × (bestSum : ℕ) × (equal : Bool) × (tries : ℕ)
@@ -154,8 +158,11 @@ module _ {file : List ℕ} {sheet : List ℤ} {budget : ℕ} {answer : MarkOutco
   found-is : {o : SearchOutcome} → searchOutcome (accepted n) (length sheet) budget ≡ o → searchOutcome (readFile file) (length sheet) budget ≡ o
   found-is e = ap (λ (read : Reading). searchOutcome read (length sheet) budget) reads ∙ e
 
+  valid : Valid n
+  valid = accepted-valid file n (call .bytes) reads
+
   rated : {least sum : ℕ} {o : SearchOutcome} → SearchTells n sheet budget least sum o → IsRating n sheet least sum
-  rated t = rw (← t .its-least, ← t .its-sum) (rating-is-rating n (accepted-valid file n (call .bytes) reads) sheet)
+  rated t = rw (← t .its-least, ← t .its-sum) (rating-is-rating n valid sheet)
 
   tries-are : {o : SearchOutcome} → searchOutcome (accepted n) (length sheet) budget ≡ o
       → (triesOf o ≤ demandedBound n) × (triesOf o ≤ budget)
@@ -214,5 +221,9 @@ module _ {file : List ℕ} {sheet : List ℤ} {budget : ℕ} {answer : MarkOutco
             below-or-equal least sum bestLeast bestSum (t .1) (of-search .finished-is-best (found-is (t .0 .found)) sheet (t .0 .fit) (rated (t .0)));
         decided-tries = λ e. tries-are (told-of-decided n sheet budget (answer-is e) .0 .found);
         undecided-tries = undecided-at-budget;
+        decided-range = λ e.
+            let t = told-of-decided n sheet budget (answer-is e) .0 in
+            (IsRating-range valid (rated t), its-answers .finished-range (found-is (t .found)));
+        undecided-range = λ e. IsRating-range valid (undecided-is-rated e);
         decides = λ fit enough. decided-of-finished fit (of-search .finishes fit enough);
       }

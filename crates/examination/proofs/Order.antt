@@ -22,6 +22,7 @@ pub use Rattle.examination.proofs.Demands.{better-file-refused, better-
 pub use Rattle.examination.proofs.Demands.{better-both-fit}
 pub use Rattle.examination.proofs.ExportDemands.{better-export-file-refused, better-export-neither-fits, better-export-only-first-fits}
 pub use Rattle.examination.proofs.ExportDemands.{better-export-only-second-fits, better-export-both-fit}
+pub use Rattle.examination.proofs.ExportDemands.{better-export-returns, better-export-names-the-part}
 -- Document 01, "The read call returns the numbers of lines, served stops and calls, and the common cycle"
 pub use Rattle.network.proofs.Demands.{read-answers}
 pub use Rattle.examination.proofs.ExportDemands.{read-export-answers}
@@ -30,7 +31,7 @@ pub use Rattle.examination.proofs.ExportDemands.{read-export-answers}
 -- "The rating of a timetable is the one defined over all trips of all lines, past and future, in source document 000, for every accepted network
 -- and every sheet of whole-number start times"
 pub use Rattle.network.proofs.Demands.{rate-demand-2}
-pub use Rattle.examination.proofs.ExportDemands.{rate-export-demand-2}
+pub use Rattle.examination.proofs.ExportDemands.{rate-export-demand-2, weighted-export-demand-2}
 -- "the search's answer, starts and number of tries are those of the walk in document 01"
 pub use Rattle.search.proofs.Demands.{search-demand-2, search-answers}
 pub use Rattle.search.proofs.Cases.{P1-to-P9}

@@ -4,14 +4,14 @@
 use Prim.Native.Nat.{ℕ, _+_, _≤_, _<_}
 use mathlib.Core.Path.{_≡_, sym, ap, ap₂, _∙_}
 use mathlib.Core.Bool.{Bool, true}
-use mathlib.Core.List.{List}
+use mathlib.Core.List.{List, _∷_}
 use mathlib.Core.Logic.{_⊎_}
 use borrow.Fn.World.{ArgsD, ResD}
 use borrow.Fn.Kinds.{endedOf}
 use contract.Lifetimes.{Lfts}
 use denote.Triple.Clauses.{AtExit}
-use lib.IntN.{ℤ}
-use lib.ListN.{length, drop}
+use lib.IntN.{ℤ, pos}
+use lib.ListN.{length, getD, drop}
 use Rattle.network.specs.Archive.{SameNetwork}
 use Rattle.network.specs.Lists.{pick}
 use Rattle.network.specs.Network.{Net, maxPeriod}
@@ -19,10 +19,11 @@ use Rattle.network.specs.Reading.{Reading, readFile, accepted}
 use Rattle.network.specs.Refusals.{Refuses, Unfit, Demand1}
 use Rattle.network.specs.Valid.{IsBytes, Valid}
 use Rattle.network.specs.Rating.{IsRating, rating}
-use Rattle.network.proofs.Laws.Gaps.{accepted-valid, rating-is-rating, IsRating-unique, least-range, sum-range}
+use Rattle.network.proofs.Laws.Gaps.{accepted-valid, rating-is-rating, IsRating-range}
 use Rattle.search.specs.Search.{SearchOutcome, finished, stopped, stoppedWithNone, refusal, searchAnswer, triesOf, productsFrom}
 use Rattle.search.specs.Search.{searched, outcomeOf, searchOutcome, startRowAfter}
-use Rattle.search.proofs.Laws.Optimal.{searched-some, searched-length, searched-rating, searched-best, searched-stopped, triesBound-products}
+use Rattle.search.proofs.Laws.Optimal.{searched-some, searched-length, searched-first, searched-below, searched-rating, searched-best, searched-stopped}
+use Rattle.search.proofs.Laws.Optimal.{triesBound-products}
 use Rattle.search.proofs.Laws.Outcome.{fit-outcome, fit-row, AnswerTells, told-of-finished, told-of-stopped, told-of-none}
 use Rattle.search.proofs.Laws.Outcome.{outcome-tries-le, outcome-tries-le-budget, outcome-finished}
 use Rattle.search.proofs.Laws.Reordered.{searchOutcome-same, startRowAfter-same}
@@ -63,6 +64,14 @@ pub record Demand3 (n : Net) (row : List ℤ) (budget : ℕ) (answer : SearchOut
   pub finishes : length row ≡ length (n .periods) → demandedBound n ≤ budget
       → (least : ℕ) × (sum : ℕ) × (tries : ℕ) × (answer ≡ finished least sum tries)
 
+-- Starts that the walk tries, one for each line: "Line 0 is tried at 0 only, each other line at 0 up to its period less 1"; a period is at most
+-- 1,440
+pub record WalkedStarts (n : Net) (starts : List ℤ) : Type 0 where
+  pub one-for-each-line : length starts ≡ length (n .periods)
+  pub first-at-0 : (others : List ℤ) × (starts ≡ pos 0 ∷ others)
+  pub below-period : (i : ℕ) → i < length (n .periods)
+      → (x : ℕ) × (getD starts i (pos 0) ≡ pos x) × (x < getD (n .periods) i 0) × (getD (n .periods) i 0 ≤ maxPeriod)
+
 -- What else document 01, "The walk", says of the answers
 pub record Answers (n : Net) (row : List ℤ) (budget : ℕ) (answer : SearchOutcome) (exit : List ℤ) : Type 0 where
   -- it stops only where a try is due and the tries made equal the budget
@@ -72,6 +81,9 @@ pub record Answers (n : Net) (row : List ℤ) (budget : ℕ) (answer : SearchOut
   -- stopped with a best: the starts it wrote have the rating it reports
   pub stopped-has-its-rating : {least sum tries : ℕ} → answer ≡ stopped least sum tries
       → (length exit ≡ length (n .periods)) × IsRating n exit least sum
+  -- a best's starts
+  pub finished-starts : {least sum tries : ℕ} → answer ≡ finished least sum tries → WalkedStarts n exit
+  pub stopped-starts : {least sum tries : ℕ} → answer ≡ stopped least sum tries → WalkedStarts n exit
   -- a best rating's numbers
   pub finished-range : {least sum tries : ℕ} → answer ≡ finished least sum tries → (least ≤ maxPeriod) × (sum ≤ 92160)
   pub stopped-range : {least sum tries : ℕ} → answer ≡ stopped least sum tries → (least ≤ maxPeriod) × (sum ≤ 92160)
@@ -83,10 +95,6 @@ pub record Searches (file : List ℕ) (row : List ℤ) (budget : ℕ) (answer : 
   pub bytes : IsBytes file
   pub answered : answer ≡ searchOutcome (readFile file) (length row) budget
   pub left : exit ≡ startRowAfter (readFile file) budget row
-
-rating-range : {n : Net} {starts : List ℤ} {least sum : ℕ} → Valid n → IsRating n starts least sum → (least ≤ maxPeriod) × (sum ≤ 92160)
-rating-range {starts = starts} valid q =
-    let (l, s) = IsRating-unique valid q in (rw l (least-range valid starts), rw s (sum-range valid starts))
 
 module _ {file : List ℕ} {row : List ℤ} {budget : ℕ} {answer : SearchOutcome} {exit : List ℤ} (call : Searches file row budget answer exit) where
   pub demand-1 : Demand1 (λ number place. answer ≡ refusal number place) (Refuses file 16 (Unfit row)) (exit ≡ row)
@@ -104,27 +112,37 @@ module _ {file : List ℕ} {row : List ℤ} {budget : ℕ} {answer : SearchOutco
     answer-is : {o : SearchOutcome} → answer ≡ o → searchOutcome (accepted n) (length row) budget ≡ o
     answer-is e = sym (ap (λ (k : Reading). searchOutcome k (length row) budget) reads) ∙ sym (call .answered) ∙ e
 
-    -- An answer with a best: its starts are in the row, and have its rating
-    has-its-rating : {least sum tries : ℕ} {ends : Bool} → AnswerTells n (length row) budget least sum tries ends → searched n budget .best .some ≡ true
-        → (length exit ≡ length (n .periods)) × IsRating n exit least sum
-    has-its-rating t some =
-        let written : exit ≡ searched n budget .starts =
-        call .left
-        ∙ ap (λ (k : Reading). startRowAfter k budget row) reads
-        ∙ fit-row n row budget (t .fits)
-        ∙ ap (λ (b : Bool). pick b (searched n budget .starts) row) some in (
-          rw written (searched-length valid budget some),
-          rw (written, ← t .its-least, ← t .its-sum) (searched-rating valid budget some),
-        )
+    -- An answer with a best: its starts are in the row, are such that the walk tries, and have its rating
+    module _ {least sum tries : ℕ} {ends : Bool} (t : AnswerTells n (length row) budget least sum tries ends) (some : searched n budget .best .some ≡ true) where
+      written : exit ≡ searched n budget .starts
+      written =
+          call .left
+          ∙ ap (λ (k : Reading). startRowAfter k budget row) reads
+          ∙ fit-row n row budget (t .fits)
+          ∙ ap (λ (b : Bool). pick b (searched n budget .starts) row) some
 
-    finished-rated : {least sum tries : ℕ} → answer ≡ finished least sum tries
-        → (length exit ≡ length (n .periods)) × IsRating n exit least sum
+      are-walked : WalkedStarts n exit
+      are-walked =
+          record {
+            one-for-each-line = rw written (searched-length valid budget some);
+            first-at-0 = rw written (searched-first valid budget some);
+            below-period = λ i h.
+                let (x, e, l) = searched-below valid budget some i h in
+                (x, ap (λ (starts : List ℤ). getD starts i (pos 0)) written ∙ e, l, valid .period i h);
+          }
+
+      has-its-rating : IsRating n exit least sum
+      has-its-rating = rw (written, ← t .its-least, ← t .its-sum) (searched-rating valid budget some)
+
+    finished-rated : {least sum tries : ℕ} → answer ≡ finished least sum tries → WalkedStarts n exit × IsRating n exit least sum
     finished-rated e =
         let t = told-of-finished n (length row) budget (answer-is e) in
-        has-its-rating t (searched-some valid budget (t .stops))
+        let some = searched-some valid budget (t .stops) in
+        (are-walked t some, has-its-rating t some)
 
-    stopped-rated : {least sum tries : ℕ} → answer ≡ stopped least sum tries → (length exit ≡ length (n .periods)) × IsRating n exit least sum
-    stopped-rated e = let t = told-of-stopped n (length row) budget (answer-is e) in has-its-rating (t .0) (t .1)
+    stopped-rated : {least sum tries : ℕ} → answer ≡ stopped least sum tries → WalkedStarts n exit × IsRating n exit least sum
+    stopped-rated e =
+        let (t, some) = told-of-stopped n (length row) budget (answer-is e) in (are-walked t some, has-its-rating t some)
 
     pub demand-2 : length row ≡ length (n .periods) → Demand2 n row budget answer exit
     demand-2 fits =
@@ -136,7 +154,7 @@ module _ {file : List ℕ} {row : List ℤ} {budget : ℕ} {answer : SearchOutco
     pub demand-3 : Demand3 n row budget answer exit
     demand-3 =
         record {
-          finished-has-its-rating = finished-rated;
+          finished-has-its-rating = λ e. (finished-rated e .0 .one-for-each-line, finished-rated e .1);
           choice-has-a-rating = λ starts f. (rating n starts .least, rating n starts .sum, rating-is-rating n valid starts);
           finished-is-best = λ e starts f q.
               let t = told-of-finished n (length row) budget (answer-is e) in
@@ -162,9 +180,11 @@ module _ {file : List ℕ} {row : List ℤ} {budget : ℕ} {answer : SearchOutco
                     ∙ ap (λ (b : Bool). pick b (searched n budget .starts) row) none,
               );
           tries-within = rw (call .answered, reads) (outcome-tries-le-budget n (length row) budget);
-          stopped-has-its-rating = stopped-rated;
-          finished-range = λ e. rating-range valid (finished-rated e .1);
-          stopped-range = λ e. rating-range valid (stopped-rated e .1);
+          stopped-has-its-rating = λ e. (stopped-rated e .0 .one-for-each-line, stopped-rated e .1);
+          finished-starts = λ e. finished-rated e .0;
+          stopped-starts = λ e. stopped-rated e .0;
+          finished-range = λ e. IsRating-range valid (finished-rated e .1);
+          stopped-range = λ e. IsRating-range valid (stopped-rated e .1);
         }
 
 -- ---- Every search call

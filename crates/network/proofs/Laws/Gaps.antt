@@ -35,4 +35,4 @@ pub use Rattle.network.proofs.Laws.SameNetwork.{counted-tidied}
 pub use Rattle.network.proofs.Laws.Order.{Above, above-of-isAbove, below-of-not-isAbove, isAbove-none, none-is-not-above}
 pub use Rattle.network.proofs.Laws.Order.{above-none, isAbove-irreflexive, not-above-of-above, not-above-transitive, not-above-of-le, isEqual-numbers}
 -- how large the numbers of a rating can be
-pub use Rattle.network.proofs.Laws.Ranges.{sumOf-served-le, least-range, sum-range}
+pub use Rattle.network.proofs.Laws.Ranges.{sumOf-served-le, IsRating-range}

@@ -12,13 +12,13 @@ use Rattle.network.specs.declared.Call.{Call}
 use Rattle.network.specs.Lists.{sumOf}
 use Rattle.network.specs.Network.{Net, maxStop, maxPeriod, stopCount, isServed, callsAnywhere, servedStops}
 use Rattle.network.specs.Valid.{Valid, noCall}
-use Rattle.network.specs.Rating.{servedList, stopGap, rating}
+use Rattle.network.specs.Rating.{servedList, stopGap, IsRating, rating}
 use Rattle.network.specs.Classes.{isLowest, classCount}
 use Rattle.network.proofs.Laws.Members.{member-of-any, place-of-member}
 use Rattle.network.proofs.Laws.Least.{leastOf-map-member}
 use Rattle.network.proofs.Laws.Tables.{countBelow-le, countBelow-length}
 use Rattle.network.proofs.Laws.Sums.{sumOf-le}
-use Rattle.network.proofs.Laws.Rating.{servedList-some, rating-least, rating-sum}
+use Rattle.network.proofs.Laws.Rating.{servedList-some, rating-least, rating-sum, IsRating-unique}
 use Rattle.network.proofs.Laws.Rate.{stopGap-le-maxPeriod}
 use Rattle.network.proofs.Laws.Classes.{classCount-length}
 use Rattle.network.proofs.Laws.Weighted.{lowestStops-some}
@@ -65,3 +65,7 @@ module _ {n : Net} (valid : Valid n) where
     -- 92,160 is 64 times 1,440
     pub sum-range : rating n starts .sum ≤ 92160
     sum-range = omega (arith, rating-sum n starts, sumOf-served-le n (stopGap n starts) maxPeriod (stopGap-le-maxPeriod valid starts))
+
+  -- The same of the rating over all trips
+  pub IsRating-range : {starts : List ℤ} {least sum : ℕ} → IsRating n starts least sum → (least ≤ maxPeriod) × (sum ≤ 92160)
+  IsRating-range {starts} q = let (l, s) = IsRating-unique valid q in (rw l (least-range starts), rw s (sum-range starts))

@@ -6,8 +6,8 @@ use mathlib.Core.Bool.{true, false}
 use mathlib.Core.List.{List, [], _∷_}
 use mathlib.Core.Logic.{_⊎_}
 use native.Mathlib.Omega.{arith}
-use lib.IntN.{ℤ}
-use lib.ListN.{length, drop}
+use lib.IntN.{ℤ, pos}
+use lib.ListN.{length, getD, drop}
 use Rattle.network.specs.declared.Rating.{Rating}
 use Rattle.network.specs.Network.{Net}
 use Rattle.network.specs.Valid.{Valid}
@@ -21,7 +21,8 @@ use Rattle.search.specs.Search.{stopped, productsFrom}
 use Rattle.search.proofs.Laws.Upper.{upper-is-upper, upper-full, upperRating-some}
 use Rattle.search.proofs.Laws.Reduced.{reduced, reduced-length, reduced-chosen, reduced-rating}
 use Rattle.search.proofs.Laws.Tries.{length-startCounts}
-use Rattle.search.proofs.Laws.Walk.{ChosenBelow-length, ChosenBelow-exists, walk-tries-le, walk-tries-le-budget, walk-stopped-at-budget, walk-finishes}
+use Rattle.search.proofs.Laws.Walk.{ChosenBelow, next, ChosenBelow-length, ChosenBelow-at, ChosenBelow-exists}
+use Rattle.search.proofs.Laws.Walk.{walk-tries-le, walk-tries-le-budget, walk-stopped-at-budget, walk-finishes}
 use Rattle.search.proofs.Laws.Best.{best-is-chosen}
 use Rattle.search.proofs.Laws.Rules.{none-above-best, aboveBest-has-best}
 
@@ -32,6 +33,19 @@ unfolding startCounts
 startCounts-pos [] f i h = f i h
 startCounts-pos (t ∷ periods) f zero h = omega arith
 startCounts-pos (t ∷ periods) f (suc i) h = f (suc i) h
+
+startCounts-le : (periods : List ℕ) → All 0 (λ t. 0 < t) periods → (i : ℕ) → i < length periods → getD (startCounts periods) i 0 ≤ getD periods i 0
+unfolding startCounts
+startCounts-le [] f i h = absurd (omega arith)
+startCounts-le (t ∷ periods) f zero h = f 0 h
+startCounts-le (t ∷ periods) f (suc i) h = omega arith
+
+-- Line 0 is tried at 0 only
+chosen-first : (periods : List ℕ) (starts : List ℤ) → 0 < length periods → ChosenBelow (startCounts periods) starts
+    → (others : List ℤ) × (starts ≡ pos 0 ∷ others)
+unfolding startCounts
+chosen-first [] starts h c = absurd (omega arith)
+chosen-first (t ∷ periods) _ h (next {x = x} {starts = others} l c) = (others, ap (λ (k : ℕ). pos k ∷ others) (omega (arith, l)))
 
 -- ---- the walk on a network
 
@@ -57,18 +71,29 @@ searched-tries-le-budget n budget =
 
 -- A best, whether the walk ended or stopped
 module _ {n : Net} (valid : Valid n) (budget : ℕ) (some : searched n budget .best .some ≡ true) where
-  -- is the rating of the starts beside it
+  -- has starts beside it that the walk tries: one for each line, line 0's at 0, each below its line's period
+  searched-chosen : ChosenBelow (startCounts (n .periods)) (searched n budget .starts)
+  unfolding searched
+  searched-chosen =
+      best-is-chosen (upperRating n (cap n)) aboveBest budget (upperRating-some n (cap n)) (startCounts (n .periods)) .chosen some
+
+  pub searched-length : length (searched n budget .starts) ≡ length (n .periods)
+  searched-length = ChosenBelow-length searched-chosen ∙ length-startCounts (n .periods)
+
+  pub searched-first : (others : List ℤ) × (searched n budget .starts ≡ pos 0 ∷ others)
+  searched-first = chosen-first (n .periods) (searched n budget .starts) (valid .some-line) searched-chosen
+
+  pub searched-below : (i : ℕ) → i < length (n .periods) → (x : ℕ) × (getD (searched n budget .starts) i (pos 0) ≡ pos x) × (x < getD (n .periods) i 0)
+  searched-below i h =
+      let (x, e, l) = ChosenBelow-at searched-chosen i (rw length-startCounts h) in
+      (x, e, omega (arith, l, startCounts-le (n .periods) (valid .period-pos) i h))
+
+  -- is their rating
   searched-rated : searched n budget .best ≡ rating n (searched n budget .starts)
   unfolding searched
   searched-rated =
-      let b = best-is-chosen (upperRating n (cap n)) aboveBest budget (upperRating-some n (cap n)) (startCounts (n .periods)) in
-      b .rated some ∙ upper-full valid _ (ChosenBelow-length (b .chosen some) ∙ length-startCounts (n .periods))
-
-  pub searched-length : length (searched n budget .starts) ≡ length (n .periods)
-  unfolding searched
-  searched-length =
-      let b = best-is-chosen (upperRating n (cap n)) aboveBest budget (upperRating-some n (cap n)) (startCounts (n .periods)) in
-      ChosenBelow-length (b .chosen some) ∙ length-startCounts (n .periods)
+      best-is-chosen (upperRating n (cap n)) aboveBest budget (upperRating-some n (cap n)) (startCounts (n .periods)) .rated some
+      ∙ upper-full valid _ searched-length
 
   pub searched-rating : IsRating n (searched n budget .starts) (searched n budget .best .least) (searched n budget .best .sum)
   searched-rating = rw searched-rated (rating-is-rating n valid (searched n budget .starts))

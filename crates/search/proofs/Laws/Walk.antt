@@ -5,12 +5,12 @@ use mathlib.Core.Path.{_≡_, refl, ap, _∙_}
 use mathlib.Core.Bool.{Bool, true, false, _&&_, _||_}
 use mathlib.Core.List.{List, [], _∷_, _++_, append-nil, append-assoc}
 use mathlib.Core.Logic.{_⊎_, inl, inr}
-use native.Mathlib.Nat.{zero-add, add-zero, add-suc, add-assoc, le-refl, zero-lt-suc}
+use native.Mathlib.Nat.{zero-add, add-zero, add-suc, add-assoc, le-refl, le-of-suc-le-suc, zero-lt-suc}
 use native.Mathlib.Omega.{arith}
 use borrow.Author.Tests.{eqb-true, eqb-false}
 use lib.Dec.{eqb}
 use lib.IntN.{ℤ, pos}
-use lib.ListN.{length}
+use lib.ListN.{length, getD}
 use Rattle.network.specs.declared.Rating.{Rating}
 use Rattle.network.proofs.Laws.Lists.{zero-ne-one}
 use Rattle.network.proofs.Laws.Members.{All}
@@ -24,6 +24,12 @@ pub data ChosenBelow : List ℕ → List ℤ → Type 0 where
 pub ChosenBelow-length : {counts : List ℕ} {starts : List ℤ} → ChosenBelow counts starts → length starts ≡ length counts
 ChosenBelow-length none-left = refl
 ChosenBelow-length (next h c) = ap suc (ChosenBelow-length c)
+
+pub ChosenBelow-at : {counts : List ℕ} {starts : List ℤ} → ChosenBelow counts starts → (i : ℕ) → i < length counts
+    → (x : ℕ) × (getD starts i (pos 0) ≡ pos x) × (x < getD counts i 0)
+ChosenBelow-at none-left i h = absurd (omega arith)
+ChosenBelow-at (next {x = x} l c) zero h = (x, refl, l)
+ChosenBelow-at (next l c) (suc i) h = ChosenBelow-at c i (le-of-suc-le-suc h)
 
 -- Where every line has a start, there is a choice
 pub ChosenBelow-exists : (counts : List ℕ) → All 0 (λ count. 0 < count) counts → (starts : List ℤ) × ChosenBelow counts starts

@@ -1,0 +1,185 @@
+/*
+ * The engine's exports for programs in C and C++. docs/ABI.md says it all; the
+ * comments here repeat what a call needs and gives.
+ *
+ *     cc -std=c99 yours.c target/staticlib/libexamination.a
+ *
+ * Of every call: no pointer is null, a pointer with a length is valid for that
+ * many places, a row that is written overlaps nothing else that is lent, and
+ * nothing else writes to what is lent until the call returns. Any content and
+ * any length is answered. Calls keep no pointer and no state, and may run in
+ * several threads at once.
+ */
+#ifndef EXAMINATION_H
+#define EXAMINATION_H
+
+#include <stddef.h>
+#include <stdint.h>
+
+#ifdef __cplusplus
+extern "C" {
+#endif
+
+/* A return value of at least this is a refusal: this times the ground's number
+ * (1 to 18), plus the place (0 to 1,329). Every row is as it was. */
+#define EXAMINATION_REFUSED 65536u
+
+/* Grounds that a call adds to those of the file, which are 1 to 14. */
+#define EXAMINATION_SHEET_UNFIT 15u
+#define EXAMINATION_START_ROW_UNFIT 16u
+#define EXAMINATION_CLASS_ROWS_UNFIT 17u
+#define EXAMINATION_ARCHIVE_ROW_SHORT 18u
+
+/* What examination_search returns where it doesn't refuse. */
+#define EXAMINATION_FINISHED 0u
+#define EXAMINATION_STOPPED 1u
+#define EXAMINATION_STOPPED_WITH_NONE 2u
+
+/* What examination_mark returns where it doesn't refuse. */
+#define EXAMINATION_DECIDED 0u
+#define EXAMINATION_UNDECIDED 1u
+
+/* What examination_better returns. */
+#define EXAMINATION_NEITHER 0u
+#define EXAMINATION_FIRST 1u
+#define EXAMINATION_SECOND 2u
+
+/* Places of the answer rows. */
+#define EXAMINATION_READ_PLACES 4
+#define EXAMINATION_RATE_PLACES 2
+#define EXAMINATION_CLASSES_PLACES 1
+#define EXAMINATION_SEARCH_PLACES 3
+#define EXAMINATION_MARK_PLACES 6
+
+/* Limits: lines of a network, places of the class row and of the weight row, an
+ * unserved stop's entry in the class row, bytes of a start on a sheet, bytes of
+ * the longest archive form; and how many of a file's bytes decide: a longer file is
+ * answered as its first 4,096 bytes are. */
+#define EXAMINATION_MOST_LINES 16
+#define EXAMINATION_STOPS 64
+#define EXAMINATION_UNSERVED 255u
+#define EXAMINATION_START_BYTES 4
+#define EXAMINATION_MOST_ARCHIVE_BYTES 1329
+#define EXAMINATION_DECIDING_BYTES 4096
+
+/* Bytes of stack that are enough for every export. */
+#define EXAMINATION_STACK_BYTES 524288
+
+/* Reads a file.
+ * Returns 0, and puts lines (1 to 16), served stops (1 to 64), calls (1 to 256)
+ * and the common cycle (1 to 10,080) into the answer; or a refusal, grounds 1 to
+ * 14. */
+uint32_t examination_read(const uint8_t *file, size_t file_len,
+                          uint32_t answer[EXAMINATION_READ_PLACES]);
+
+/* Rates a sheet: 4 bytes for each start, two's complement, most significant byte
+ * first, in line order.
+ * Returns 0, and puts the least gap (0 to 1,440) and the sum of the gaps (0 to
+ * 92,160) into the answer; or a refusal, grounds 1 to 15. */
+uint32_t examination_rate(const uint8_t *file, size_t file_len,
+                          const uint8_t *sheet, size_t sheet_len,
+                          uint32_t answer[EXAMINATION_RATE_PLACES]);
+
+/* The weighted rating of a sheet. Returns and answers what examination_rate does,
+ * on every file and sheet. */
+uint32_t examination_weighted(const uint8_t *file, size_t file_len,
+                              const uint8_t *sheet, size_t sheet_len,
+                              uint32_t answer[EXAMINATION_RATE_PLACES]);
+
+/* The classes of stops that always rate alike.
+ * Returns 0, puts the number of classes (1 to 64) into the answer, into the class
+ * row for each stop the lowest stop alike to it, 255 if it is unserved, and into
+ * the weight row at a class's lowest stop its size, 0 elsewhere; or a refusal,
+ * grounds 1 to 14, and 17 where a row hasn't 64 places. */
+uint32_t examination_classes(const uint8_t *file, size_t file_len,
+                             uint8_t *class_row, size_t class_len,
+                             uint16_t *weight_row, size_t weight_len,
+                             uint32_t answer[EXAMINATION_CLASSES_PLACES]);
+
+/* Searches for the best timetable. Only the budget ends a search early.
+ * Returns 0 finished: the best starts in the row, line 0's 0 and each other's 0 up
+ * to its period less 1; in the answer the best least gap, the best sum and the
+ * tries, at most the budget. 1 stopped with a best: the same of the best so far,
+ * the tries being the budget. 2 stopped with none: the row as it was; 0, 0 and the
+ * budget. Or a refusal, grounds 1 to 14, and 16 where the row hasn't one place for
+ * each line. */
+uint32_t examination_search(const uint8_t *file, size_t file_len,
+                            int32_t *start_row, size_t start_len, uint32_t budget,
+                            uint32_t answer[EXAMINATION_SEARCH_PLACES]);
+
+/* The better of two sheets. Never refuses.
+ * Returns 1 the first: it fits, and the second doesn't fit or isn't above it; 2
+ * the second: it fits, and the first doesn't fit or is below it; 0 neither: the
+ * file is refused, or no sheet fits. */
+uint32_t examination_better(const uint8_t *file, size_t file_len,
+                            const uint8_t *first, size_t first_len,
+                            const uint8_t *second, size_t second_len);
+
+/* Marks a sheet: its rating beside the best one. Only the budget ends its search
+ * early.
+ * Returns 0 decided: in the answer the sheet's least gap and sum, the best least
+ * gap and sum, 1 if both ratings are equal and 0 if not, and the tries, at most the
+ * budget. 1 undecided, the search stopped: the sheet's least gap and sum, 0, 0, 0,
+ * and the budget. Or a refusal, grounds 1 to 15. */
+uint32_t examination_mark(const uint8_t *file, size_t file_len,
+                          const uint8_t *sheet, size_t sheet_len, uint32_t budget,
+                          uint32_t answer[EXAMINATION_MARK_PLACES]);
+
+/* Writes the archive form at the row's beginning; what lies behind it stays.
+ * Returns its length, 3 x lines + 5 x calls + 1 (9 to 1,329); or a refusal, grounds
+ * 1 to 14, and 18 where the row is shorter than that length. */
+uint32_t examination_archive(const uint8_t *file, size_t file_len,
+                             uint8_t *row, size_t row_len);
+
+/* ---- Of a return value (not that of examination_better, which never refuses) */
+
+static inline int examination_is_refused(uint32_t returned)
+{
+    return returned >= EXAMINATION_REFUSED;
+}
+
+/* The ground's number, 1 to 18, of a refusal. */
+static inline uint32_t examination_ground(uint32_t returned)
+{
+    return returned / EXAMINATION_REFUSED;
+}
+
+/* The place, 0 to 1,329, of a refusal. */
+static inline uint32_t examination_place(uint32_t returned)
+{
+    return returned % EXAMINATION_REFUSED;
+}
+
+/* ---- Of a sheet */
+
+/* Puts a start into a sheet's 4 bytes for it. */
+static inline void examination_put_start(uint8_t *bytes, int32_t start)
+{
+    const uint32_t word = (uint32_t)start;
+    bytes[0] = (uint8_t)(word >> 24);
+    bytes[1] = (uint8_t)(word >> 16);
+    bytes[2] = (uint8_t)(word >> 8);
+    bytes[3] = (uint8_t)word;
+}
+
+/* The part that better-of-two hands back, by what examination_better returned:
+ * the first sheet itself, the second itself, or the empty part at the first one's
+ * beginning. */
+static inline const uint8_t *examination_part(uint32_t returned,
+                                              const uint8_t *first, size_t first_len,
+                                              const uint8_t *second, size_t second_len,
+                                              size_t *part_len)
+{
+    if (returned == EXAMINATION_SECOND) {
+        *part_len = second_len;
+        return second;
+    }
+    *part_len = returned == EXAMINATION_FIRST ? first_len : 0;
+    return first;
+}
+
+#ifdef __cplusplus
+}
+#endif
+
+#endif

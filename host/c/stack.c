@@ -1,0 +1,150 @@
+/*
+ * Measures the stack that each export takes: a call runs on a stack of its own that
+ * was painted before, and the lowest byte that has changed tells. Prints a line for
+ * each export, its name and the bytes.
+ *
+ * The network is the one at which the search nests deepest: 16 lines of period 1,440,
+ * 256 calls, and offsets by which every line but the first has its best start at 44,
+ * to which the halving of 1,440 starts takes a step more than to most.
+ */
+#define _XOPEN_SOURCE 600
+#include <stdio.h>
+#include <string.h>
+#include <ucontext.h>
+
+#include "examination.h"
+
+#define STACK (2 * EXAMINATION_STACK_BYTES)
+#define PAINT 0xA5
+/* Enough tries for the walk to come to the best timetable. */
+#define BUDGET 2000000u
+
+static unsigned char stack[STACK];
+static ucontext_t here;
+static ucontext_t there;
+
+static uint8_t file[EXAMINATION_MOST_ARCHIVE_BYTES];
+static size_t count;
+static uint8_t sheet[EXAMINATION_MOST_LINES * EXAMINATION_START_BYTES];
+static uint32_t answer[EXAMINATION_MARK_PLACES];
+static uint32_t returned;
+
+static void put(unsigned byte)
+{
+    file[count++] = (uint8_t)byte;
+}
+
+static void put_word(unsigned word)
+{
+    put(word >> 8);
+    put(word & 255);
+}
+
+static void make(void)
+{
+    for (unsigned line = 0; line < 16; line++) {
+        put(0x4C);
+        put_word(1440);
+    }
+    for (unsigned line = 0; line < 16; line++) {
+        for (unsigned stop = 0; stop < 16; stop++) {
+            put(0x43);
+            put(line);
+            put(stop);
+            put_word(line == 0 ? 0 : 90 * line - 44);
+        }
+    }
+    put(0x45);
+}
+
+static void call_nothing(void)
+{
+}
+
+static void call_read(void)
+{
+    returned = examination_read(file, count, answer);
+}
+
+static void call_rate(void)
+{
+    returned = examination_rate(file, count, sheet, sizeof sheet, answer);
+}
+
+static void call_weighted(void)
+{
+    returned = examination_weighted(file, count, sheet, sizeof sheet, answer);
+}
+
+static void call_classes(void)
+{
+    static uint8_t classes[EXAMINATION_STOPS];
+    static uint16_t weights[EXAMINATION_STOPS];
+    returned = examination_classes(file, count, classes, EXAMINATION_STOPS, weights,
+                                   EXAMINATION_STOPS, answer);
+}
+
+static void call_search(void)
+{
+    static int32_t starts[EXAMINATION_MOST_LINES];
+    returned =
+        examination_search(file, count, starts, EXAMINATION_MOST_LINES, BUDGET, answer);
+}
+
+static void call_better(void)
+{
+    returned = examination_better(file, count, sheet, sizeof sheet, sheet, sizeof sheet) - 1;
+}
+
+static void call_mark(void)
+{
+    returned = examination_mark(file, count, sheet, sizeof sheet, BUDGET, answer);
+}
+
+static void call_archive(void)
+{
+    static uint8_t row[EXAMINATION_MOST_ARCHIVE_BYTES];
+    returned = examination_archive(file, count, row, sizeof row) - (uint32_t)count;
+}
+
+/* The bytes of the stack that a call changes. */
+static size_t taken(void (*call)(void))
+{
+    memset(stack, PAINT, sizeof stack);
+    getcontext(&there);
+    there.uc_stack.ss_sp = stack;
+    there.uc_stack.ss_size = sizeof stack;
+    there.uc_link = &here;
+    makecontext(&there, call, 0);
+    swapcontext(&here, &there);
+    size_t untouched = 0;
+    while (untouched < sizeof stack && stack[untouched] == PAINT) {
+        untouched++;
+    }
+    return sizeof stack - untouched;
+}
+
+int main(void)
+{
+    static const struct {
+        const char *name;
+        void (*call)(void);
+    } exports[] = {
+        {"examination_mark", call_mark},         {"examination_search", call_search},
+        {"examination_weighted", call_weighted}, {"examination_classes", call_classes},
+        {"examination_archive", call_archive},   {"examination_read", call_read},
+        {"examination_better", call_better},     {"examination_rate", call_rate},
+    };
+    make();
+    const size_t nothing = taken(call_nothing);
+    for (size_t i = 0; i < sizeof exports / sizeof exports[0]; i++) {
+        returned = 0;
+        const size_t bytes = taken(exports[i].call) - nothing;
+        if (returned != 0) {
+            fprintf(stderr, "stack: %s did not answer in full\n", exports[i].name);
+            return 1;
+        }
+        printf("%s %zu\n", exports[i].name, bytes);
+    }
+    return 0;
+}
