@@ -10,6 +10,14 @@ use std::sync::atomic::{AtomicUsize, Ordering};
 /// The repository.
 pub const ROOT: &str = concat!(env!("CARGO_MANIFEST_DIR"), "/../..");
 
+pub const NET: &str = "samples/two_lines.net";
+pub const HEX: &str = "samples/two_lines.hex";
+pub const BEST_LINE: &str = "gap 2 sum 2 tries 21 starts 0 3\n";
+
+/// P9 of document 01.
+pub const P9: &str =
+    "4C0014 4C001E 4300000000 4301000000 4300010007 4301010011 4300020005 4301020008 45";
+
 /// What a run of `exam` left.
 #[derive(Debug)]
 pub struct Ran {
@@ -70,6 +78,19 @@ pub fn ended(child: Child) -> Ran {
         out: String::from_utf8_lossy(&output.stdout).into_owned(),
         err,
     }
+}
+
+/// What a run wrote, bytes as they are.
+pub fn written(words: &[&str]) -> Vec<u8> {
+    let output = command(words).output().expect("exam runs");
+    assert_eq!((output.status.code(), output.stderr), (Some(0), vec![]));
+    output.stdout
+}
+
+/// Bytes as an author types them, a command to a line where it is easy.
+pub fn typed(bytes: &[u8]) -> String {
+    let pairs: Vec<String> = bytes.iter().map(|byte| format!("{byte:02x}")).collect();
+    pairs.join(" ") + "\n"
 }
 
 /// A folder that is removed with all its files in the end.
