@@ -1,5 +1,18 @@
 //! A network as authors type it: hexadecimal pairs with blanks, line ends and
 //! comments from `#` to the end of the line.
+//!
+//! ```
+//! use engine::typed;
+//!
+//! let network = typed::read(b"4C 000F        # line 0: every 15 minutes
+//! 43 00 40 0008  # a stop that there isn't
+//! 45")?;
+//! let refusal = engine::read(network.bytes()).unwrap_err();
+//! assert_eq!(refusal.to_string(), "refused 8 at 3");
+//! let (number, line) = network.line(refusal.place as usize).expect("a typed line");
+//! assert_eq!((number, line), (2, "43 00 40 0008  # a stop that there isn't"));
+//! # Ok::<(), typed::Mistyped>(())
+//! ```
 
 use std::fmt;
 
@@ -17,6 +30,11 @@ pub const END: u8 = 0x45;
 const MARK_OF_UTF8: [u8; 3] = [0xEF, 0xBB, 0xBF];
 
 /// A typed network: its bytes, and where in the text each of them stands.
+///
+/// ```
+/// let typed = engine::typed::read(b"4C000F # line 0").unwrap();
+/// assert_eq!(typed.bytes(), [0x4C, 0x00, 0x0F]);
+/// ```
 #[derive(Clone, Debug, PartialEq, Eq)]
 pub struct Typed {
     bytes: Vec<u8>,
@@ -28,12 +46,23 @@ pub struct Typed {
 
 impl Typed {
     /// The network file, for the engine's calls.
+    ///
+    /// ```
+    /// let typed = engine::typed::read(b"45").unwrap();
+    /// assert_eq!(typed.bytes(), [0x45]);
+    /// ```
     pub fn bytes(&self) -> &[u8] {
         &self.bytes
     }
 
     /// The line of a byte and its number, the first being 1; for a place behind
     /// the last byte, the last byte's. `None` where nothing is typed.
+    ///
+    /// ```
+    /// let typed = engine::typed::read(b"# A note\n4C000F # line 0\n45").unwrap();
+    /// assert_eq!(typed.line(1), Some((2, "4C000F # line 0")));
+    /// assert_eq!(typed.line(3), Some((3, "45")));
+    /// ```
     pub fn line(&self, place: usize) -> Option<(usize, &str)> {
         let at = place.min(self.line_of_byte.len().checked_sub(1)?);
         let line = self.line_of_byte[at];
@@ -42,6 +71,14 @@ impl Typed {
 }
 
 /// Why a text isn't a typed network.
+///
+/// ```
+/// use engine::typed::{self, Fault};
+///
+/// let why = typed::read(b"4C000F\n4C 014").unwrap_err();
+/// assert_eq!((why.line, why.word.as_str(), why.fault), (2, "014", Fault::NotInPairs));
+/// assert_eq!(why.to_string(), "line 2: '014' isn't in pairs of digits");
+/// ```
 #[derive(Clone, Debug, PartialEq, Eq)]
 pub struct Mistyped {
     /// The line at fault, the first being 1.
@@ -53,6 +90,13 @@ pub struct Mistyped {
 }
 
 /// What is wrong with a word.
+///
+/// ```
+/// use engine::typed::{self, Fault};
+///
+/// assert_eq!(typed::read(b"4G").unwrap_err().fault, Fault::NotHexadecimal);
+/// assert_eq!(typed::read(b"4").unwrap_err().fault, Fault::NotInPairs);
+/// ```
 #[derive(Clone, Copy, Debug, PartialEq, Eq)]
 pub enum Fault {
     /// Another character than a hexadecimal digit.
@@ -75,6 +119,11 @@ impl fmt::Display for Mistyped {
 impl std::error::Error for Mistyped {}
 
 /// Reads a typed text. Whether it is a network, the engine says.
+///
+/// ```
+/// let typed = engine::typed::read(b"4C000F 4C0014 4300000008 4301000011 45").unwrap();
+/// assert!(engine::read(typed.bytes()).is_ok());
+/// ```
 pub fn read(text: &[u8]) -> Result<Typed, Mistyped> {
     let text = text.strip_prefix(&MARK_OF_UTF8).unwrap_or(text);
     let mut typed = Typed {
@@ -116,6 +165,13 @@ fn digit(byte: u8) -> Option<u8> {
 
 /// The commands of a file with their operands, the last one cut off if the file
 /// is.
+///
+/// ```
+/// use engine::typed::{commands, LINE};
+///
+/// let found = commands(&[LINE, 0x00, 0x0F, 0x45]);
+/// assert_eq!(found, [&[LINE, 0x00, 0x0F][..], &[0x45]]);
+/// ```
 pub fn commands(file: &[u8]) -> Vec<&[u8]> {
     let mut commands = Vec::new();
     let mut rest = file;
@@ -137,12 +193,22 @@ fn width(command: u8) -> usize {
 }
 
 /// Bytes as hexadecimal pairs with blanks between them.
+///
+/// ```
+/// assert_eq!(engine::typed::pairs(&[0x4C, 0x00, 0x0F]), "4C 00 0F");
+/// ```
 pub fn pairs(bytes: &[u8]) -> String {
     let pairs: Vec<String> = bytes.iter().map(|byte| format!("{byte:02X}")).collect();
     pairs.join(" ")
 }
 
 /// A file as authors type it, a line for each command.
+///
+/// ```
+/// let network = engine::typed::read(b"4C000F 4300000008 45").unwrap();
+/// let text = engine::typed::text(network.bytes());
+/// assert_eq!(text, "4C 000F\n43 00 00 0008\n45\n");
+/// ```
 pub fn text(file: &[u8]) -> String {
     let lines = commands(file).into_iter().map(typed_line);
     lines.map(|line| format!("{line}\n")).collect()

@@ -1,7 +1,7 @@
 //! The deepest search and the longest archive form on a small stack: 16 lines of
 //! the longest period, 256 calls, in a thread with 512 KB.
 
-use engine::{self, Mark, Searched, Sheet};
+use engine::{Mark, Searched, Sheet};
 use papers::files::{bytes_of, retyped, Command, Dice, Stated};
 use papers::sections::network::read;
 use papers::sections::walk::{walk, Answer};
@@ -43,12 +43,17 @@ fn compare(commands: &[Command]) -> (bool, u32, u32, u32) {
     let net = read(file).expect("an accepted file");
     assert_eq!((net.lines(), net.calls), (16, 256));
     let found = on_small_stack(|| engine::search(file, BUDGET));
-    let (searched, starts) = found.expect("an accepted file");
-    let found = match searched {
-        Searched::Finished { best, tries } => (true, best.least, best.sum, tries),
-        Searched::Stopped { best, tries } => (false, best.least, best.sum, tries),
+    let (finished, rating, tries, starts) = match found.expect("an accepted file") {
+        Searched::Finished(best) => {
+            let (rating, tries) = (best.rating(), best.tries());
+            (true, rating, tries, best.starts().to_vec())
+        }
+        Searched::Stopped { so_far, tries } => {
+            (false, so_far.rating(), tries, so_far.starts().to_vec())
+        }
         Searched::StoppedWithNone { .. } => panic!("16 tries reach a full timetable"),
     };
+    let found = (finished, rating.least, rating.sum, tries);
     let walked = walk(&net, BUDGET);
     let expected = match walked.answer {
         Answer::Finished { best, tries } => (true, best.least, best.sum, tries),

@@ -4,7 +4,7 @@
 //! test may stand in this file: it would run beside this one and add to the
 //! memory.
 
-use engine::{self, Mark, Rating, Refusal, Sheet};
+use engine::{Mark, Rating, Refusal, Sheet};
 use papers::files::{any_file, any_sheet_bytes, Dice};
 use papers::sections::network::read;
 use std::time::Instant;

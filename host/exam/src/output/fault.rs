@@ -5,7 +5,7 @@ use super::streams::{put, say};
 use crate::input::network::Network;
 use crate::status::{Status, Trouble};
 use engine::typed::{commands, pairs, CALL, END, FOLLOW, LINE};
-use engine::{Refusal, Sheet};
+use engine::{Ground, Refusal, Sheet};
 
 /// A refusal: `refused 5 at 0` and nothing else on standard output, the words
 /// on standard error.
@@ -15,14 +15,14 @@ pub fn refused(refusal: Refusal, network: &Network) -> Result<Status, Trouble> {
     Ok(Status::Refused)
 }
 
-/// A refusal where a sheet was handed over: ground 15 is the sheet's.
+/// A refusal where a sheet was handed over, which may be the one at fault.
 pub fn refused_sheet(
     refusal: Refusal,
     network: &Network,
     sheet: &Sheet,
 ) -> Result<Status, Trouble> {
     let ended = refused(refusal, network)?;
-    if refusal.number == 15 {
+    if refusal.ground == Ground::SheetLength {
         say(&format!("  {}", lengths(network, &[sheet])));
     }
     Ok(ended)
@@ -31,15 +31,17 @@ pub fn refused_sheet(
 /// The refusal in words, for standard error.
 pub fn explained(refusal: Refusal, network: &Network) -> String {
     let mut text = format!("exam: {refusal}: {}", refusal.words());
-    // From 15 on it isn't a command of the file that is at fault.
-    if refusal.number > 14 {
+    if !refusal.ground.is_of_file() {
         return text;
     }
     let place = refusal.place as usize;
     let behind = network.bytes().get(place..).unwrap_or(&[]);
     let shown = match commands(behind).first() {
         None => format!("nothing behind its {place} bytes"),
-        Some(command) if refusal.number == 14 => format!("byte {place}: {}", pairs(&command[..1])),
+        // Behind the end there are bytes, and no commands.
+        Some(command) if refusal.ground == Ground::ByteAfterEnd => {
+            format!("byte {place}: {}", pairs(&command[..1]))
+        }
         Some(command) => format!("byte {place}: {}{}", pairs(command), says(command)),
     };
     text += &format!("\n  {}, {shown}", network.name);

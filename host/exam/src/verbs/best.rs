@@ -36,19 +36,20 @@ fn run(request: &Request) -> Result<Status, Trouble> {
     let searched = engine::search(network.bytes(), budget);
     drop(watch);
     match searched {
-        Ok((searched, starts)) => print(searched, &starts),
+        Ok(searched) => print(searched),
         Err(refusal) => refused(refusal, &network),
     }
 }
 
-fn print(searched: Searched, starts: &[i32]) -> Result<Status, Trouble> {
-    let line = |best: Rating, tries: u32| {
-        format!("{} tries {tries} starts {}\n", shown(best), joined(starts))
-    };
+fn print(searched: Searched) -> Result<Status, Trouble> {
     match searched {
-        Searched::Finished { best, tries } => put(line(best, tries)).map(|()| Status::Done),
-        Searched::Stopped { best, tries } => {
-            put(format!("stopped {}", line(best, tries)))?;
+        Searched::Finished(best) => {
+            put(line(best.rating(), best.tries(), best.starts()))?;
+            Ok(Status::Done)
+        }
+        Searched::Stopped { so_far, tries } => {
+            let line = line(so_far.rating(), tries, so_far.starts());
+            put(format!("stopped {line}"))?;
             say("exam: the budget is used up; there may be a better timetable (--budget N)");
             Ok(Status::Undecided)
         }
@@ -58,4 +59,9 @@ fn print(searched: Searched, starts: &[i32]) -> Result<Status, Trouble> {
             Ok(Status::Undecided)
         }
     }
+}
+
+fn line(rating: Rating, tries: u32, starts: &[i32]) -> String {
+    let (rating, starts) = (shown(rating), joined(starts));
+    format!("{rating} tries {tries} starts {starts}\n")
 }

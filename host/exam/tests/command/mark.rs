@@ -1,7 +1,7 @@
 //! `exam mark`, of a sheet and of a folder.
 
 use crate::common::{exam, exam_with, Folder, HEX};
-use engine::WORDS;
+use engine::Ground;
 use papers::files::Dice;
 use std::os::unix::fs::symlink;
 
@@ -41,7 +41,7 @@ fn mark_of_a_folder() {
     exam(&["mark", HEX, &folder.name(), "--budget", "3"]).printed(undecided, 3);
     folder.file("e.sheet", "0");
     let refused = format!("{undecided}e.sheet: refused 15 at 0\n");
-    let words = format!("e.sheet: refused 15 at 0: {}", WORDS[14]);
+    let words = format!("e.sheet: refused 15 at 0: {}", Ground::SheetLength.words());
     exam(&["mark", HEX, &folder.name(), "--budget", "3"]).told(&refused, 1, &[&words]);
     folder.file("f.sheet", "0 x");
     folder.file("notes", "0 3");

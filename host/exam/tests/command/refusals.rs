@@ -1,7 +1,7 @@
 //! Refusals: the paper's line, the words for each ground, and the command at fault.
 
 use crate::common::{exam, exam_with, typed, Folder, HEX};
-use engine::WORDS;
+use engine::Ground;
 use papers::files::{faulty_file, Dice};
 
 /// Grounds 1 to 14 by every verb that reads one file, as bytes and typed: the
@@ -13,7 +13,7 @@ fn words_for_each_ground_of_the_file() {
     for ground in 1..=14u8 {
         let faulty = faulty_file(&mut dice, ground);
         let line = format!("refused {ground} at {}\n", faulty.place);
-        let words = WORDS[usize::from(ground) - 1];
+        let words = Ground::ALL[usize::from(ground) - 1].words();
         let place = match faulty.bytes.get(faulty.place) {
             Some(byte) => format!("byte {}: {byte:02X}", faulty.place),
             None => format!("nothing behind its {} bytes", faulty.place),
@@ -39,7 +39,11 @@ fn words_for_each_ground_of_the_file() {
 #[test]
 fn words_for_a_sheet_of_the_wrong_length() {
     let folder = Folder::new();
-    let pieces = ["refused 15 at 0", WORDS[14], "lines: 2; sheet: 3 starts"];
+    let pieces = [
+        "refused 15 at 0",
+        Ground::SheetLength.words(),
+        "lines: 2; sheet: 3 starts",
+    ];
     let long = folder.file("long.sheet", "0 3 5");
     let empty = folder.file("empty.sheet", "# nothing\n");
     for verb in ["rate", "mark"] {

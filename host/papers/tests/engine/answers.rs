@@ -1,14 +1,16 @@
-//! The papers' answers in the wrapper's types.
+//! The papers' answers in the wrapper's types; a search's the other way, since
+//! nobody but the wrapper makes a best.
 
-use engine::{Counts, Mark, Rating, Refusal, Searched};
+use engine::{Counts, Ground, Mark, Rating, Refusal, Searched};
 use papers::sections;
 use papers::sections::network::Network;
 use papers::sections::sheets::Marked;
 use papers::sections::walk::{Answer, Walked};
 
 pub fn refusal(paper: sections::network::Refusal) -> Refusal {
+    let number = u32::from(paper.number);
     Refusal {
-        number: paper.number.into(),
+        ground: Ground::try_from(number).expect("a ground"),
         place: paper.place as u32,
     }
 }
@@ -36,19 +38,29 @@ pub fn counts(net: &Network) -> Counts {
     }
 }
 
-pub fn searched(walked: Walked) -> (Searched, Vec<i32>) {
-    let searched = match walked.answer {
-        Answer::Finished { best, tries } => Searched::Finished {
-            best: rated(best),
-            tries,
-        },
-        Answer::Stopped { best, tries } => Searched::Stopped {
-            best: rated(best),
-            tries,
-        },
-        Answer::StoppedWithNone { tries } => Searched::StoppedWithNone { tries },
+pub fn walked(searched: Searched) -> Walked {
+    let paper = |rating: Rating| sections::rating::Rating {
+        least: rating.least,
+        sum: rating.sum,
     };
-    (searched, walked.starts.unwrap_or_default())
+    let (answer, starts) = match searched {
+        Searched::Finished(found) => {
+            let (best, tries) = (paper(found.rating()), found.tries());
+            (
+                Answer::Finished { best, tries },
+                Some(found.starts().to_vec()),
+            )
+        }
+        Searched::Stopped { so_far, tries } => {
+            let best = paper(so_far.rating());
+            (
+                Answer::Stopped { best, tries },
+                Some(so_far.starts().to_vec()),
+            )
+        }
+        Searched::StoppedWithNone { tries } => (Answer::StoppedWithNone { tries }, None),
+    };
+    Walked { answer, starts }
 }
 
 pub fn marked(paper: Marked) -> Mark {

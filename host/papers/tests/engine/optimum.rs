@@ -1,7 +1,7 @@
 //! The optimum beside every timetable of small networks.
 
 use crate::answers::rated;
-use engine::{self, Mark, Rating, Searched, Sheet};
+use engine::{Mark, Rating, Searched, Sheet};
 use papers::files::Dice;
 use papers::sections::network::Network;
 use papers::sections::rating::rating;
@@ -25,12 +25,12 @@ fn the_optimum_beside_every_timetable() {
         let (file, net) = small_file(&mut dice, 10_000);
         several_lines += usize::from(net.lines() > 2);
         let best = best_of_every(&net);
-        let (searched, starts) = engine::search(&file, u32::MAX).expect("an accepted file");
-        let Searched::Finished { best: found, .. } = searched else {
+        let searched = engine::search(&file, u32::MAX).expect("an accepted file");
+        let Searched::Finished(found) = searched else {
             panic!("network {number}: {searched:?} under the largest budget");
         };
-        assert_eq!(found, best, "network {number}");
-        let sheet = Sheet::of_starts(&starts);
+        assert_eq!(found.rating(), best, "network {number}");
+        let sheet = Sheet::of_starts(found.starts());
         assert_eq!(engine::rate(&file, &sheet), Ok(best), "network {number}");
         let mark = engine::mark(&file, &sheet, u32::MAX);
         assert!(

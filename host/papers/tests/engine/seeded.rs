@@ -1,7 +1,7 @@
 //! Every call on seeded files and sheets of every kind.
 
-use crate::answers::{counts, marked, rating_or_refusal, refusal, searched};
-use engine::{self, Mark, Refusal, Sheet};
+use crate::answers::{counts, marked, rating_or_refusal, refusal, walked};
+use engine::{Mark, Refusal, Sheet};
 use papers::files::{any_budget, any_file, any_sheet_bytes, random_bytes, sheet_bytes, Dice};
 use papers::sections;
 use papers::sections::archive::archive_form;
@@ -86,13 +86,13 @@ fn compare_search(dice: &mut Dice, file: &[u8], net: &Result<Network, Refusal>, 
     match net {
         Err(why) => assert_eq!(found, Err(*why)),
         Ok(net) => {
-            let walked = walk(net, budget);
-            let ended = match walked.answer {
+            let paper = walk(net, budget);
+            let ended = match paper.answer {
                 Answer::Finished { .. } => 0,
                 Answer::Stopped { .. } => 1,
                 Answer::StoppedWithNone { .. } => 2,
             };
-            assert_eq!(found, Ok(searched(walked)));
+            assert_eq!(found.map(walked), Ok(paper));
             kind.search = Some(ended);
         }
     }
@@ -107,7 +107,7 @@ fn compare_sheets(
 ) {
     let [one, other] = [first, second].map(|bytes| Sheet::of_bytes(bytes.clone()));
     let paper = rating_or_refusal(rate_bytes(file, first));
-    kind.ground = paper.map_or_else(|why| why.number, |_| 0);
+    kind.ground = paper.map_or_else(|why| why.ground.number(), |_| 0);
     assert_eq!(engine::rate(file, &one), paper);
     let paper = rating_or_refusal(weighted_bytes(file, first));
     assert_eq!(engine::weighted(file, &one), paper);
