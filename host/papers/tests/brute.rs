@@ -173,22 +173,13 @@ fn upper_by_the_book(net: &Network, placed: usize, starts: &[i64]) -> Rating {
 /// the starts, a list instead of calls: the timetable in progress is a row of
 /// starts, and the next try is the next row.
 fn walk_by_the_book(net: &Network, budget: u32) -> Walked {
-    let choices = |line: usize| match line {
-        0 => 1,
-        _ => i64::from(net.periods[line]),
-    };
     let mut best: Option<(Rating, Vec<i32>)> = None;
     let mut tries = 0;
     // The try that is due: the last of these starts is the one being placed.
     let mut due: Vec<i64> = vec![0];
     while !due.is_empty() {
         if tries == budget {
-            let answer = match &best {
-                Some((best, _)) => Answer::Stopped { best: *best, tries },
-                None => Answer::StoppedWithNone { tries },
-            };
-            let starts = best.map(|(_, starts)| starts);
-            return Walked { answer, starts };
+            return stopped(best, tries);
         }
         tries += 1;
         let upper = upper_by_the_book(net, due.len(), &due);
@@ -205,18 +196,39 @@ fn walk_by_the_book(net: &Network, budget: u32) -> Walked {
         if stands {
             best = Some((upper, due.iter().map(|&start| start as i32).collect()));
         }
-        // On to the next start, of an earlier line where this one is through.
-        while let Some(start) = due.pop() {
-            if start + 1 < choices(due.len()) {
-                due.push(start + 1);
-                break;
-            }
-        }
+        go_on(net, &mut due);
     }
     let (best, starts) = best.expect("a full timetable");
     Walked {
         answer: Answer::Finished { best, tries },
         starts: Some(starts),
+    }
+}
+
+fn stopped(best: Option<(Rating, Vec<i32>)>, tries: u32) -> Walked {
+    match best {
+        Some((best, starts)) => Walked {
+            answer: Answer::Stopped { best, tries },
+            starts: Some(starts),
+        },
+        None => Walked {
+            answer: Answer::StoppedWithNone { tries },
+            starts: None,
+        },
+    }
+}
+
+/// On to the next start, of an earlier line where this one is through.
+fn go_on(net: &Network, due: &mut Vec<i64>) {
+    let choices = |line: usize| match line {
+        0 => 1,
+        _ => i64::from(net.periods[line]),
+    };
+    while let Some(start) = due.pop() {
+        if start + 1 < choices(due.len()) {
+            due.push(start + 1);
+            return;
+        }
     }
 }
 

@@ -80,3 +80,41 @@ fn help_for_each_verb() {
         exam(&["help", verb]).printed(&help.out, 0);
     }
 }
+
+/// The columns are as wide as the longest entry wants, in every verb's help the
+/// same.
+#[test]
+fn help_in_columns() {
+    let overview = "
+  exam read NETWORK                    lines, stops, calls and common cycle
+  exam rate NETWORK SHEET              a sheet's rating: least gap, sum of gaps
+  exam classes NETWORK                 which stops always rate alike
+  exam best NETWORK                    the best timetable
+  exam better NETWORK SHEET SHEET      the better of two sheets
+  exam mark NETWORK SHEET-OR-FOLDER    a sheet, or each of a folder, against the best
+  exam archive NETWORK                 the one file of a network that is kept
+  exam same NETWORK NETWORK            whether two files are of one network
+  exam VERB --help                     more about a verb
+
+NETWORK: a name";
+    assert!(exam(&["--help"]).out.contains(overview));
+    let options = "
+Options:
+  --typed           the network is typed text, whatever its name
+  --bytes           the network is bytes, whatever its name
+  --sheet-numbers   a sheet is whole numbers, whatever its name
+  --sheet-bytes     a sheet is bytes, whatever its name
+  --budget N        stop after N tries, 0 to 4294967295 (otherwise 1000000)
+  --quiet           no sign of life on standard error during a long search
+
+Exit status: ";
+    assert!(exam(&["mark", "--help"]).out.contains(options));
+    let options = "
+Options:
+  --typed           the network is typed text, whatever its name
+  --bytes           the network is bytes, whatever its name
+  --rows            print the class row and the weight row, 64 numbers each
+
+Exit status: ";
+    assert!(exam(&["classes", "--help"]).out.contains(options));
+}

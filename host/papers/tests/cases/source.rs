@@ -6,37 +6,40 @@ use papers::sections::classes::classes;
 use papers::sections::rating::{arrivals, gap_by_counting, rating_by_counting, stop_gap};
 use papers::sections::walk::Answer;
 
-/// Section 2.3, table 2.1: periods 15, 10, 20 and starts 2, 5, 1. The offsets
-/// are the first arrivals of the table less the starts.
+/// Section 2.3, table 2.1. The offsets are the first arrivals of the table less
+/// the starts.
+const CALLS: [(u8, u8, u16); 9] = [
+    (1, 1, 0),
+    (2, 1, 0),
+    (0, 2, 2),
+    (1, 2, 1),
+    (2, 2, 1),
+    (0, 3, 4),
+    (1, 3, 3),
+    (2, 3, 3),
+    (0, 4, 0),
+];
+
+/// Its whole table: stop, line and the arrivals of an hour.
+const TABLE: [(usize, usize, &[usize]); 9] = [
+    (1, 1, &[5, 15, 25, 35, 45, 55]),
+    (1, 2, &[1, 21, 41]),
+    (2, 0, &[4, 19, 34, 49]),
+    (2, 1, &[6, 16, 26, 36, 46, 56]),
+    (2, 2, &[2, 22, 42]),
+    (3, 0, &[6, 21, 36, 51]),
+    (3, 1, &[8, 18, 28, 38, 48, 58]),
+    (3, 2, &[4, 24, 44]),
+    (4, 0, &[2, 17, 32, 47]),
+];
+
+/// Section 2.3, table 2.1: periods 15, 10, 20 and starts 2, 5, 1.
 #[test]
 fn source_example_of_section_2_3() {
-    let calls = [
-        (1, 1, 0),
-        (2, 1, 0),
-        (0, 2, 2),
-        (1, 2, 1),
-        (2, 2, 1),
-        (0, 3, 4),
-        (1, 3, 3),
-        (2, 3, 3),
-        (0, 4, 0),
-    ];
-    let bytes = file(&[15, 10, 20], &calls);
+    let bytes = file(&[15, 10, 20], &CALLS);
     let net = net(&bytes);
     let starts = [2, 5, 1];
-    // The whole table.
-    let table: [(usize, usize, &[usize]); 9] = [
-        (1, 1, &[5, 15, 25, 35, 45, 55]),
-        (1, 2, &[1, 21, 41]),
-        (2, 0, &[4, 19, 34, 49]),
-        (2, 1, &[6, 16, 26, 36, 46, 56]),
-        (2, 2, &[2, 22, 42]),
-        (3, 0, &[6, 21, 36, 51]),
-        (3, 1, &[8, 18, 28, 38, 48, 58]),
-        (3, 2, &[4, 24, 44]),
-        (4, 0, &[2, 17, 32, 47]),
-    ];
-    for (stop, line, times) in table {
+    for (stop, line, times) in TABLE {
         assert_eq!(arrivals(&net, line, stop, starts[line]), times);
     }
     let gaps: Vec<Option<u32>> = (1..=4)

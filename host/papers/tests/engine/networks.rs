@@ -1,6 +1,5 @@
 //! Files of one network, and of two.
 
-use engine;
 use papers::files::{bytes_of, retyped, valid_commands, Dice, Stated};
 use papers::sections::network::read;
 

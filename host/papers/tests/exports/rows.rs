@@ -20,36 +20,23 @@ fn rows_of_other_lengths() {
         let mut row = Lent::of(length, || dice.bits() as i32);
         let mut answer = answer_row::<3>(&mut dice);
         let before = (row.clone(), answer.clone());
-        let places = answer.pointer().cast();
-        let found = unsafe {
-            examination_search(
-                file.as_ptr(),
-                file.len(),
-                row.pointer(),
-                length,
-                1_000,
-                places,
-            )
-        };
+        let places = answer.row().try_into().expect("3 places");
+        let found = searched(&file, row.row(), places);
         assert_eq!((found, row, answer), (16 * 65_536, before.0, before.1));
     }
     let mut row = vec![7; 3];
-    let mut answer = [0; 3];
-    let found = unsafe {
-        examination_search(
-            file.as_ptr(),
-            file.len(),
-            row.as_mut_ptr(),
-            3,
-            1_000,
-            &mut answer,
-        )
-    };
+    let found = searched(&file, &mut row, &mut [0; 3]);
     assert_eq!((found, row), (0, best));
     for (class, weight) in [(64, 63), (63, 64), (0, 64), (64, 0), (65, 64), (64, 4_096)] {
         assert_eq!(filled(&mut dice, &file, class, weight), 17 * 65_536);
     }
     assert_eq!(filled(&mut dice, &file, 64, 64), 0);
+}
+
+/// Searches with this start row.
+fn searched(file: &[u8], row: &mut [i32], answer: &mut [u32; 3]) -> u32 {
+    let (length, row) = (row.len(), row.as_mut_ptr());
+    unsafe { examination_search(file.as_ptr(), file.len(), row, length, 1_000, answer) }
 }
 
 /// Calls for the classes with rows of these lengths and compares the rows.
