@@ -11,6 +11,8 @@
 //!
 //! Each uses those above it alone.
 
+#![forbid(unsafe_code)]
+
 mod input;
 mod line;
 mod output;

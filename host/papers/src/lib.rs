@@ -10,7 +10,7 @@
 //!   measures the engine's rate call beside the one.
 //! * [`program`] runs the proved engine's program `best`.
 
-#![deny(unsafe_code)]
+#![forbid(unsafe_code)]
 
 pub mod files;
 pub mod measure;

@@ -1,4 +1,5 @@
-//! The command line, told by a table.
+//! The command line, told by a table: the rows are the constants `VERB` of the
+//! verbs' files, above this folder, and come in as a parameter.
 //!
 //! | file          | what                                                   |
 //! |---------------|--------------------------------------------------------|
