@@ -126,17 +126,47 @@ pub struct Best {
 }
 
 impl Best {
-    /// Its rating. See [`Best`].
+    /// Its rating.
+    ///
+    /// ```
+    /// # use engine::{Rating, Searched};
+    /// # let network = engine::typed::read(b"4C000F 4C0014 4300000008 4301000011 45").unwrap();
+    /// let searched = engine::search(network.bytes(), 21).expect("an accepted network");
+    /// let Searched::Finished(best) = searched else {
+    ///     panic!("it ended otherwise");
+    /// };
+    /// assert_eq!(best.rating(), Rating { least: 2, sum: 2 });
+    /// ```
     pub fn rating(&self) -> Rating {
         self.rating
     }
 
-    /// Its starts in line order. See [`Best`].
+    /// Its starts in line order.
+    ///
+    /// ```
+    /// # use engine::{Rating, Searched};
+    /// # let network = engine::typed::read(b"4C000F 4C0014 4300000008 4301000011 45").unwrap();
+    /// let searched = engine::search(network.bytes(), 21).expect("an accepted network");
+    /// let Searched::Finished(best) = searched else {
+    ///     panic!("it ended otherwise");
+    /// };
+    /// assert_eq!(best.starts(), [0, 3]);
+    /// ```
     pub fn starts(&self) -> &[i32] {
         &self.starts
     }
 
-    /// The tries that the search took. See [`Best`].
+    /// The tries that the search took.
+    ///
+    /// ```
+    /// # use engine::{Rating, Searched};
+    /// # let network = engine::typed::read(b"4C000F 4C0014 4300000008 4301000011 45").unwrap();
+    /// let searched = engine::search(network.bytes(), 1_000_000).expect("an accepted network");
+    /// let Searched::Finished(best) = searched else {
+    ///     panic!("it ended otherwise");
+    /// };
+    /// assert_eq!(best.tries(), 21);
+    /// ```
     pub fn tries(&self) -> u32 {
         self.tries
     }
@@ -163,12 +193,32 @@ pub struct SoFar {
 }
 
 impl SoFar {
-    /// Its rating. See [`SoFar`].
+    /// Its rating.
+    ///
+    /// ```
+    /// # use engine::{Rating, Searched};
+    /// # let network = engine::typed::read(b"4C000F 4C0014 4300000008 4301000011 45").unwrap();
+    /// let searched = engine::search(network.bytes(), 2).expect("an accepted network");
+    /// let Searched::Stopped { so_far, .. } = searched else {
+    ///     panic!("it ended otherwise");
+    /// };
+    /// assert_eq!(so_far.rating(), Rating { least: 1, sum: 1 });
+    /// ```
     pub fn rating(&self) -> Rating {
         self.rating
     }
 
-    /// Its starts in line order. See [`SoFar`].
+    /// Its starts in line order.
+    ///
+    /// ```
+    /// # use engine::{Rating, Searched};
+    /// # let network = engine::typed::read(b"4C000F 4C0014 4300000008 4301000011 45").unwrap();
+    /// let searched = engine::search(network.bytes(), 2).expect("an accepted network");
+    /// let Searched::Stopped { so_far, .. } = searched else {
+    ///     panic!("it ended otherwise");
+    /// };
+    /// assert_eq!(so_far.starts(), [0, 0]);
+    /// ```
     pub fn starts(&self) -> &[i32] {
         &self.starts
     }

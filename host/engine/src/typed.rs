@@ -17,13 +17,33 @@
 use std::fmt;
 
 /// The byte that begins a line's command: its period follows.
+///
+/// ```
+/// let typed = engine::typed::read(b"4C 000F").unwrap();
+/// assert_eq!(typed.bytes()[0], engine::typed::LINE);
+/// ```
 pub const LINE: u8 = 0x4C;
 /// The byte that begins a call: line, stop and offset follow.
+///
+/// ```
+/// let typed = engine::typed::read(b"43 00 00 0008").unwrap();
+/// assert_eq!(typed.bytes()[0], engine::typed::CALL);
+/// ```
 pub const CALL: u8 = 0x43;
 /// The byte that begins a call counted from the line's call before: line, stop
 /// and ride follow.
+///
+/// ```
+/// let typed = engine::typed::read(b"46 00 01 0005").unwrap();
+/// assert_eq!(typed.bytes()[0], engine::typed::FOLLOW);
+/// ```
 pub const FOLLOW: u8 = 0x46;
 /// The byte that ends a file.
+///
+/// ```
+/// let typed = engine::typed::read(b"45").unwrap();
+/// assert_eq!(typed.bytes()[0], engine::typed::END);
+/// ```
 pub const END: u8 = 0x45;
 
 /// Some editors put these before a text.
