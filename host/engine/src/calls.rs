@@ -1,0 +1,331 @@
+//! One function for each export of docs/ABI.md. Nothing is computed here; every
+//! number is the engine's.
+
+use crate::answers::{
+    Best, Better, Classes, Counts, Mark, Rating, RowSearched, Searched, SoFar, STOPS,
+};
+use crate::exports;
+use crate::ground::Ground;
+use crate::refusal::Refusal;
+use crate::sheet::Sheet;
+use std::ops::RangeInclusive;
+
+/// How long an archive form is: a line takes 3 bytes, a call 5, the end 1, and
+/// there are at most 16 lines and 256 calls.
+const ARCHIVE_LENGTHS: RangeInclusive<usize> = 3 + 5 + 1..=16 * 3 + 256 * 5 + 1;
+
+/// Return values from here on are refusals (docs/ABI.md, "How things cross").
+const REFUSED: u32 = 65_536;
+
+/// Reads a network file: what it has, or what is wrong with it and where.
+///
+/// ```
+/// use engine::{typed, Ground};
+///
+/// let network = typed::read(b"4C000F 4C0014 4300000008 4301000011 45")?;
+/// let counts = engine::read(network.bytes()).expect("an accepted network");
+/// assert_eq!((counts.lines, counts.cycle), (2, 60));
+///
+/// // The end is missing.
+/// let cut = &network.bytes()[..16];
+/// let refusal = engine::read(cut).unwrap_err();
+/// assert_eq!((refusal.ground, refusal.place), (Ground::NoCommand, 16));
+/// # Ok::<(), typed::Mistyped>(())
+/// ```
+pub fn read(file: &[u8]) -> Result<Counts, Refusal> {
+    const EXPORT: &str = "examination_read";
+    let mut answer = [0; 4];
+    match answered(EXPORT, exports::read(file, &mut answer))? {
+        0 => {
+            let [lines, served_stops, calls, cycle] = answer;
+            Ok(Counts {
+                lines,
+                served_stops,
+                calls,
+                cycle,
+            })
+        }
+        other => unknown(EXPORT, other),
+    }
+}
+
+/// Rates a sheet: the least gap between two lines at any stop, and the sum of
+/// the gaps.
+///
+/// ```
+/// use engine::{typed, Ground, Rating, Sheet};
+///
+/// let network = typed::read(b"4C000F 4C0014 4300000008 4301000011 45")?;
+/// let rating = engine::rate(network.bytes(), &Sheet::of_starts(&[0, 0]));
+/// assert_eq!(rating, Ok(Rating { least: 1, sum: 1 }));
+///
+/// let refusal = engine::rate(network.bytes(), &Sheet::of_starts(&[0])).unwrap_err();
+/// assert_eq!(refusal.ground, Ground::SheetLength);
+/// # Ok::<(), typed::Mistyped>(())
+/// ```
+pub fn rate(file: &[u8], sheet: &Sheet) -> Result<Rating, Refusal> {
+    const EXPORT: &str = "examination_rate";
+    let mut answer = [0; 2];
+    match answered(EXPORT, exports::rate(file, sheet.bytes(), &mut answer))? {
+        0 => Ok(rating(answer[0], answer[1])),
+        other => unknown(EXPORT, other),
+    }
+}
+
+/// Rates a sheet over the lowest stops of the classes with their weights, which
+/// gives the same as [`rate`] on every file and sheet.
+///
+/// ```
+/// use engine::{typed, Rating, Sheet};
+///
+/// let network = typed::read(b"4C000F 4C0014 4300000008 4301000011 45")?;
+/// let sheet = Sheet::of_starts(&[0, 0]);
+/// let weighted = engine::weighted(network.bytes(), &sheet);
+/// assert_eq!(weighted, engine::rate(network.bytes(), &sheet));
+/// # Ok::<(), typed::Mistyped>(())
+/// ```
+pub fn weighted(file: &[u8], sheet: &Sheet) -> Result<Rating, Refusal> {
+    const EXPORT: &str = "examination_weighted";
+    let mut answer = [0; 2];
+    match answered(EXPORT, exports::weighted(file, sheet.bytes(), &mut answer))? {
+        0 => Ok(rating(answer[0], answer[1])),
+        other => unknown(EXPORT, other),
+    }
+}
+
+/// The classes of stops that rate alike under every timetable.
+///
+/// ```
+/// use engine::typed;
+///
+/// let network = typed::read(b"4C000F 4C0014 4300000008 4301000011 45")?;
+/// let classes = engine::classes(network.bytes()).expect("an accepted network");
+/// assert_eq!(classes.count, 1);
+/// // Stop 0 is a class of its own; nothing calls at stop 1.
+/// assert_eq!(classes.class_row[..2], [0, 255]);
+/// # Ok::<(), typed::Mistyped>(())
+/// ```
+pub fn classes(file: &[u8]) -> Result<Classes, Refusal> {
+    let mut class_row = [0; STOPS];
+    let mut weight_row = [0; STOPS];
+    let count = classes_into(file, &mut class_row, &mut weight_row)?;
+    Ok(Classes {
+        class_row,
+        weight_row,
+        count,
+    })
+}
+
+/// As [`classes`], into rows of the caller, which have [`STOPS`] places each and
+/// stay as they are where the call is refused. Returns the number of classes.
+///
+/// ```
+/// use engine::{typed, Ground};
+///
+/// let network = typed::read(b"4C000F 4C0014 4300000008 4301000011 45")?;
+/// let (mut class_row, mut weight_row) = ([0; 64], [0; 64]);
+/// let count = engine::classes_into(network.bytes(), &mut class_row, &mut weight_row);
+/// assert_eq!((count, class_row[0], weight_row[0]), (Ok(1), 0, 1));
+///
+/// let refused = engine::classes_into(network.bytes(), &mut class_row, &mut [0; 63]);
+/// assert_eq!(refused.unwrap_err().ground, Ground::ClassRowLength);
+/// # Ok::<(), typed::Mistyped>(())
+/// ```
+pub fn classes_into(
+    file: &[u8],
+    class_row: &mut [u8],
+    weight_row: &mut [u16],
+) -> Result<u32, Refusal> {
+    const EXPORT: &str = "examination_classes";
+    let mut answer = [0; 1];
+    let returned = exports::classes(file, class_row, weight_row, &mut answer);
+    match answered(EXPORT, returned)? {
+        0 => Ok(answer[0]),
+        other => unknown(EXPORT, other),
+    }
+}
+
+/// Searches for the best timetable, with so many tries at most.
+///
+/// A search takes as long as its tries; nothing is said before its end. With
+/// a budget of `u32::MAX` it can take minutes.
+///
+/// ```
+/// use engine::{typed, Searched};
+///
+/// let network = typed::read(b"4C000F 4C0014 4300000008 4301000011 45")?;
+/// let searched = engine::search(network.bytes(), 1_000_000).expect("an accepted network");
+/// let Searched::Finished(best) = searched else {
+///     panic!("the budget is used up");
+/// };
+/// assert_eq!((best.starts(), best.tries()), (&[0, 3][..], 21));
+/// # Ok::<(), typed::Mistyped>(())
+/// ```
+pub fn search(file: &[u8], budget: u32) -> Result<Searched, Refusal> {
+    let mut starts = vec![0; read(file)?.lines as usize];
+    Ok(match search_into(file, &mut starts, budget)? {
+        RowSearched::Finished { rating, tries } => Searched::Finished(Best {
+            rating,
+            starts,
+            tries,
+        }),
+        RowSearched::Stopped { rating, tries } => Searched::Stopped {
+            so_far: SoFar { rating, starts },
+            tries,
+        },
+        RowSearched::StoppedWithNone { tries } => Searched::StoppedWithNone { tries },
+    })
+}
+
+/// As [`search`], the starts into a row of the caller, which has one place for
+/// each line. It stays as it is where the call is refused or the search stopped
+/// with none. Whether its starts are the best, the answer says, and not the row.
+///
+/// ```
+/// use engine::{typed, Rating, RowSearched};
+///
+/// let network = typed::read(b"4C000F 4C0014 4300000008 4301000011 45")?;
+/// let mut row = [0; 2];
+/// let ended = engine::search_into(network.bytes(), &mut row, 20);
+/// let rating = Rating { least: 2, sum: 2 };
+/// // Nobody knows yet that there is none better.
+/// assert_eq!(ended, Ok(RowSearched::Stopped { rating, tries: 20 }));
+/// assert_eq!(row, [0, 3]);
+/// # Ok::<(), typed::Mistyped>(())
+/// ```
+pub fn search_into(
+    file: &[u8],
+    start_row: &mut [i32],
+    budget: u32,
+) -> Result<RowSearched, Refusal> {
+    const EXPORT: &str = "examination_search";
+    let mut answer = [0; 3];
+    let returned = exports::search(file, start_row, budget, &mut answer);
+    let returned = answered(EXPORT, returned)?;
+    let [least, sum, tries] = answer;
+    let rating = rating(least, sum);
+    match returned {
+        0 => Ok(RowSearched::Finished { rating, tries }),
+        1 => Ok(RowSearched::Stopped { rating, tries }),
+        2 => Ok(RowSearched::StoppedWithNone { tries }),
+        other => unknown(EXPORT, other),
+    }
+}
+
+/// Says which of two sheets is better: the first if they are equal. A sheet of
+/// the wrong length loses to one that fits.
+///
+/// ```
+/// use engine::{typed, Better, Sheet};
+///
+/// let network = typed::read(b"4C000F 4C0014 4300000008 4301000011 45")?;
+/// let [anna, ben] = [Sheet::of_starts(&[0, 0]), Sheet::of_starts(&[0, -17])];
+/// assert_eq!(engine::better(network.bytes(), &anna, &ben), Better::Second);
+/// # Ok::<(), typed::Mistyped>(())
+/// ```
+pub fn better(file: &[u8], first: &Sheet, second: &Sheet) -> Better {
+    match exports::better(file, first.bytes(), second.bytes()) {
+        0 => Better::Neither,
+        1 => Better::First,
+        2 => Better::Second,
+        other => unknown("examination_better", other),
+    }
+}
+
+/// Marks a sheet: rates it and searches for the best timetable, with so many
+/// tries at most.
+///
+/// ```
+/// use engine::{typed, Mark, Rating, Sheet};
+///
+/// let network = typed::read(b"4C000F 4C0014 4300000008 4301000011 45")?;
+/// let mark = engine::mark(network.bytes(), &Sheet::of_starts(&[0, 0]), 1_000_000);
+/// let expected = Mark::Decided {
+///     sheet: Rating { least: 1, sum: 1 },
+///     best: Rating { least: 2, sum: 2 },
+///     equal: false,
+///     tries: 21,
+/// };
+/// assert_eq!(mark, Ok(expected));
+/// # Ok::<(), typed::Mistyped>(())
+/// ```
+pub fn mark(file: &[u8], sheet: &Sheet, budget: u32) -> Result<Mark, Refusal> {
+    const EXPORT: &str = "examination_mark";
+    let mut answer = [0; 6];
+    let returned = exports::mark(file, sheet.bytes(), budget, &mut answer);
+    let returned = answered(EXPORT, returned)?;
+    let [least, sum, best_least, best_sum, equal, tries] = answer;
+    let sheet = rating(least, sum);
+    match returned {
+        0 => Ok(Mark::Decided {
+            sheet,
+            best: rating(best_least, best_sum),
+            equal: equal == 1,
+            tries,
+        }),
+        1 => Ok(Mark::Undecided { sheet, tries }),
+        other => unknown(EXPORT, other),
+    }
+}
+
+/// The archive form of a network file: the same bytes for every file of one
+/// network.
+///
+/// ```
+/// use engine::typed;
+///
+/// let one = typed::read(b"4C000F 4C0014 4300000008 4301000011 45")?;
+/// let other = typed::read(b"4C000F 4300000008 4C0014 4301000011 45")?;
+/// assert_eq!(engine::archive(one.bytes()), engine::archive(other.bytes()));
+/// # Ok::<(), typed::Mistyped>(())
+/// ```
+pub fn archive(file: &[u8]) -> Result<Vec<u8>, Refusal> {
+    let mut row = vec![0; *ARCHIVE_LENGTHS.end()];
+    let length = archive_into(file, &mut row)?;
+    row.truncate(length);
+    Ok(row)
+}
+
+/// As [`archive`], to the beginning of a row of the caller, which stays as it is
+/// where the call is refused. Returns the length.
+///
+/// ```
+/// use engine::typed;
+///
+/// let network = typed::read(b"4C000F 4C0014 4300000008 4301000011 45")?;
+/// let mut row = [9; 18];
+/// assert_eq!(engine::archive_into(network.bytes(), &mut row), Ok(17));
+/// assert_eq!((&row[..17], row[17]), (network.bytes(), 9));
+/// # Ok::<(), typed::Mistyped>(())
+/// ```
+pub fn archive_into(file: &[u8], row: &mut [u8]) -> Result<usize, Refusal> {
+    const EXPORT: &str = "examination_archive";
+    let returned = answered(EXPORT, exports::archive(file, row))?;
+    let length = returned as usize;
+    match ARCHIVE_LENGTHS.contains(&length) && length <= row.len() {
+        true => Ok(length),
+        false => unknown(EXPORT, returned),
+    }
+}
+
+fn rating(least: u32, sum: u32) -> Rating {
+    Rating { least, sum }
+}
+
+/// Tells a refusal from an answer.
+fn answered(export: &str, returned: u32) -> Result<u32, Refusal> {
+    if returned < REFUSED {
+        return Ok(returned);
+    }
+    let Ok(ground) = Ground::try_from(returned / REFUSED) else {
+        unknown(export, returned);
+    };
+    let place = returned % REFUSED;
+    Err(Refusal { ground, place })
+}
+
+/// A return value that docs/ABI.md doesn't have can come only of a library
+/// that isn't this engine's. No answer made of it could be trusted.
+fn unknown(export: &str, returned: u32) -> ! {
+    panic!("{export} returned {returned}, which docs/ABI.md doesn't have: is the library another?")
+}

@@ -1,0 +1,94 @@
+//! The proved engine, safe to call from a program of the hall's own: one function
+//! for each export of docs/ABI.md, and [`typed`], the reader of networks as
+//! authors type them. Nothing is computed here; every number is the engine's.
+//!
+//! A network file is bytes. A [`Sheet`] has a start in minutes for each line of
+//! the network, in line order.
+//!
+//! | call          | on                     | answers                                  |
+//! |---------------|------------------------|------------------------------------------|
+//! | [`read`]      | a file                 | [`Counts`]: lines, stops, calls, cycle   |
+//! | [`rate`]      | a file, a sheet        | the sheet's [`Rating`]                   |
+//! | [`weighted`]  | a file, a sheet        | the same, by classes of stops            |
+//! | [`classes`]   | a file                 | [`Classes`]: which stops rate alike      |
+//! | [`search`]    | a file, a budget       | [`Searched`]: the best timetable         |
+//! | [`better`]    | a file, two sheets     | [`Better`]: which of them                |
+//! | [`mark`]      | a file, a sheet, a budget | [`Mark`]: the sheet beside the best   |
+//! | [`archive`]   | a file                 | the one form in which a network is kept  |
+//!
+//! What a call doesn't take it refuses, with a [`Ground`] and a place
+//! ([`Refusal`]). Nothing that is handed over makes a call panic.
+//!
+//! ```
+//! use engine::{typed, Mark, Searched, Sheet};
+//!
+//! # fn main() -> Result<(), Box<dyn std::error::Error>> {
+//! let network = typed::read(
+//!     b"4C 000F          # line 0: every 15 minutes
+//!       4C 0014          # line 1: every 20 minutes
+//!       43 00 00 0008    # line 0 reaches stop 0 after 8 minutes
+//!       43 01 00 0011    # line 1 reaches stop 0 after 17 minutes
+//!       45               # the end",
+//! )?;
+//! let rating = engine::rate(network.bytes(), &Sheet::of_starts(&[0, 0]))?;
+//! assert_eq!((rating.least, rating.sum), (1, 1));
+//!
+//! let Searched::Finished(best) = engine::search(network.bytes(), 1_000_000)? else {
+//!     return Err("the budget is used up".into());
+//! };
+//! assert_eq!(best.starts(), [0, 3]);
+//!
+//! let mark = engine::mark(network.bytes(), &Sheet::of_starts(best.starts()), 1_000_000)?;
+//! assert!(matches!(mark, Mark::Decided { equal: true, .. }));
+//! # Ok(())
+//! # }
+//! ```
+//!
+//! `examples/hall.rs` is a whole program.
+//!
+//! # Budgets
+//!
+//! A search makes at most as many tries as its budget says, 0 to `u32::MAX`; the
+//! command `exam` takes 1,000,000. Where it stops there, what it found may be
+//! beaten: [`Searched`] has another type for it.
+//!
+//! # Threads and stack
+//!
+//! The engine keeps no state, so that every function may be called from several
+//! threads at once. A call needs less than 512 KB of stack.
+//!
+//! # Where the engine comes from
+//!
+//! The build script links `libexamination.a`, which `rt staticlib examination`
+//! writes to `target/staticlib` of the repository. Where this crate stands
+//! elsewhere, or the library does, the variable `EXAMINATION_LIB` names the
+//! library's folder:
+//!
+//! ```text
+//! EXAMINATION_LIB=/opt/examination cargo build --release
+//! ```
+//!
+//! A program that uses this crate needs no more than the dependency; the library
+//! becomes a part of it, and nothing is looked for when it runs.
+
+#![deny(missing_docs)]
+#![deny(unsafe_code)]
+
+mod answers;
+mod calls;
+mod exports;
+mod ground;
+mod refusal;
+mod sheet;
+pub mod typed;
+
+pub use answers::{
+    Best, Better, Classes, Counts, Mark, Rating, RowSearched, Searched, SoFar, STOPS,
+};
+pub use calls::{
+    archive, archive_into, better, classes, classes_into, mark, rate, read, search, search_into,
+    weighted,
+};
+pub use ground::{Ground, NoGround};
+pub use refusal::Refusal;
+pub use sheet::Sheet;

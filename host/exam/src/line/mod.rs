@@ -1,0 +1,16 @@
+//! The command line, told by a table: the rows are the constants `VERB` of the
+//! verbs' files, above this folder, and come in as a parameter.
+//!
+//! | file          | what                                                   |
+//! |---------------|--------------------------------------------------------|
+//! | `table.rs`    | what a verb, an option and a request are               |
+//! | `options.rs`  | every option, and what a request says by it            |
+//! | `operands.rs` | the networks and sheets of a request, loaded           |
+//! | `parser.rs`   | words as a request, by the table                       |
+//! | `help.rs`     | what `--help` prints, by the table                     |
+
+pub mod help;
+pub mod operands;
+pub mod options;
+pub mod parser;
+pub mod table;

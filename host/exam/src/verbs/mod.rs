@@ -1,0 +1,65 @@
+//! A file for each verb, with its row of the table.
+
+mod archive;
+mod best;
+mod better;
+mod classes;
+mod mark;
+mod rate;
+mod read;
+mod same;
+
+use crate::line::table::Verb;
+
+/// All verbs, in the order of help.
+pub const ALL: [&Verb; 8] = [
+    &read::VERB,
+    &rate::VERB,
+    &classes::VERB,
+    &best::VERB,
+    &better::VERB,
+    &mark::VERB,
+    &archive::VERB,
+    &same::VERB,
+];
+
+#[cfg(test)]
+mod tests {
+    use super::ALL;
+    use crate::line::table::all_options;
+    use std::collections::BTreeSet;
+
+    #[test]
+    fn names_are_those_of_one_verb() {
+        let names: BTreeSet<&str> = ALL.iter().map(|verb| verb.name).collect();
+        assert_eq!(names.len(), ALL.len());
+    }
+
+    /// Usage has a word for each operand.
+    #[test]
+    fn operands_are_written_as_they_are_counted() {
+        for verb in ALL {
+            let words: Vec<&str> = verb.operands.split(' ').collect();
+            assert_eq!(words.len(), verb.operand_count(), "{}", verb.name);
+            let networks = words.iter().filter(|word| **word == "NETWORK");
+            assert_eq!(networks.count(), verb.networks, "{}", verb.name);
+        }
+    }
+
+    /// An option is excluded by the one that it excludes, and a verb that has
+    /// the one has the other.
+    #[test]
+    fn options_exclude_each_other() {
+        for verb in ALL {
+            for option in verb.options {
+                let Some(name) = option.excludes else {
+                    continue;
+                };
+                let other = verb.options.iter().find(|other| other.name == name);
+                let other = other.unwrap_or_else(|| panic!("{} hasn't {name}", verb.name));
+                assert_eq!(other.excludes, Some(option.name));
+            }
+        }
+        assert!(all_options(&ALL).all(|option| option.name.starts_with("--")));
+    }
+}

@@ -1,0 +1,13 @@
+//! `exam classes`.
+
+use crate::common::{exam_with, P9};
+
+#[test]
+fn classes_prints_lines_or_rows() {
+    let lines = "classes 2\nstop 0 weight 2 alike 0 1\nstop 2 weight 1 alike 2\n";
+    exam_with(&["classes", "-", "--typed"], P9.as_bytes()).printed(lines, 0);
+    let class = format!("class 0 0 2{}", " 255".repeat(61));
+    let weight = format!("weight 2 0 1{}", " 0".repeat(61));
+    let rows = format!("classes 2\n{class}\n{weight}\n");
+    exam_with(&["classes", "--rows", "--typed", "-"], P9.as_bytes()).printed(&rows, 0);
+}

@@ -1,0 +1,92 @@
+//! Refusals: the paper's line, the words for each ground, and the command at fault.
+
+use crate::common::{exam, exam_with, typed, Folder, HEX};
+use engine::Ground;
+use papers::files::{faulty_file, Dice};
+
+/// Grounds 1 to 14 by every verb that reads one file, as bytes and typed: the
+/// paper's line alone on standard output, the words and the bytes at the place
+/// on standard error.
+#[test]
+fn words_for_each_ground_of_the_file() {
+    let mut dice = Dice::new(92);
+    for ground in 1..=14u8 {
+        let faulty = faulty_file(&mut dice, ground);
+        let line = format!("refused {ground} at {}\n", faulty.place);
+        let words = Ground::ALL[usize::from(ground) - 1].words();
+        let place = match faulty.bytes.get(faulty.place) {
+            Some(byte) => format!("byte {}: {byte:02X}", faulty.place),
+            None => format!("nothing behind its {} bytes", faulty.place),
+        };
+        let pieces = [line.trim(), words, &place];
+        let text = typed(&faulty.bytes);
+        for verb in ["read", "classes", "best", "archive"] {
+            let bytes = &faulty.bytes;
+            exam_with(&[verb, "-", "--bytes"], bytes).told(&line, 1, &pieces);
+            exam_with(&[verb, "-", "--typed"], text.as_bytes()).told(&line, 1, &pieces);
+        }
+        let folder = Folder::new();
+        let network = folder.file("faulty.net", &faulty.bytes);
+        let sheet = folder.file("any.sheet", "0 1 2");
+        for verb in ["rate", "mark"] {
+            exam(&[verb, &network, &sheet]).told(&line, 1, &pieces);
+        }
+        exam(&["archive", "--raw", &network]).told(&line, 1, &pieces);
+        exam(&["same", HEX, &network]).told(&line, 1, &pieces);
+    }
+}
+
+#[test]
+fn words_for_a_sheet_of_the_wrong_length() {
+    let folder = Folder::new();
+    let pieces = [
+        "refused 15 at 0",
+        Ground::SheetLength.words(),
+        "lines: 2; sheet: 3 starts",
+    ];
+    let long = folder.file("long.sheet", "0 3 5");
+    let empty = folder.file("empty.sheet", "# nothing\n");
+    for verb in ["rate", "mark"] {
+        exam(&[verb, HEX, &long]).told("refused 15 at 0\n", 1, &pieces);
+        exam(&[verb, HEX, &empty]).told("refused 15 at 0\n", 1, &["sheet: 0 starts"]);
+    }
+    let odd = folder.file("odd.bin", [0; 7]);
+    exam(&["rate", HEX, &odd]).told("refused 15 at 0\n", 1, &["sheet: 7 bytes"]);
+}
+
+/// The whole message, with the command's bytes, what they say and the line.
+#[test]
+fn the_command_at_fault_is_shown() {
+    let folder = Folder::new();
+    let text = "# A note\r\n4C 000F # line 0\r\n\r\n  43 0040 0008 # stop 64\r\n45";
+    let network = folder.file("fault.hex", text);
+    let message = format!(
+        "exam: refused 8 at 3: the stop is above 63\n  {network}, byte 3: 43 00 40 00 08 (line 0, \
+         stop 64, offset 8)\n  line 4: 43 0040 0008 # stop 64\n"
+    );
+    let ran = exam(&["read", &network]);
+    ran.told("refused 8 at 3\n", 1, &[]);
+    assert_eq!(ran.err, message);
+    let cases = [
+        ("4C000F", "nothing behind its 3 bytes"),
+        ("4C000F 99", "byte 3: 99\n"),
+        ("4C000F 4300", "byte 3: 43 00\n"),
+        ("4C05A1 45", "byte 0: 4C 05 A1 (a line, period 1441)\n"),
+        (
+            "4C000F 4600000001",
+            "byte 3: 46 00 00 00 01 (line 0, stop 0, ride 1)\n",
+        ),
+        ("4C000F 45", "byte 3: 45 (the end)\n"),
+        ("4C000F 4300000008 45 43", "byte 9: 43\n"),
+    ];
+    for (text, piece) in cases {
+        let ran = exam_with(&["best", "--typed", "-"], text.as_bytes());
+        assert_eq!(ran.status, 1);
+        assert!(ran.err.contains(piece), "no '{piece}' in {ran:?}");
+        assert!(ran.err.ends_with(&format!("  line 1: {text}\n")), "{ran:?}");
+    }
+    // Nothing was typed, so that there is no line to show.
+    let ran = exam_with(&["best", "--typed", "-"], b"# nothing\n");
+    ran.told("refused 1 at 0\n", 1, &["nothing behind its 0 bytes\n"]);
+    assert!(!ran.err.contains("  line "));
+}

@@ -1,0 +1,95 @@
+//! Commands, their bytes and what they state.
+
+use crate::sections::network::{CALL, END, FOLLOW, LINE, STOPS};
+
+/// One command of a file.
+#[derive(Clone, Copy, Debug, PartialEq, Eq)]
+pub enum Command {
+    Line { period: u16 },
+    Call { line: u8, stop: u8, offset: u16 },
+    Follow { line: u8, stop: u8, ride: u16 },
+    End,
+}
+
+impl Command {
+    /// The bytes of the command.
+    pub fn bytes(self) -> Vec<u8> {
+        match self {
+            Command::Line { period } => [vec![LINE], period.to_be_bytes().to_vec()].concat(),
+            Command::Call { line, stop, offset } => {
+                [vec![CALL, line, stop], offset.to_be_bytes().to_vec()].concat()
+            }
+            Command::Follow { line, stop, ride } => {
+                [vec![FOLLOW, line, stop], ride.to_be_bytes().to_vec()].concat()
+            }
+            Command::End => vec![END],
+        }
+    }
+}
+
+/// The bytes of a run of commands.
+pub fn bytes_of(commands: &[Command]) -> Vec<u8> {
+    commands
+        .iter()
+        .flat_map(|command| command.bytes())
+        .collect()
+}
+
+/// What a run of commands, each of them in order, has stated.
+#[derive(Clone, Debug, Default, PartialEq, Eq)]
+pub struct Stated {
+    /// The periods of the lines.
+    pub periods: Vec<u16>,
+    /// Line, stop and offset of each call, in file order.
+    pub calls: Vec<(u8, u8, u16)>,
+}
+
+impl Stated {
+    /// What a run of commands in order has stated.
+    pub fn by(commands: &[Command]) -> Stated {
+        let mut stated = Stated::default();
+        for &command in commands {
+            stated.add(command);
+        }
+        stated
+    }
+
+    pub(super) fn add(&mut self, command: Command) {
+        match command {
+            Command::Line { period } => self.periods.push(period),
+            Command::Call { line, stop, offset } => self.calls.push((line, stop, offset)),
+            Command::Follow { line, stop, ride } => {
+                let latest = self.latest(line).expect("an earlier call of the line");
+                self.calls.push((line, stop, latest + ride));
+            }
+            Command::End => {}
+        }
+    }
+
+    /// The offset of a line's latest call.
+    pub fn latest(&self, line: u8) -> Option<u16> {
+        let of_line = self.calls.iter().rev().find(|call| call.0 == line);
+        of_line.map(|call| call.2)
+    }
+
+    /// Whether a line calls at a stop.
+    pub fn calls_at(&self, line: u8, stop: u8) -> bool {
+        self.calls
+            .iter()
+            .any(|call| (call.0, call.1) == (line, stop))
+    }
+
+    /// The stops at which a line doesn't call.
+    pub fn free_stops(&self, line: u8) -> Vec<u8> {
+        (0..STOPS as u8)
+            .filter(|&stop| !self.calls_at(line, stop))
+            .collect()
+    }
+
+    /// The lines that have no call.
+    pub fn silent_lines(&self) -> Vec<u8> {
+        (0..self.periods.len() as u8)
+            .filter(|&line| self.latest(line).is_none())
+            .collect()
+    }
+}

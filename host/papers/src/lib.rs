@@ -1,0 +1,21 @@
+//! The papers written out in plain Rust from documents 01 and 02 and source 000
+//! alone, to compare the proved engine with, and what makes the comparison.
+//!
+//! * [`sections`] is the independent implementation, one file for each section
+//!   of document 01 and for each request of document 02. It uses nothing else
+//!   here.
+//! * [`files`] makes network files and sheets, good and bad, from a seed, and
+//!   [`small`] networks so small that every timetable can be rated.
+//! * [`plain`] is rate in quick Rust by hand, [`strong`] the walk, and [`measure`]
+//!   measures the engine's rate call beside the one.
+//! * [`program`] runs the proved engine's program `best`.
+
+#![forbid(unsafe_code)]
+
+pub mod files;
+pub mod measure;
+pub mod plain;
+pub mod program;
+pub mod sections;
+pub mod small;
+pub mod strong;

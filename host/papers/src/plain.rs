@@ -1,0 +1,226 @@
+//! Rate as one writes it by hand to be quick, for the benchmark alone: what the
+//! engine's time is measured by. [`crate::sections`] is written to be read beside
+//! document 01 and says nothing about speed. Everything lies in rows of fixed
+//! length, so that a call takes nothing from the heap.
+
+use crate::sections::network::{
+    Refusal, CALL, END, FOLLOW, LINE, MAX_CALLS, MAX_CYCLE, MAX_LINES, MAX_OFFSET, MAX_PERIOD,
+    STOPS,
+};
+use crate::sections::rating::Rating;
+
+/// A number for each line.
+type LineRow = [u32; MAX_LINES];
+
+/// Rates a sheet of 4 bytes for each start, or refuses on the grounds of
+/// document 01.
+pub fn rate(file: &[u8], sheet: &[u8]) -> Result<Rating, Refusal> {
+    let mut net = Network::empty();
+    net.read(file)?;
+    if sheet.len() != 4 * net.lines {
+        return Err(Refusal {
+            number: 15,
+            place: 0,
+        });
+    }
+    Ok(net.rating(&net.starts(sheet)))
+}
+
+/// What has been read of a file.
+struct Network {
+    lines: usize,
+    periods: LineRow,
+    /// The least common multiple of the periods.
+    cycle: u32,
+    calls: usize,
+    /// The offset of each line's latest call.
+    latest: [Option<u32>; MAX_LINES],
+    /// For each stop the lines that call there, line i as bit i.
+    lines_at: [u16; STOPS],
+    /// Offsets by stop and line; those of one stop lie together because they
+    /// are compared with each other.
+    offsets: [[u16; MAX_LINES]; STOPS],
+}
+
+// ---------------------------------------------------------------------------
+// Reading
+// ---------------------------------------------------------------------------
+
+impl Network {
+    fn empty() -> Network {
+        Network {
+            lines: 0,
+            periods: [0; MAX_LINES],
+            cycle: 1,
+            calls: 0,
+            latest: [None; MAX_LINES],
+            lines_at: [0; STOPS],
+            offsets: [[0; MAX_LINES]; STOPS],
+        }
+    }
+
+    fn read(&mut self, file: &[u8]) -> Result<(), Refusal> {
+        let mut place = 0;
+        loop {
+            let taken = match file[place..] {
+                [LINE, high, low, ..] => self.line(number(high, low)).map(|()| 3),
+                [command @ (CALL | FOLLOW), line, stop, high, low, ..] => {
+                    let follows = command == FOLLOW;
+                    let minutes = number(high, low);
+                    let (line, stop) = (usize::from(line), usize::from(stop));
+                    self.call(line, stop, minutes, follows).map(|()| 5)
+                }
+                [END] => return self.end().map_err(|number| Refusal { number, place }),
+                // Here the place is behind the command, if the end is in order.
+                [END, ..] => self.end().and(Err(14)),
+                [] => Err(1),
+                [LINE | CALL | FOLLOW, ..] => Err(3),
+                _ => Err(2),
+            };
+            place += taken.map_err(|number| Refusal {
+                number,
+                place: place + usize::from(number == 14),
+            })?;
+        }
+    }
+
+    /// Grounds 4 to 6.
+    fn line(&mut self, period: u32) -> Result<(), u8> {
+        if self.lines == MAX_LINES {
+            return Err(4);
+        }
+        if period == 0 || period > MAX_PERIOD {
+            return Err(5);
+        }
+        let cycle = self.cycle / divisor(self.cycle, period) * period;
+        if cycle > MAX_CYCLE {
+            return Err(6);
+        }
+        self.cycle = cycle;
+        self.periods[self.lines] = period;
+        self.lines += 1;
+        Ok(())
+    }
+
+    /// Grounds 7 to 12. The minutes count from the line's start or, where the
+    /// call follows, from its latest call.
+    fn call(&mut self, line: usize, stop: usize, minutes: u32, follows: bool) -> Result<(), u8> {
+        if line >= self.lines {
+            return Err(7);
+        }
+        if stop >= STOPS {
+            return Err(8);
+        }
+        if self.lines_at[stop] & (1 << line) != 0 {
+            return Err(9);
+        }
+        if self.calls == MAX_CALLS {
+            return Err(10);
+        }
+        let before = if follows {
+            self.latest[line].ok_or(11)?
+        } else {
+            0
+        };
+        let offset = before + minutes;
+        if offset > MAX_OFFSET {
+            return Err(12);
+        }
+        self.lines_at[stop] |= 1 << line;
+        self.offsets[stop][line] = offset as u16;
+        self.latest[line] = Some(offset);
+        self.calls += 1;
+        Ok(())
+    }
+
+    /// Ground 13.
+    fn end(&self) -> Result<(), u8> {
+        if self.lines == 0 || self.latest[..self.lines].contains(&None) {
+            return Err(13);
+        }
+        Ok(())
+    }
+}
+
+fn number(high: u8, low: u8) -> u32 {
+    u32::from(u16::from_be_bytes([high, low]))
+}
+
+fn divisor(mut a: u32, mut b: u32) -> u32 {
+    while b != 0 {
+        (a, b) = (b, a % b);
+    }
+    a
+}
+
+// ---------------------------------------------------------------------------
+// Rating
+// ---------------------------------------------------------------------------
+
+impl Network {
+    /// The sheet's starts, each less than its line's period, so that no
+    /// arrival has a sign. Whole periods change no gap.
+    fn starts(&self, sheet: &[u8]) -> LineRow {
+        let mut starts = [0; MAX_LINES];
+        for (line, bytes) in sheet.chunks_exact(4).enumerate() {
+            let start = i32::from_be_bytes([bytes[0], bytes[1], bytes[2], bytes[3]]);
+            starts[line] = start.rem_euclid(self.periods[line] as i32) as u32;
+        }
+        starts
+    }
+
+    fn rating(&self, starts: &LineRow) -> Rating {
+        let divisors = self.divisors();
+        let mut rating = Rating {
+            least: u32::MAX,
+            sum: 0,
+        };
+        for stop in 0..STOPS {
+            if self.lines_at[stop] != 0 {
+                let gap = self.stop_gap(stop, starts, &divisors);
+                rating.least = rating.least.min(gap);
+                rating.sum += gap;
+            }
+        }
+        rating
+    }
+
+    /// The greatest common divisors of the periods of each line and of those
+    /// before it. Two lines may meet at many stops.
+    fn divisors(&self) -> [LineRow; MAX_LINES] {
+        let mut divisors = [[0; MAX_LINES]; MAX_LINES];
+        for line in 1..self.lines {
+            for before in 0..line {
+                divisors[line][before] = divisor(self.periods[line], self.periods[before]);
+            }
+        }
+        divisors
+    }
+
+    /// A lone call's period, else the least by theorem 3.1.2 over the pairs of
+    /// calls. Of the difference of two arrivals the sign doesn't matter: it
+    /// exchanges d and g-d.
+    fn stop_gap(&self, stop: usize, starts: &LineRow, divisors: &[LineRow; MAX_LINES]) -> u32 {
+        let mut lines = self.lines_at[stop];
+        if lines.count_ones() == 1 {
+            return self.periods[lines.trailing_zeros() as usize];
+        }
+        let mut arrivals = [(0, 0); MAX_LINES];
+        let mut count = 0;
+        let mut least = u32::MAX;
+        while lines != 0 {
+            let line = lines.trailing_zeros() as usize;
+            let arrival = starts[line] + u32::from(self.offsets[stop][line]);
+            for &(before, earlier) in &arrivals[..count] {
+                let g = divisors[line][before];
+                let d = u32::abs_diff(arrival, earlier) % g;
+                least = least.min(d).min(g - d);
+            }
+            arrivals[count] = (line, arrival);
+            count += 1;
+            // Without the lowest bit, this line's.
+            lines &= lines - 1;
+        }
+        least
+    }
+}

@@ -1,0 +1,101 @@
+//! The deepest search and the longest archive form on a small stack: 16 lines of
+//! the longest period, 256 calls, in a thread with 512 KB.
+
+use engine::{Mark, Searched, Sheet};
+use papers::files::{bytes_of, retyped, Command, Dice, Stated};
+use papers::sections::network::read;
+use papers::sections::walk::{walk, Answer};
+
+const STACK: usize = 512 * 1_024;
+const BUDGET: u32 = 3_000_000;
+
+/// 16 lines of 1,440 that meet at 16 stops, with these offsets; the file is tidy.
+fn deepest(offset: impl Fn(u16) -> u16) -> Vec<Command> {
+    let lines = (0..16).map(|_| Command::Line { period: 1_440 });
+    let calls = (0..256).map(|call: u16| Command::Call {
+        line: (call / 16) as u8,
+        stop: (call % 16) as u8,
+        offset: offset(call),
+    });
+    lines.chain(calls).chain([Command::End]).collect()
+}
+
+/// Offsets all over the day.
+fn scattered(call: u16) -> u16 {
+    (u32::from(call) * 7_919 % 1_440) as u16
+}
+
+/// Runs in a thread with the small stack; an overflow ends the whole process.
+fn on_small_stack<T: Send>(work: impl FnOnce() -> T + Send) -> T {
+    std::thread::scope(|scope| {
+        let thread = std::thread::Builder::new()
+            .stack_size(STACK)
+            .spawn_scoped(scope, work);
+        let thread = thread.expect("a thread");
+        thread.join().expect("an answer")
+    })
+}
+
+/// The engine's search on the small stack, beside the walk: finished or not,
+/// least gap, sum, tries.
+fn compare(commands: &[Command]) -> (bool, u32, u32, u32) {
+    let file = &bytes_of(commands);
+    let net = read(file).expect("an accepted file");
+    assert_eq!((net.lines(), net.calls), (16, 256));
+    let found = on_small_stack(|| engine::search(file, BUDGET));
+    let (finished, rating, tries, starts) = match found.expect("an accepted file") {
+        Searched::Finished(best) => {
+            let (rating, tries) = (best.rating(), best.tries());
+            (true, rating, tries, best.starts().to_vec())
+        }
+        Searched::Stopped { so_far, tries } => {
+            (false, so_far.rating(), tries, so_far.starts().to_vec())
+        }
+        Searched::StoppedWithNone { .. } => panic!("16 tries reach a full timetable"),
+    };
+    let found = (finished, rating.least, rating.sum, tries);
+    let walked = walk(&net, BUDGET);
+    let expected = match walked.answer {
+        Answer::Finished { best, tries } => (true, best.least, best.sum, tries),
+        Answer::Stopped { best, tries } => (false, best.least, best.sum, tries),
+        Answer::StoppedWithNone { .. } => panic!("16 tries reach a full timetable"),
+    };
+    assert_eq!(found, expected);
+    assert_eq!(Some(starts), walked.starts);
+    found
+}
+
+/// With equal offsets every line finds its place, and the search is finished.
+#[test]
+fn a_finished_search_on_512_kilobytes() {
+    assert_eq!(compare(&deepest(|_| 0)), (true, 90, 1_440, 1_836_001));
+}
+
+/// With offsets all over the day the budget is used up.
+#[test]
+fn a_stopped_search_on_512_kilobytes() {
+    let (finished, _, _, tries) = compare(&deepest(scattered));
+    assert_eq!((finished, tries), (false, BUDGET));
+}
+
+/// Marking goes as deep, on top of its own rows.
+#[test]
+fn the_deepest_mark_on_512_kilobytes() {
+    let file = bytes_of(&deepest(|_| 0));
+    let sheet = Sheet::of_starts(&[i32::MIN; 16]);
+    let mark = on_small_stack(|| engine::mark(&file, &sheet, 100_000));
+    let Ok(Mark::Undecided { sheet, tries }) = mark else {
+        panic!("the engine says {mark:?}");
+    };
+    assert_eq!((sheet.least, sheet.sum, tries), (0, 0, 100_000));
+}
+
+/// Hardly a command stands where the archive form has it.
+#[test]
+fn the_longest_archive_form_on_512_kilobytes() {
+    let tidy = deepest(scattered);
+    let typed = retyped(&mut Dice::new(95), &Stated::by(&tidy));
+    assert_ne!(typed, tidy);
+    let form = on_small_stack(|| engine::archive(&bytes_of(&typed)));
+    assert_eq!(form, Ok(bytes_of(&tidy)));
+}

@@ -1,0 +1,84 @@
+//! The papers' answers in the wrapper's types; a search's the other way, since
+//! nobody but the wrapper makes a best.
+
+use engine::{Counts, Ground, Mark, Rating, Refusal, Searched};
+use papers::sections;
+use papers::sections::network::Network;
+use papers::sections::sheets::Marked;
+use papers::sections::walk::{Answer, Walked};
+
+pub fn refusal(paper: sections::network::Refusal) -> Refusal {
+    let number = u32::from(paper.number);
+    Refusal {
+        ground: Ground::try_from(number).expect("a ground"),
+        place: paper.place as u32,
+    }
+}
+
+pub fn rated(paper: sections::rating::Rating) -> Rating {
+    Rating {
+        least: paper.least,
+        sum: paper.sum,
+    }
+}
+
+pub fn rating_or_refusal(
+    paper: Result<sections::rating::Rating, sections::network::Refusal>,
+) -> Result<Rating, Refusal> {
+    paper.map(rated).map_err(refusal)
+}
+
+pub fn counts(net: &Network) -> Counts {
+    let counts = net.counts();
+    Counts {
+        lines: counts.lines as u32,
+        served_stops: counts.served_stops as u32,
+        calls: counts.calls as u32,
+        cycle: counts.cycle,
+    }
+}
+
+pub fn walked(searched: Searched) -> Walked {
+    let paper = |rating: Rating| sections::rating::Rating {
+        least: rating.least,
+        sum: rating.sum,
+    };
+    let (answer, starts) = match searched {
+        Searched::Finished(found) => {
+            let (best, tries) = (paper(found.rating()), found.tries());
+            (
+                Answer::Finished { best, tries },
+                Some(found.starts().to_vec()),
+            )
+        }
+        Searched::Stopped { so_far, tries } => {
+            let best = paper(so_far.rating());
+            (
+                Answer::Stopped { best, tries },
+                Some(so_far.starts().to_vec()),
+            )
+        }
+        Searched::StoppedWithNone { tries } => (Answer::StoppedWithNone { tries }, None),
+    };
+    Walked { answer, starts }
+}
+
+pub fn marked(paper: Marked) -> Mark {
+    match paper {
+        Marked::Decided {
+            sheet,
+            best,
+            equal,
+            tries,
+        } => Mark::Decided {
+            sheet: rated(sheet),
+            best: rated(best),
+            equal,
+            tries,
+        },
+        Marked::Undecided { sheet, tries } => Mark::Undecided {
+            sheet: rated(sheet),
+            tries,
+        },
+    }
+}

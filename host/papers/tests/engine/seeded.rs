@@ -1,0 +1,241 @@
+//! Every call on seeded files and sheets of every kind.
+
+use crate::answers::{counts, marked, rating_or_refusal, refusal, walked};
+use engine::{Mark, Refusal, Sheet};
+use papers::files::{any_budget, any_file, any_sheet_bytes, random_bytes, sheet_bytes, Dice};
+use papers::sections;
+use papers::sections::archive::archive_form;
+use papers::sections::network::{read, Network};
+use papers::sections::sheets::{better_bytes, mark_bytes, rate_bytes, weighted_bytes, Better};
+use papers::sections::walk::{walk, Answer};
+use std::fmt::Debug;
+use std::panic::{catch_unwind, AssertUnwindSafe};
+use std::sync::atomic::{AtomicUsize, Ordering};
+
+const USUAL_CASES: usize = 20_000;
+
+/// EXAM_CASES asks for more cases, never for fewer.
+fn cases() -> usize {
+    let asked = std::env::var("EXAM_CASES").map(|number| number.parse());
+    let asked = asked.map_or(0, |number| number.expect("EXAM_CASES is a number"));
+    USUAL_CASES.max(asked)
+}
+
+/// What a case was, to see that every kind came.
+#[derive(Clone, Copy, Debug, Default, PartialEq, Eq)]
+struct Kind {
+    /// The ground that rate gave, 0 if it rated.
+    ground: u32,
+    /// Finished, stopped, stopped with none.
+    search: Option<usize>,
+    /// First, second, neither.
+    better: usize,
+    /// Decided equal, decided below, undecided.
+    mark: Option<usize>,
+    empty: bool,
+    very_long: bool,
+    /// Fewer classes than served stops.
+    alike: bool,
+    /// The archive form isn't the file itself.
+    untidy: bool,
+}
+
+/// Compares every call on the case of a number.
+fn case(number: usize) -> Kind {
+    let mut dice = Dice::new(0x0EE0_0000_0000 + number as u64);
+    let file = any_file(&mut dice);
+    let net = read(&file).map_err(refusal);
+    let lines = net
+        .as_ref()
+        .map_or_else(|_| dice.below(6), |net| net.lines());
+    let sheets = [0, 1].map(|_| any_sheet_bytes(&mut dice, lines));
+    let mut kind = Kind {
+        empty: file.is_empty(),
+        very_long: file.len() >= 10_000,
+        ..Kind::default()
+    };
+    assert_eq!(
+        engine::read(&file),
+        net.as_ref().map(counts).map_err(|&why| why)
+    );
+    compare_classes(&file, &net, &mut kind);
+    compare_search(&mut dice, &file, &net, &mut kind);
+    compare_sheets(&mut dice, &file, &net, &sheets, &mut kind);
+    compare_archive(&mut dice, &file, &net, &sheets, &mut kind);
+    kind
+}
+
+fn compare_classes(file: &[u8], net: &Result<Network, Refusal>, kind: &mut Kind) {
+    let found = engine::classes(file);
+    match net {
+        Err(why) => assert_eq!(found, Err(*why)),
+        Ok(net) => {
+            let found = found.expect("an accepted file");
+            let paper = sections::classes::classes(net);
+            assert_eq!(found.class_row, paper.class_row);
+            assert_eq!(found.weight_row, paper.weight_row);
+            assert_eq!(found.count as usize, paper.count);
+            kind.alike = paper.count < net.served_stops().len();
+        }
+    }
+}
+
+fn compare_search(dice: &mut Dice, file: &[u8], net: &Result<Network, Refusal>, kind: &mut Kind) {
+    let budget = any_budget(dice);
+    let found = engine::search(file, budget);
+    match net {
+        Err(why) => assert_eq!(found, Err(*why)),
+        Ok(net) => {
+            let paper = walk(net, budget);
+            let ended = match paper.answer {
+                Answer::Finished { .. } => 0,
+                Answer::Stopped { .. } => 1,
+                Answer::StoppedWithNone { .. } => 2,
+            };
+            assert_eq!(found.map(walked), Ok(paper));
+            kind.search = Some(ended);
+        }
+    }
+}
+
+fn compare_sheets(
+    dice: &mut Dice,
+    file: &[u8],
+    net: &Result<Network, Refusal>,
+    [first, second]: &[Vec<u8>; 2],
+    kind: &mut Kind,
+) {
+    let [one, other] = [first, second].map(|bytes| Sheet::of_bytes(bytes.clone()));
+    let paper = rating_or_refusal(rate_bytes(file, first));
+    kind.ground = paper.map_or_else(|why| why.ground.number(), |_| 0);
+    assert_eq!(engine::rate(file, &one), paper);
+    let paper = rating_or_refusal(weighted_bytes(file, first));
+    assert_eq!(engine::weighted(file, &one), paper);
+    let (expected, at) = match better_bytes(file, first, second) {
+        Better::First => (engine::Better::First, 0),
+        Better::Second => (engine::Better::Second, 1),
+        Better::Neither => (engine::Better::Neither, 2),
+    };
+    assert_eq!(engine::better(file, &one, &other), expected);
+    kind.better = at;
+    let budget = any_budget(dice);
+    compare_mark(file, first, budget, kind);
+    // Candidates hand in the best timetable more often than chance does.
+    if let (Ok(net), true) = (net, dice.once_in(4)) {
+        if let Some(starts) = walk(net, budget).starts {
+            compare_mark(file, &sheet_bytes(&starts), budget, kind);
+        }
+    }
+}
+
+fn compare_mark(file: &[u8], sheet: &[u8], budget: u32, kind: &mut Kind) {
+    let paper = mark_bytes(file, sheet, budget).map(marked).map_err(refusal);
+    let found = engine::mark(file, &Sheet::of_bytes(sheet.to_vec()), budget);
+    assert_eq!(found, paper);
+    kind.mark = paper.ok().map(|mark| match mark {
+        Mark::Decided { equal: true, .. } => 0,
+        Mark::Decided { equal: false, .. } => 1,
+        Mark::Undecided { .. } => 2,
+    });
+}
+
+/// The archive form beside the papers', in a row that is longer by some bytes;
+/// and every call answers the same on the file and on its archive form.
+fn compare_archive(
+    dice: &mut Dice,
+    file: &[u8],
+    net: &Result<Network, Refusal>,
+    sheets: &[Vec<u8>; 2],
+    kind: &mut Kind,
+) {
+    let form = engine::archive(file);
+    let paper = net.as_ref().map(archive_form).map_err(|&why| why);
+    assert_eq!(form, paper);
+    let guard = random_bytes(dice, 1_340);
+    let mut row = guard.clone();
+    let length = engine::archive_into(file, &mut row);
+    let Ok(form) = form else {
+        assert_eq!((length, row), (form.map(|form| form.len()), guard));
+        return;
+    };
+    assert_eq!(length, Ok(form.len()));
+    assert_eq!(row, [&form, &guard[form.len()..]].concat());
+    kind.untidy = form != file;
+    let (sheets, budget) = (sheets.clone().map(Sheet::of_bytes), any_budget(dice));
+    let on_form = answers(&form, &sheets, budget);
+    assert_eq!(answers(file, &sheets, budget), on_form);
+}
+
+/// What every call answers on a file.
+fn answers(file: &[u8], [first, second]: &[Sheet; 2], budget: u32) -> impl PartialEq + Debug {
+    (
+        engine::read(file),
+        engine::rate(file, first),
+        engine::weighted(file, first),
+        engine::classes(file),
+        engine::search(file, budget),
+        engine::better(file, first, second),
+        engine::mark(file, first, budget),
+        engine::archive(file),
+    )
+}
+
+/// The cases on two threads, which call the engine at once.
+fn all_kinds(cases: usize) -> Vec<Kind> {
+    let next = AtomicUsize::new(0);
+    let work = || {
+        let mut kinds = Vec::new();
+        loop {
+            let number = next.fetch_add(1, Ordering::Relaxed);
+            if number >= cases {
+                return kinds;
+            }
+            let kind = catch_unwind(AssertUnwindSafe(|| case(number)));
+            kinds.push(kind.unwrap_or_else(|_| panic!("case {number} differs, see above")));
+        }
+    };
+    std::thread::scope(|scope| {
+        let threads = [scope.spawn(work), scope.spawn(work)];
+        threads
+            .map(|thread| thread.join().expect("no case differs"))
+            .concat()
+    })
+}
+
+#[test]
+fn seeded_files_and_sheets() {
+    let cases = cases();
+    let kinds = all_kinds(cases);
+    assert_eq!(kinds.len(), cases);
+    let count = |test: &dyn Fn(&Kind) -> bool| kinds.iter().filter(|kind| test(kind)).count();
+    let grounds: Vec<usize> = (0..=15)
+        .map(|ground| count(&|kind| kind.ground == ground))
+        .collect();
+    let searches = [0, 1, 2].map(|end| count(&|kind| kind.search == Some(end)));
+    let betters = [0, 1, 2].map(|at| count(&|kind| kind.better == at));
+    let marks = [0, 1, 2].map(|at| count(&|kind| kind.mark == Some(at)));
+    let long = count(&|kind| kind.very_long);
+    let empty = count(&|kind| kind.empty);
+    let alike = count(&|kind| kind.alike);
+    let untidy = count(&|kind| kind.untidy);
+    println!(
+        "{cases} cases; rated {}, refused by ground {:?}",
+        grounds[0],
+        &grounds[1..]
+    );
+    println!("searches finished, stopped, stopped with none: {searches:?}");
+    println!("better first, second, neither: {betters:?}");
+    println!("marks equal, below, undecided: {marks:?}");
+    println!("very long {long}, empty {empty}, with alike stops {alike}, untidy {untidy}");
+    // The kinds that come least often are some twenty in 20,000.
+    let least = cases / 1_000;
+    let of_kinds = [
+        &grounds[..],
+        &searches,
+        &betters,
+        &marks,
+        &[long, empty, alike, untidy],
+    ]
+    .concat();
+    assert!(of_kinds.iter().all(|&count| count >= least));
+}

@@ -1,0 +1,276 @@
+//! Each export beside the papers, on one file.
+
+use crate::lent::{answer_row, row_length, Lent};
+use crate::{
+    examination_archive, examination_better, examination_classes, examination_mark,
+    examination_rate, examination_read, examination_search, examination_weighted,
+};
+use papers::files::{any_budget, any_sheet_bytes, bytes_of, Command, Dice};
+use papers::sections::archive::{archive, archive_form};
+use papers::sections::classes::class_call;
+use papers::sections::network::{read, read_counts, Refusal};
+use papers::sections::rating::Rating;
+use papers::sections::sheets::{
+    better_bytes, mark_bytes, rate_bytes, weighted_bytes, Better, Marked,
+};
+use papers::sections::walk::{search, Answer};
+
+/// The return value of a refusal.
+pub fn refused(refusal: Refusal) -> u32 {
+    65_536 * u32::from(refusal.number) + refusal.place as u32
+}
+
+/// How often each return value was seen: 0, 1, 2 as such, grounds by their
+/// number behind them.
+#[derive(Clone, Debug, Default)]
+pub struct Seen {
+    pub answers: [usize; 3],
+    pub grounds: [usize; 19],
+}
+
+impl Seen {
+    pub fn add(&mut self, returned: u32) {
+        match returned / 65_536 {
+            0 => self.answers[returned as usize] += 1,
+            number => self.grounds[number as usize] += 1,
+        }
+    }
+
+    /// Whether each of these grounds was seen often, and no other one.
+    pub fn has_exactly(&self, grounds: &[usize]) -> bool {
+        (1..19).all(|number| match grounds.contains(&number) {
+            true => self.grounds[number] >= 10,
+            false => self.grounds[number] == 0,
+        })
+    }
+}
+
+fn compare_read(dice: &mut Dice, file: &[u8], seen: &mut Seen) {
+    let mut answer = answer_row::<4>(dice);
+    let before = answer.clone();
+    let (returned, expected) = match read_counts(file) {
+        Err(refusal) => (refused(refusal), before),
+        Ok(counts) => {
+            let [lines, stops, calls] =
+                [counts.lines, counts.served_stops, counts.calls].map(|count| count as u32);
+            (0, before.holding(&[lines, stops, calls, counts.cycle]))
+        }
+    };
+    let found = unsafe { examination_read(file.as_ptr(), file.len(), answer.pointer().cast()) };
+    assert_eq!((found, answer), (returned, expected));
+    seen.add(found);
+}
+
+pub type Rates = unsafe extern "C" fn(*const u8, usize, *const u8, usize, *mut [u32; 2]) -> u32;
+
+pub fn compare_rate(
+    dice: &mut Dice,
+    (export, paper): (Rates, Result<Rating, Refusal>),
+    file: &[u8],
+    sheet: &[u8],
+    seen: &mut Seen,
+) {
+    let mut answer = answer_row::<2>(dice);
+    let before = answer.clone();
+    let (returned, expected) = match paper {
+        Err(refusal) => (refused(refusal), before),
+        Ok(rating) => (0, before.holding(&[rating.least, rating.sum])),
+    };
+    let found = unsafe {
+        export(
+            file.as_ptr(),
+            file.len(),
+            sheet.as_ptr(),
+            sheet.len(),
+            answer.pointer().cast(),
+        )
+    };
+    assert_eq!((found, answer), (returned, expected));
+    seen.add(found);
+}
+
+fn compare_classes(dice: &mut Dice, file: &[u8], seen: &mut Seen) {
+    let mut class_row = Lent::of(row_length(dice, 64), || dice.byte());
+    let mut weight_row = Lent::of(row_length(dice, 64), || dice.bits() as u16);
+    let mut answer = answer_row::<1>(dice);
+    let (mut class_after, mut weight_after) = (class_row.clone(), weight_row.clone());
+    let (returned, answer_after) = match class_call(file, class_after.row(), weight_after.row()) {
+        Err(refusal) => (refused(refusal), answer.clone()),
+        Ok(count) => (0, answer.holding(&[count as u32])),
+    };
+    let found = unsafe {
+        examination_classes(
+            file.as_ptr(),
+            file.len(),
+            class_row.pointer(),
+            class_row.length(),
+            weight_row.pointer(),
+            weight_row.length(),
+            answer.pointer().cast(),
+        )
+    };
+    assert_eq!((found, answer), (returned, answer_after));
+    assert_eq!((class_row, weight_row), (class_after, weight_after));
+    seen.add(found);
+}
+
+fn compare_search(dice: &mut Dice, file: &[u8], lines: usize, seen: &mut Seen) {
+    let mut start_row = Lent::of(row_length(dice, lines), || dice.bits() as i32);
+    let mut answer = answer_row::<3>(dice);
+    let budget = small_budget(dice);
+    let mut starts_after = start_row.clone();
+    let (returned, answer_after) = match search(file, starts_after.row(), budget) {
+        Err(refusal) => (refused(refusal), answer.clone()),
+        Ok(answered) => {
+            let (returned, best, tries) = match answered {
+                Answer::Finished { best, tries } => (0, best, tries),
+                Answer::Stopped { best, tries } => (1, best, tries),
+                Answer::StoppedWithNone { tries } => (2, Rating { least: 0, sum: 0 }, tries),
+            };
+            (returned, answer.holding(&[best.least, best.sum, tries]))
+        }
+    };
+    let found = unsafe {
+        examination_search(
+            file.as_ptr(),
+            file.len(),
+            start_row.pointer(),
+            start_row.length(),
+            budget,
+            answer.pointer().cast(),
+        )
+    };
+    assert_eq!((found, answer), (returned, answer_after));
+    assert_eq!(start_row, starts_after);
+    seen.add(found);
+}
+
+/// The generator's budgets up to 2,000: longer searches are compared elsewhere.
+fn small_budget(dice: &mut Dice) -> u32 {
+    any_budget(dice) % 2_000
+}
+
+pub fn compare_better(file: &[u8], first: &[u8], second: &[u8], seen: &mut Seen) {
+    let expected = match better_bytes(file, first, second) {
+        Better::Neither => 0,
+        Better::First => 1,
+        Better::Second => 2,
+    };
+    let found = unsafe {
+        examination_better(
+            file.as_ptr(),
+            file.len(),
+            first.as_ptr(),
+            first.len(),
+            second.as_ptr(),
+            second.len(),
+        )
+    };
+    assert_eq!(found, expected);
+    seen.add(found);
+}
+
+pub fn compare_mark(dice: &mut Dice, file: &[u8], sheet: &[u8], seen: &mut Seen) {
+    let mut answer = answer_row::<6>(dice);
+    let budget = small_budget(dice);
+    let before = answer.clone();
+    let (returned, expected) = match mark_bytes(file, sheet, budget) {
+        Err(refusal) => (refused(refusal), before),
+        Ok(Marked::Decided {
+            sheet,
+            best,
+            equal,
+            tries,
+        }) => {
+            let [equal, tries] = [u32::from(equal), tries];
+            let row = [sheet.least, sheet.sum, best.least, best.sum, equal, tries];
+            (0, before.holding(&row))
+        }
+        Ok(Marked::Undecided { sheet, tries }) => {
+            let row = [sheet.least, sheet.sum, 0, 0, 0, tries];
+            (1, before.holding(&row))
+        }
+    };
+    let found = unsafe {
+        examination_mark(
+            file.as_ptr(),
+            file.len(),
+            sheet.as_ptr(),
+            sheet.len(),
+            budget,
+            answer.pointer().cast(),
+        )
+    };
+    assert_eq!((found, answer), (returned, expected));
+    seen.add(found);
+}
+
+/// The length of a file's archive form; any length if the file is refused.
+fn archive_length(dice: &mut Dice, file: &[u8]) -> usize {
+    match read(file) {
+        Ok(net) => archive_form(&net).len(),
+        Err(_) => dice.within(1, 40),
+    }
+}
+
+pub fn compare_archive(dice: &mut Dice, file: &[u8], length: usize, seen: &mut Seen) {
+    let mut row = Lent::of(length, || dice.byte());
+    let mut row_after = row.clone();
+    let returned = match archive(file, row_after.row()) {
+        Err(refusal) => refused(refusal),
+        Ok(length) => length as u32,
+    };
+    let found =
+        unsafe { examination_archive(file.as_ptr(), file.len(), row.pointer(), row.length()) };
+    assert_eq!((found, row), (returned, row_after));
+    // Whatever its length, an archive form is one kind of answer.
+    seen.add(if found < 65_536 { 0 } else { found });
+}
+
+/// What was seen of each export.
+#[derive(Debug, Default)]
+pub struct AllSeen {
+    pub read: Seen,
+    pub rate: Seen,
+    pub weighted: Seen,
+    pub classes: Seen,
+    pub search: Seen,
+    pub better: Seen,
+    pub mark: Seen,
+    pub archive: Seen,
+}
+
+/// Every export on one file with two sheets; the file and the sheets stay as
+/// they were.
+pub fn compare_all(dice: &mut Dice, file: &[u8], seen: &mut AllSeen) {
+    let lines = read(file).map_or_else(|_| dice.within(1, 6), |net| net.lines());
+    let [first, second] = [0, 1].map(|_| any_sheet_bytes(dice, lines));
+    let before = (file.to_vec(), first.clone(), second.clone());
+    compare_read(dice, file, &mut seen.read);
+    let rate: (Rates, _) = (examination_rate, rate_bytes(file, &first));
+    compare_rate(dice, rate, file, &first, &mut seen.rate);
+    let weighted: (Rates, _) = (examination_weighted, weighted_bytes(file, &first));
+    compare_rate(dice, weighted, file, &first, &mut seen.weighted);
+    compare_classes(dice, file, &mut seen.classes);
+    compare_search(dice, file, lines, &mut seen.search);
+    compare_better(file, &first, &second, &mut seen.better);
+    compare_mark(dice, file, &first, &mut seen.mark);
+    let right = archive_length(dice, file);
+    let length = row_length(dice, right);
+    compare_archive(dice, file, length, &mut seen.archive);
+    assert_eq!((file, first, second), (&before.0[..], before.1, before.2));
+}
+
+/// Three lines that meet at two stops, offsets up to 65,535.
+pub fn three_lines(periods: [u16; 3]) -> Vec<u8> {
+    let lines = periods.map(|period| Command::Line { period });
+    let calls = [
+        (0, 0, 65_535),
+        (1, 0, 0),
+        (2, 0, 77),
+        (0, 63, 0),
+        (2, 63, 65_535),
+    ];
+    let calls = calls.map(|(line, stop, offset)| Command::Call { line, stop, offset });
+    bytes_of(&[&lines[..], &calls[..], &[Command::End]].concat())
+}

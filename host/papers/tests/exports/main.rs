@@ -1,0 +1,61 @@
+//! The exports of the static library, declared as docs/ABI.md has them, beside
+//! the independent implementation: return values, answer rows and lent rows.
+
+mod compared;
+mod declared;
+mod lent;
+mod rows;
+mod seeded;
+
+#[link(name = "examination", kind = "static")]
+extern "C" {
+    fn examination_read(file: *const u8, file_len: usize, answer: *mut [u32; 4]) -> u32;
+    fn examination_rate(
+        file: *const u8,
+        file_len: usize,
+        sheet: *const u8,
+        sheet_len: usize,
+        answer: *mut [u32; 2],
+    ) -> u32;
+    fn examination_weighted(
+        file: *const u8,
+        file_len: usize,
+        sheet: *const u8,
+        sheet_len: usize,
+        answer: *mut [u32; 2],
+    ) -> u32;
+    fn examination_classes(
+        file: *const u8,
+        file_len: usize,
+        class_row: *mut u8,
+        class_len: usize,
+        weight_row: *mut u16,
+        weight_len: usize,
+        answer: *mut [u32; 1],
+    ) -> u32;
+    fn examination_search(
+        file: *const u8,
+        file_len: usize,
+        start_row: *mut i32,
+        start_len: usize,
+        budget: u32,
+        answer: *mut [u32; 3],
+    ) -> u32;
+    fn examination_better(
+        file: *const u8,
+        file_len: usize,
+        first: *const u8,
+        first_len: usize,
+        second: *const u8,
+        second_len: usize,
+    ) -> u32;
+    fn examination_mark(
+        file: *const u8,
+        file_len: usize,
+        sheet: *const u8,
+        sheet_len: usize,
+        budget: u32,
+        answer: *mut [u32; 6],
+    ) -> u32;
+    fn examination_archive(file: *const u8, file_len: usize, row: *mut u8, row_len: usize) -> u32;
+}

@@ -1,0 +1,86 @@
+//! Every export on seeded files and sheets, and on empty parts.
+
+use crate::compared::{
+    compare_all, compare_archive, compare_better, compare_mark, compare_rate, three_lines, AllSeen,
+    Rates, Seen,
+};
+use crate::{examination_rate, examination_weighted};
+use papers::files::{any_file, faulty_file, sheet, sheet_bytes, valid_file, Dice};
+use papers::sections::sheets::{rate_bytes, weighted_bytes};
+
+const CASES: usize = 6_000;
+
+/// Some thousand files, and each ground that an export can give.
+#[test]
+fn exports_beside_the_papers() {
+    let mut dice = Dice::new(61);
+    let mut seen = AllSeen::default();
+    for number in 0..CASES {
+        let file = match number % 28 {
+            0..=13 => any_file(&mut dice),
+            14..=20 => valid_file(&mut dice),
+            _ => {
+                let ground = dice.within(1, 14) as u8;
+                faulty_file(&mut dice, ground).bytes
+            }
+        };
+        compare_all(&mut dice, &file, &mut seen);
+    }
+    println!("{CASES} files, refused by grounds 1 to 14 and the sheet's 15:");
+    println!("{:?}", &seen.rate.grounds[1..=15]);
+    let of_file: Vec<usize> = (1..=14).collect();
+    let with = |ground: usize| [&of_file[..], &[ground]].concat();
+    assert!(seen.read.has_exactly(&of_file));
+    assert!(seen.rate.has_exactly(&with(15)));
+    assert!(seen.weighted.has_exactly(&with(15)));
+    assert!(seen.classes.has_exactly(&with(17)));
+    assert!(seen.search.has_exactly(&with(16)));
+    assert!(seen.mark.has_exactly(&with(15)));
+    assert!(seen.archive.has_exactly(&with(18)));
+    assert!(seen.better.has_exactly(&[]));
+    assert!(seen.search.answers.iter().all(|&count| count >= 100));
+    assert!(seen.better.answers.iter().all(|&count| count >= 100));
+    assert!(seen.mark.answers[..2].iter().all(|&count| count >= 100));
+    assert!(seen.archive.answers[0] >= 100);
+}
+
+/// Starts at both ends of 32 bits, in every mix, against periods that divide
+/// nothing near them.
+#[test]
+fn both_ends_of_32_bits() {
+    let mut dice = Dice::new(62);
+    let mut seen = Seen::default();
+    let ends = [i32::MIN, i32::MIN + 1, -1, 0, 1, i32::MAX - 1, i32::MAX];
+    for periods in [[15, 20, 12], [1_440, 7, 1], [11, 13, 70], [3, 9, 27]] {
+        let file = three_lines(periods);
+        for mix in 0..7 * 7 * 7 {
+            let starts = [mix % 7, mix / 7 % 7, mix / 49].map(|at| ends[at]);
+            let sheet = sheet_bytes(&starts);
+            let rate: (Rates, _) = (examination_rate, rate_bytes(&file, &sheet));
+            compare_rate(&mut dice, rate, &file, &sheet, &mut seen);
+            let weighted: (Rates, _) = (examination_weighted, weighted_bytes(&file, &sheet));
+            compare_rate(&mut dice, weighted, &file, &sheet, &mut seen);
+            compare_mark(&mut dice, &file, &sheet, &mut seen);
+            let other = sheet_bytes(&starts.map(|start| start.wrapping_neg()));
+            compare_better(&file, &sheet, &other, &mut seen);
+        }
+    }
+    assert_eq!(seen.grounds, [0; 19]);
+}
+
+/// Empty parts: a file, sheets and rows of no places.
+#[test]
+fn empty_parts() {
+    let mut dice = Dice::new(64);
+    let mut seen = AllSeen::default();
+    compare_all(&mut dice, &[], &mut seen);
+    let file = three_lines([15, 20, 12]);
+    let mut one = Seen::default();
+    compare_better(&file, &[], &[], &mut one);
+    compare_better(&file, &[], &sheet_bytes(&sheet(&mut dice, 3)), &mut one);
+    compare_mark(&mut dice, &file, &[], &mut one);
+    compare_archive(&mut dice, &file, 0, &mut one);
+    compare_archive(&mut dice, &[], 0, &mut one);
+    assert_eq!(one.answers, [1, 0, 1]);
+    assert_eq!([1, 15, 18].map(|ground| one.grounds[ground]), [1, 1, 1]);
+}

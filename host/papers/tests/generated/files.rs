@@ -1,0 +1,134 @@
+//! The files themselves, and how they are read.
+
+use papers::files::{
+    any_file, bytes_of, damaged_file, likely_bytes, limit_file, random_bytes, valid_commands,
+    valid_file, very_long_file, Dice, Stated,
+};
+use papers::sections::network::{read, read_counts, Refusal, MAX_CYCLE};
+
+#[test]
+fn the_same_seed_gives_the_same_files() {
+    let (mut one, mut other) = (Dice::new(7), Dice::new(7));
+    for _ in 0..100 {
+        assert_eq!(any_file(&mut one), any_file(&mut other));
+    }
+    // The first numbers of splitmix64 from seed 1234567.
+    let mut dice = Dice::new(1_234_567);
+    assert_eq!(dice.bits(), 6_457_827_717_110_365_317);
+    assert_eq!(dice.bits(), 3_203_168_211_198_807_973);
+}
+
+/// A valid file is read as what it was written from.
+#[test]
+fn valid_files_are_read_as_written() {
+    let mut dice = Dice::new(8);
+    let mut follows = 0;
+    for _ in 0..3_000 {
+        let commands = valid_commands(&mut dice);
+        let file = bytes_of(&commands);
+        follows += file.iter().filter(|&&byte| byte == 0x46).count();
+        let stated = Stated::by(&commands);
+        let net = read(&file).expect("a valid file");
+        let periods: Vec<u32> = stated.periods.iter().map(|&period| period.into()).collect();
+        assert_eq!(net.periods, periods);
+        assert_eq!(net.calls, stated.calls.len());
+        for (line, stop, offset) in &stated.calls {
+            let read = net.offsets[usize::from(*line)][usize::from(*stop)];
+            assert_eq!(read, Some(u32::from(*offset)));
+        }
+        let known: usize = net.offsets.iter().flatten().flatten().count();
+        assert_eq!(known, net.calls);
+        // The least number that every period divides.
+        let cycle = (1..=MAX_CYCLE)
+            .find(|cycle| periods.iter().all(|period| cycle % period == 0))
+            .expect("a cycle in range");
+        assert_eq!(net.cycle, cycle);
+        assert_eq!(read_counts(&file), Ok(net.counts()));
+    }
+    assert!(follows > 3_000);
+}
+
+/// Every shorter part of an accepted file is refused on ground 1 or 3, with the
+/// place where the cut command begins; every longer file on ground 14.
+#[test]
+fn accepted_files_cut_and_lengthened() {
+    let mut dice = Dice::new(9);
+    for _ in 0..300 {
+        let commands = valid_commands(&mut dice);
+        let file = bytes_of(&commands);
+        let mut begins = vec![0];
+        for command in &commands {
+            begins.push(begins[begins.len() - 1] + command.bytes().len());
+        }
+        for length in 0..file.len() {
+            let begin = *begins
+                .iter()
+                .filter(|&&begin| begin <= length)
+                .max()
+                .expect("0 is a beginning");
+            let number = if begin == length { 1 } else { 3 };
+            let expected = Refusal {
+                number,
+                place: begin,
+            };
+            assert_eq!(read(&file[..length]), Err(expected));
+        }
+        let behind = [file.clone(), vec![dice.byte()]].concat();
+        let expected = Refusal {
+            number: 14,
+            place: file.len(),
+        };
+        assert_eq!(read(&behind), Err(expected));
+    }
+}
+
+/// How many of the files are accepted, and on which grounds others are refused.
+fn outcomes(files: impl Iterator<Item = Vec<u8>>) -> [usize; 15] {
+    let mut counts = [0; 15];
+    for file in files {
+        match read(&file) {
+            Ok(_) => counts[0] += 1,
+            Err(Refusal { number, place }) => {
+                assert!((1..=14).contains(&number) && place <= file.len());
+                assert_eq!(number == 1, place == file.len());
+                counts[usize::from(number)] += 1;
+            }
+        }
+    }
+    counts
+}
+
+/// Every file gets an answer, and the generator reaches every ground and
+/// acceptance often enough.
+#[test]
+fn files_of_any_content() {
+    let mut dice = Dice::new(10);
+    let any = outcomes((0..20_000).map(|_| any_file(&mut dice)));
+    assert!(any[0] > 8_000 && any[0] < 14_000, "{any:?}");
+    assert!(any.iter().all(|&count| count > 20), "{any:?}");
+    let damaged = outcomes((0..5_000).map(|_| damaged_file(&mut dice)));
+    assert!(damaged[0] > 500 && damaged[0] < 4_000, "{damaged:?}");
+    let limits = outcomes((0..1_000).map(|_| limit_file(&mut dice)));
+    assert!(
+        limits[0] > 20 && limits[4] > 20 && limits[10] > 5,
+        "{limits:?}"
+    );
+    outcomes((0..50).map(|_| very_long_file(&mut dice)));
+    outcomes((0..5_000).map(|number| random_bytes(&mut dice, number % 300)));
+    outcomes((0..5_000).map(|number| likely_bytes(&mut dice, number % 300)));
+    let valid = outcomes((0..5_000).map(|_| valid_file(&mut dice)));
+    assert_eq!(valid[0], 5_000);
+}
+
+/// 16 lines and 256 calls are 1,328 bytes, and one more command is 5 at most: a
+/// long file is refused by its first 1,333 bytes, whatever follows.
+#[test]
+fn long_files_are_decided_by_their_first_bytes() {
+    let mut dice = Dice::new(18);
+    for _ in 0..200 {
+        let file = very_long_file(&mut dice);
+        let answer = read(&file);
+        assert!(matches!(answer, Err(why) if why.place <= 1_329));
+        assert_eq!(answer, read(&file[..1_333]));
+    }
+}
