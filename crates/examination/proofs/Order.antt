@@ -68,3 +68,11 @@ pub use Rattle.network.proofs.Demands.{equal-archives}
 -- Two files of one network, a file and its archive form among them, are answered alike
 pub use Rattle.network.proofs.Demands.{same-network-read-alike, same-network-rated-alike, same-network-weighted-alike, same-network-classified-alike}
 pub use Rattle.search.proofs.Demands.{same-network-searched-alike}
+-- ---- Document 02, A.2
+
+-- "A line may now call twice at a stop; .. A gap is taken over pairs of different calls, also of one line, whose g is its period. .. Alike stops have
+-- equally many calls of each line, matched in order of offset, and are compared over every pair of calls, also of one line"; without loops everything
+-- is as before. The demands above are met in these words
+pub use Rattle.network.proofs.LoopRoutes.{loop-routes}
+-- "A line's own pair caps its stop at its exact gap, and the cap's sum has one term per call"
+pub use Rattle.search.proofs.Demands.{caps-bound}

@@ -3,7 +3,7 @@
 use Prim.Native.Nat.{ℕ, _+_, _*_, _≤_, _<_}
 use mathlib.Core.Path.{_≡_, refl, sym, ap, ap₂, subst, _∙_}
 use mathlib.Core.Bool.{true, false}
-use mathlib.Core.List.{List, [], _∷_, _++_, List·Memᴰ}
+use mathlib.Core.List.{List, [], _∷_, _++_}
 use mathlib.Core.Logic.{_↔_}
 use native.Mathlib.Omega.{arith}
 use borrow.Fn.World.{ArgsD, ResD}
@@ -23,15 +23,13 @@ use Rattle.network.specs.Refusals.{Refuses, Unfit, Not64, TooShort, Dema
 use Rattle.network.specs.Tidy.{notAfter}
 use Rattle.network.specs.Archive.{tidied, archive, archiveLength, SameNetwork, archiveAnswer}
 use Rattle.network.specs.Valid.{IsBytes, Valid}
-use Rattle.network.specs.Rating.{Counted, counted, IsRatingOver, IsRating, rating, ratingOver}
+use Rattle.network.specs.Rating.{IsRatingOver, IsRating, rating, ratingOver}
 use Rattle.network.specs.ByLines.{IsRatingOfLines}
 use Rattle.network.specs.Rate.{rateAnswer, rateOutcome}
 use Rattle.network.specs.Loops.{WithoutLoops, AlikeOfCalls}
-use Rattle.network.specs.ByLines.{AlikeOfLines}
 use Rattle.network.specs.Classes.{unserved, classRow, weightRow, classCount, lowestStops}
 use Rattle.network.specs.ClassCall.{classAnswer, classOutcome, classRowAfter, weightRowAfter, weightedRating, weightedOutcome}
 use Rattle.network.proofs.Laws.AlikeByCalls.{alike-by-calls}
-use Rattle.network.proofs.Laws.AlikeByLines.{alike-by-lines}
 use Rattle.network.proofs.Laws.Valid.{accepted-valid, cycle-multiple, cycle-least, cycle-pos}
 use Rattle.network.proofs.Laws.Reading.{gives-what-is-read, readFile-gives}
 use Rattle.network.proofs.Laws.Refusals.{read-refuses, read-refuses-only, sheet-refuses, sheet-refuses-only, sheet-answers}
@@ -213,7 +211,7 @@ module _ (κs : Lfts 2) (a : ArgsD weighted.signature κs) (r : ResD weighted.si
 -- What it answers and leaves in the rows, as document 01 says it
 pub record Classified (n : Net) (answer : Outcome) (classes weights : List ℕ) : Type 0 where
   pub lengths : (length classes ≡ stopCount) × (length weights ≡ stopCount)
-  -- the class row holds for each served stop the lowest stop alike to it ..
+  -- the class row holds for each served stop the lowest stop alike to it, in the words of document 02, A.2 ..
   pub alike : (s : ℕ) → s ≤ maxStop → isServed s (n .calls) ≡ true → AlikeOfCalls n (getD classes s 0) s
   pub lowest : (s t : ℕ) → s ≤ maxStop → AlikeOfCalls n t s → getD classes s 0 ≤ t
   -- .. and 255 if unserved

@@ -1,4 +1,4 @@
--- Document 01, "Classes of stops": which served stops are alike, the class row and the weight row, and the lowest stops with their weights
+-- Document 01, "Classes of stops", and document 02, A.2: which served stops are alike, the class row and the weight row, and the lowest stops with their weights
 -- as the rows give them. (A class is an equivalence class of stops, and its lowest stop its representative.)
 use Prim.Native.Nat.{ℕ, zero, suc, _<_}
 use mathlib.Core.Path.{_≡_}
@@ -28,9 +28,10 @@ orderedCall n s place = getD (ordered n s) place noCall
 unfoldable pub remainder : Net → Call → Call → ℕ
 remainder n c d = residue (pos (c .offset) -ℤ pos (d .offset)) (gcd (periodOf n c) (periodOf n d))
 
--- Alike: the same lines call at both, place by place, and for each two places the differences of the offsets leave the same remainder by g. No
--- line calls twice at a stop, so that this is document 01's test over lines and pairs of lines: specs/ByLines.antt has it in those words, and
--- `alike-by-lines` of proofs/Laws/AlikeByLines.antt says that they agree
+-- Alike: the same lines call at both, place by place, and for each two places the differences of the offsets leave the same remainder by g. Document
+-- 02, A.2, says it over lines and each line's calls in order of offset: specs/Loops.antt has it in those words, and `alike-by-calls` of
+-- proofs/Laws/AlikeByCalls.antt says that they agree. Without loops it is document 01's test over lines and pairs of lines: specs/ByLines.antt,
+-- `alike-by-lines` of proofs/Laws/AlikeByLines.antt
 pub record Alike (n : Net) (s t : ℕ) : Type 0 where
   pub first-served : isServed s (n .calls) ≡ true
   pub second-served : isServed t (n .calls) ≡ true

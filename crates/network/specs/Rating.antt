@@ -37,8 +37,8 @@ IsCallsGap n starts c d gap =
     IsGap (arrivalOf starts (getD (n .calls) c noCall)) (periodOf n (getD (n .calls) c noCall)) (arrivalOf starts (getD (n .calls) d noCall))
     (periodOf n (getD (n .calls) d noCall)) gap
 
--- The gap of a stop (definition 2.1.5). Its calls are of different lines, so that this is document 01's gap over pairs of different lines:
--- specs/ByLines.antt has it in those words, and `stop-gap-by-lines` of proofs/Laws/ByLines.antt says that they agree
+-- The gap of a stop (definition 2.1.5), over pairs of different calls, of one line too (document 02, A.2). Without loops it is document 01's gap over
+-- pairs of different lines: specs/ByLines.antt has it in those words, and `stop-gap-by-lines` of proofs/Laws/ByLines.antt says that they agree
 pub data IsStopGap (n : Net) (starts : List ℤ) (stop : ℕ) : ℕ → Type 0 where
   -- the least over its pairs of different calls
   least-of-calls :

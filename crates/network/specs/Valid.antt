@@ -29,7 +29,7 @@ pub record Valid (n : Net) : Type 0 where
   pub call-line : (k : ℕ) → k < length (n .calls) → getD (n .calls) k noCall .line < length (n .periods)
   pub call-stop : (k : ℕ) → k < length (n .calls) → getD (n .calls) k noCall .stop ≤ maxStop
   pub call-offset : (k : ℕ) → k < length (n .calls) → getD (n .calls) k noCall .offset ≤ maxOffset
-  -- a line calls at a stop at most as often as it may: once
+  -- a line calls at a stop at most as often as it may: twice
   pub often : (line stop : ℕ) → howOftenAt line stop (n .calls) ≤ maxCallsAtStop
   -- every line has a call
   pub every-line-calls : (i : ℕ) → i < length (n .periods) → callsAnywhere i (n .calls) ≡ true

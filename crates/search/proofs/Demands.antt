@@ -17,11 +17,13 @@ use Rattle.network.specs.Lists.{pick}
 use Rattle.network.specs.Network.{Net, maxPeriod}
 use Rattle.network.specs.Reading.{Reading, readFile, accepted}
 use Rattle.network.specs.Refusals.{Refuses, Unfit, Demand1}
-use Rattle.network.specs.Valid.{IsBytes, Valid}
-use Rattle.network.specs.Rating.{IsRating, rating}
-use Rattle.network.proofs.Laws.Gaps.{accepted-valid, rating-is-rating, IsRating-range}
+use Rattle.network.specs.Valid.{IsBytes, Valid, noCall}
+use Rattle.network.specs.Rating.{IsStopGap, IsRating, gapOfCalls, callsOfStop, rating}
+use Rattle.network.proofs.Laws.Gaps.{accepted-valid, rating-is-rating, IsRating-range, IsStopGap-unique}
+use Rattle.search.specs.Caps.{cap}
 use Rattle.search.specs.Search.{SearchOutcome, finished, stopped, stoppedWithNone, refusal, searchAnswer, triesOf, productsFrom}
 use Rattle.search.specs.Search.{searched, outcomeOf, searchOutcome, startRowAfter}
+use Rattle.search.proofs.Laws.Caps.{cap-sound, cap-le-own-gap}
 use Rattle.search.proofs.Laws.Optimal.{searched-some, searched-length, searched-first, searched-below, searched-rating, searched-best, searched-stopped}
 use Rattle.search.proofs.Laws.Optimal.{triesBound-products}
 use Rattle.search.proofs.Laws.Outcome.{fit-outcome, fit-row, AnswerTells, told-of-finished, told-of-stopped, told-of-none}
@@ -237,3 +239,21 @@ module _ (κs : Lfts 2) (a : ArgsD search.signature κs) (r : ResD search.signat
             ∙ ap (λ (k : Reading). startRowAfter k (a′ .1 .1 .0) (a′ .1 .0 .now)) (sym reads′)
             ∙ sym (kept′ .1 .0),
       )
+
+-- ---- Caps, with loop routes (document 02, A.2), of every accepted file
+
+pub record Capped (n : Net) : Type 0 where
+  -- no starts give a stop a gap above its cap
+  pub is-cap : (starts : List ℤ) {stop gap : ℕ} → IsStopGap n starts stop gap → gap ≤ cap n stop
+  -- a line's own pair is already in the cap: its gap is never below it
+  pub own-pair : (starts : List ℤ) (stop j k : ℕ) → j < k → k < length (callsOfStop n stop)
+      → getD (callsOfStop n stop) j noCall .line ≡ getD (callsOfStop n stop) k noCall .line
+      → cap n stop ≤ gapOfCalls n starts (getD (callsOfStop n stop) j noCall) (getD (callsOfStop n stop) k noCall)
+
+pub caps-bound : (file : List ℕ) {n : Net} → IsBytes file → readFile file ≡ accepted n → Capped n
+caps-bound file {n} bytes reads =
+    let valid = accepted-valid file n bytes reads in
+    record {
+      is-cap = λ starts {stop} g. rw (IsStopGap-unique valid g) (cap-sound valid starts stop);
+      own-pair = cap-le-own-gap n;
+    }

@@ -36,8 +36,8 @@ pub enum Ground {
     LineNotStated = 7,
     /// 8: the stop is above 63.
     Stop = 8,
-    /// 9: the line already calls at this stop.
-    SecondCall = 9,
+    /// 9: the line already calls at this stop twice.
+    ThirdCall = 9,
     /// 10: a 257th call.
     TooManyCalls = 10,
     /// 11: a ride without an earlier call of the line.
@@ -77,7 +77,7 @@ impl Ground {
         Ground::Cycle,
         Ground::LineNotStated,
         Ground::Stop,
-        Ground::SecondCall,
+        Ground::ThirdCall,
         Ground::TooManyCalls,
         Ground::RideFromNowhere,
         Ground::Offset,
@@ -113,7 +113,7 @@ impl Ground {
             Ground::Cycle => "the common cycle is above 10,080 with this line",
             Ground::LineNotStated => "the line isn't stated yet",
             Ground::Stop => "the stop is above 63",
-            Ground::SecondCall => "the line already calls at this stop",
+            Ground::ThirdCall => "the line already calls at this stop twice",
             Ground::TooManyCalls => "a 257th call",
             Ground::RideFromNowhere => "a ride without an earlier call of the line",
             Ground::Offset => "the ride's offset is above 65,535",

@@ -4,6 +4,8 @@
 //! * [`sections`] is the independent implementation, one file for each section
 //!   of document 01 and for each request of document 02. It uses nothing else
 //!   here.
+//! * [`by_lines`] is that implementation as it stood before loop routes, which on
+//!   files without loops all calls still agree with.
 //! * [`files`] makes network files and sheets, good and bad, from a seed, and
 //!   [`small`] networks so small that every timetable can be rated.
 //! * [`plain`] is rate in quick Rust by hand, [`strong`] the walk, and [`measure`]
@@ -12,6 +14,7 @@
 
 #![forbid(unsafe_code)]
 
+pub mod by_lines;
 pub mod files;
 pub mod measure;
 pub mod plain;

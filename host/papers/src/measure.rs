@@ -67,7 +67,7 @@ fn print_row(file: &[u8], times: &Times) {
         "{:5} {:5} {:5} {:15.1} {:13.1} {:6.2} {:14.2}",
         net.lines(),
         net.served_stops().len(),
-        net.calls,
+        net.calls.len(),
         times.engine,
         times.rust,
         times.engine / times.rust,

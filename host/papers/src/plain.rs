@@ -4,8 +4,8 @@
 //! length, so that a call takes nothing from the heap.
 
 use crate::sections::network::{
-    Refusal, CALL, END, FOLLOW, LINE, MAX_CALLS, MAX_CYCLE, MAX_LINES, MAX_OFFSET, MAX_PERIOD,
-    STOPS,
+    Refusal, CALL, END, FOLLOW, LINE, MAX_CALLS, MAX_CALLS_AT_STOP, MAX_CYCLE, MAX_LINES,
+    MAX_OFFSET, MAX_PERIOD, STOPS,
 };
 use crate::sections::rating::Rating;
 
@@ -26,20 +26,33 @@ pub fn rate(file: &[u8], sheet: &[u8]) -> Result<Rating, Refusal> {
     Ok(net.rating(&net.starts(sheet)))
 }
 
+/// The most calls that a stop can have.
+const MAX_AT_STOP: usize = MAX_LINES * MAX_CALLS_AT_STOP;
+
+/// A call, and the number of the call before it at its stop, counted from 1.
+#[derive(Clone, Copy)]
+struct Call {
+    line: u8,
+    offset: u16,
+    before: u16,
+}
+
 /// What has been read of a file.
 struct Network {
     lines: usize,
     periods: LineRow,
     /// The least common multiple of the periods.
     cycle: u32,
-    calls: usize,
+    count: usize,
+    calls: [Call; MAX_CALLS],
     /// The offset of each line's latest call.
     latest: [Option<u32>; MAX_LINES],
-    /// For each stop the lines that call there, line i as bit i.
+    /// For each stop the number of its latest call, 0 where there is none.
+    last: [u16; STOPS],
+    /// For each stop the lines that call there, line i as bit i, and those that
+    /// do so twice.
     lines_at: [u16; STOPS],
-    /// Offsets by stop and line; those of one stop lie together because they
-    /// are compared with each other.
-    offsets: [[u16; MAX_LINES]; STOPS],
+    twice_at: [u16; STOPS],
 }
 
 // ---------------------------------------------------------------------------
@@ -52,10 +65,16 @@ impl Network {
             lines: 0,
             periods: [0; MAX_LINES],
             cycle: 1,
-            calls: 0,
+            count: 0,
+            calls: [Call {
+                line: 0,
+                offset: 0,
+                before: 0,
+            }; MAX_CALLS],
             latest: [None; MAX_LINES],
+            last: [0; STOPS],
             lines_at: [0; STOPS],
-            offsets: [[0; MAX_LINES]; STOPS],
+            twice_at: [0; STOPS],
         }
     }
 
@@ -111,10 +130,10 @@ impl Network {
         if stop >= STOPS {
             return Err(8);
         }
-        if self.lines_at[stop] & (1 << line) != 0 {
+        if self.twice_at[stop] & (1 << line) != 0 {
             return Err(9);
         }
-        if self.calls == MAX_CALLS {
+        if self.count == MAX_CALLS {
             return Err(10);
         }
         let before = if follows {
@@ -126,10 +145,16 @@ impl Network {
         if offset > MAX_OFFSET {
             return Err(12);
         }
+        self.twice_at[stop] |= self.lines_at[stop] & (1 << line);
         self.lines_at[stop] |= 1 << line;
-        self.offsets[stop][line] = offset as u16;
         self.latest[line] = Some(offset);
-        self.calls += 1;
+        self.calls[self.count] = Call {
+            line: line as u8,
+            offset: offset as u16,
+            before: self.last[stop],
+        };
+        self.count += 1;
+        self.last[stop] = self.count as u16;
         Ok(())
     }
 
@@ -176,7 +201,7 @@ impl Network {
             sum: 0,
         };
         for stop in 0..STOPS {
-            if self.lines_at[stop] != 0 {
+            if self.last[stop] != 0 {
                 let gap = self.stop_gap(stop, starts, &divisors);
                 rating.least = rating.least.min(gap);
                 rating.sum += gap;
@@ -185,13 +210,16 @@ impl Network {
         rating
     }
 
-    /// The greatest common divisors of the periods of each line and of those
-    /// before it. Two lines may meet at many stops.
+    /// The greatest common divisors of the periods of each two lines, and of one
+    /// line its period. Two lines may meet at many stops.
     fn divisors(&self) -> [LineRow; MAX_LINES] {
         let mut divisors = [[0; MAX_LINES]; MAX_LINES];
-        for line in 1..self.lines {
+        for line in 0..self.lines {
+            divisors[line][line] = self.periods[line];
             for before in 0..line {
-                divisors[line][before] = divisor(self.periods[line], self.periods[before]);
+                let g = divisor(self.periods[line], self.periods[before]);
+                divisors[line][before] = g;
+                divisors[before][line] = g;
             }
         }
         divisors
@@ -201,25 +229,25 @@ impl Network {
     /// calls. Of the difference of two arrivals the sign doesn't matter: it
     /// exchanges d and g-d.
     fn stop_gap(&self, stop: usize, starts: &LineRow, divisors: &[LineRow; MAX_LINES]) -> u32 {
-        let mut lines = self.lines_at[stop];
-        if lines.count_ones() == 1 {
-            return self.periods[lines.trailing_zeros() as usize];
-        }
-        let mut arrivals = [(0, 0); MAX_LINES];
+        let mut arrivals = [(0, 0); MAX_AT_STOP];
         let mut count = 0;
         let mut least = u32::MAX;
-        while lines != 0 {
-            let line = lines.trailing_zeros() as usize;
-            let arrival = starts[line] + u32::from(self.offsets[stop][line]);
-            for &(before, earlier) in &arrivals[..count] {
-                let g = divisors[line][before];
-                let d = u32::abs_diff(arrival, earlier) % g;
+        let mut number = self.last[stop];
+        while number != 0 {
+            let call = self.calls[usize::from(number) - 1];
+            let line = usize::from(call.line);
+            if count == 0 && call.before == 0 {
+                return self.periods[line];
+            }
+            let arrival = starts[line] + u32::from(call.offset);
+            for &(other, later) in &arrivals[..count] {
+                let g: u32 = divisors[line][other];
+                let d = u32::abs_diff(arrival, later) % g;
                 least = least.min(d).min(g - d);
             }
             arrivals[count] = (line, arrival);
             count += 1;
-            // Without the lowest bit, this line's.
-            lines &= lines - 1;
+            number = call.before;
         }
         least
     }

@@ -8,7 +8,7 @@
 //! is touched. For the others a second table has the gaps at those stops.
 
 use crate::sections::caps::{caps, upper_rating};
-use crate::sections::network::{Network, STOPS};
+use crate::sections::network::{Call, Network, STOPS};
 use crate::sections::rating::{divisor, nearer, remainder, Rating};
 use crate::sections::walk::{Answer, Walked};
 
@@ -170,16 +170,16 @@ impl Walker {
 
 impl Line {
     fn new(net: &Network, line: usize) -> Line {
-        let meets = |stop: usize| net.lines_at(stop).iter().any(|&other| other < line);
+        let calls_at = |line: usize, stop: usize| {
+            let there = |call: &Call| (call.line, call.stop) == (line, stop);
+            net.calls.iter().any(there)
+        };
+        let meets = |stop: usize| (0..line).any(|earlier| calls_at(earlier, stop));
         let stops: Vec<usize> = (0..STOPS)
-            .filter(|&stop| net.offsets[line][stop].is_some() && meets(stop))
+            .filter(|&stop| calls_at(line, stop) && meets(stop))
             .collect();
         let meetings = (0..line)
-            .filter(|&earlier| {
-                stops
-                    .iter()
-                    .any(|&stop| net.offsets[earlier][stop].is_some())
-            })
+            .filter(|&earlier| stops.iter().any(|&stop| calls_at(earlier, stop)))
             .map(|earlier| Meeting::new(net, earlier, line, &stops))
             .collect();
         Line {
@@ -200,16 +200,15 @@ impl Meeting {
             gaps: Vec::new(),
             apart: 0,
         };
+        let shifts: Vec<Vec<i64>> = stops
+            .iter()
+            .map(|&stop| differences(net, line, earlier, stop))
+            .collect();
         for apart in 0..i64::from(g) {
+            let gap = |shift: &i64| nearer(remainder(apart + shift, g), g) as u16;
             let mut least = u16::MAX;
-            for &stop in stops {
-                let gap = match (net.offsets[line][stop], net.offsets[earlier][stop]) {
-                    (Some(late), Some(early)) => {
-                        let offsets = i64::from(late) - i64::from(early);
-                        nearer(remainder(apart + offsets, g), g) as u16
-                    }
-                    _ => u16::MAX,
-                };
+            for shifts in &shifts {
+                let gap = shifts.iter().map(gap).min().unwrap_or(u16::MAX);
                 least = least.min(gap);
                 meeting.gaps.push(gap);
             }
@@ -217,4 +216,16 @@ impl Meeting {
         }
         meeting
     }
+}
+
+/// Each offset of the line at a stop less each of the earlier line's.
+fn differences(net: &Network, line: usize, earlier: usize, stop: usize) -> Vec<i64> {
+    let calls = net.calls_at(stop);
+    let offsets = |line: usize| {
+        let of_line = calls.iter().filter(move |call| call.line == line);
+        of_line.map(|call| i64::from(call.offset))
+    };
+    offsets(line)
+        .flat_map(|late| offsets(earlier).map(move |early| late - early))
+        .collect()
 }

@@ -3,7 +3,7 @@
 
 use papers::files::{bytes_of, sheet, valid_commands_of, Dice, Size};
 use papers::sections::caps::{cap, upper_rating};
-use papers::sections::network::{read, Network, STOPS};
+use papers::sections::network::{read, Call, Network, STOPS};
 use papers::sections::rating::{
     arrivals, divisor, pair_gap, pairs, rating, rating_by_counting, rating_of_gaps, whole, Rating,
 };
@@ -67,17 +67,16 @@ fn no_start_beyond_the_period_is_better() {
 
 /// Definition 2.1.4 as it stands: the least |a + r·T − b − t·T'| over r, t of
 /// 0, 1, 2, .. as far as arrivals of both lines within two cycles go.
-fn gap_over_trips(net: &Network, stop: usize, a: usize, b: usize, starts: &[i64]) -> i64 {
-    let arrival = |line: usize, trip: i64| {
-        let offset = i64::from(net.offsets[line][stop].expect("a call"));
-        starts[line] + offset + trip * i64::from(net.periods[line])
+fn gap_over_trips(net: &Network, a: Call, b: Call, starts: &[i64]) -> i64 {
+    let arrival = |call: Call, trip: i64| {
+        starts[call.line] + i64::from(call.offset) + trip * i64::from(net.period(call))
     };
     // Far enough for each line to reach the other's first arrival and a cycle
     // more.
     let apart = (arrival(a, 0) - arrival(b, 0)).abs() + 2 * i64::from(net.cycle);
     let mut least = i64::MAX;
-    for r in 0..=apart / i64::from(net.periods[a]) + 1 {
-        for t in 0..=apart / i64::from(net.periods[b]) + 1 {
+    for r in 0..=apart / i64::from(net.period(a)) + 1 {
+        for t in 0..=apart / i64::from(net.period(b)) + 1 {
             least = least.min((arrival(a, r) - arrival(b, t)).abs());
         }
     }
@@ -97,16 +96,16 @@ fn the_gap_of_two_lines_over_their_trips() {
         let commands = valid_commands_of(&mut dice, &size);
         let mut net = read(&bytes_of(&commands)).expect("a valid file");
         // Keep the number of trips small.
-        for offset in net.offsets.iter_mut().flatten().flatten() {
-            *offset %= 200;
+        for call in &mut net.calls {
+            call.offset %= 200;
         }
         let starts: Vec<i64> = (0..net.lines())
             .map(|_| dice.below(200) as i64 - 100)
             .collect();
         for stop in net.served_stops() {
-            for (a, b) in pairs(&net.lines_at(stop)) {
-                let by_trips = gap_over_trips(&net, stop, a, b, &starts);
-                assert_eq!(by_trips, i64::from(pair_gap(&net, stop, a, b, &starts)));
+            for (a, b) in pairs(&net.calls_at(stop)) {
+                let by_trips = gap_over_trips(&net, a, b, &starts);
+                assert_eq!(by_trips, i64::from(pair_gap(&net, a, b, &starts)));
             }
         }
     }
@@ -122,12 +121,12 @@ fn divisor_by_search(a: u32, b: u32) -> u32 {
         .expect("1 divides both")
 }
 
-/// The smallest distance round the cycle between any arrival of one line and
-/// any of the other.
-fn pair_gap_by_arrivals(net: &Network, stop: usize, a: usize, b: usize, starts: &[i64]) -> u32 {
+/// The smallest distance round the cycle between any arrival by one call and
+/// any by the other.
+fn pair_gap_by_arrivals(net: &Network, a: Call, b: Call, starts: &[i64]) -> u32 {
     let mut least = net.cycle;
-    for one in arrivals(net, a, stop, starts[a]) {
-        for other in arrivals(net, b, stop, starts[b]) {
+    for one in arrivals(net, a, starts[a.line]) {
+        for other in arrivals(net, b, starts[b.line]) {
             let distance = one.abs_diff(other) as u32;
             least = least.min(distance).min(net.cycle - distance);
         }
@@ -138,22 +137,21 @@ fn pair_gap_by_arrivals(net: &Network, stop: usize, a: usize, b: usize, starts: 
 /// The cap as the section "Caps" says it, with fractions brought to one
 /// denominator instead of C/T.
 fn cap_by_the_book(net: &Network, stop: usize) -> u32 {
-    let lines = net.lines_at(stop);
-    if lines.len() == 1 {
-        return net.periods[lines[0]];
+    let calls = net.calls_at(stop);
+    if let [lone] = calls[..] {
+        return net.period(lone);
     }
-    let halves = pairs(&lines).map(|(a, b)| divisor_by_search(net.periods[a], net.periods[b]) / 2);
-    let half = halves.min().expect("a pair");
+    let starts = vec![0; net.lines()];
+    let of_pairs = pairs(&calls).map(|(a, b)| match a.line == b.line {
+        true => pair_gap_by_arrivals(net, a, b, &starts),
+        false => divisor_by_search(net.period(a), net.period(b)) / 2,
+    });
+    let least = of_pairs.min().expect("a pair");
     // The whole part of 1 / (sum of 1/T): the largest m with m × sum ≤ 1.
-    let product: u64 = lines
-        .iter()
-        .map(|&line| u64::from(net.periods[line]))
-        .product();
-    let sum: u64 = lines
-        .iter()
-        .map(|&line| product / u64::from(net.periods[line]))
-        .sum();
-    half.min((product / sum) as u32)
+    let periods = || calls.iter().map(|&call| u64::from(net.period(call)));
+    let product: u64 = periods().product();
+    let sum: u64 = periods().map(|period| product / period).sum();
+    least.min((product / sum) as u32)
 }
 
 /// The upper rating worked out anew, from arrivals alone.
@@ -161,8 +159,8 @@ fn upper_by_the_book(net: &Network, placed: usize, starts: &[i64]) -> Rating {
     let mut values = Vec::new();
     for stop in net.served_stops() {
         let mut value = cap_by_the_book(net, stop);
-        for (a, b) in pairs(&net.lines_at(stop)).filter(|&(_, b)| b < placed) {
-            value = value.min(pair_gap_by_arrivals(net, stop, a, b, starts));
+        for (a, b) in pairs(&net.calls_at(stop)).filter(|(_, b)| b.line < placed) {
+            value = value.min(pair_gap_by_arrivals(net, a, b, starts));
         }
         values.push(value);
     }
@@ -283,7 +281,7 @@ fn caps_and_upper_values() {
     for _ in 0..300 {
         let (_, net) = small_file(&mut dice, 1_000_000);
         for stop in 0..STOPS {
-            let expected = match net.lines_at(stop).is_empty() {
+            let expected = match net.calls_at(stop).is_empty() {
                 true => None,
                 false => Some(cap_by_the_book(&net, stop)),
             };

@@ -118,13 +118,16 @@ fn ground_8_stop_above_63() {
 }
 
 #[test]
-fn ground_9_that_line_already_calls_there() {
-    let file = [line(15), call(0, 5, 0), call(0, 5, 1), end()].concat();
-    assert_eq!(refused(&file), (9, 8));
-    let file = [line(15), call(0, 5, 0), follow(0, 5, 1), end()].concat();
-    assert_eq!(refused(&file), (9, 8));
+fn ground_9_that_line_already_calls_there_twice() {
+    let twice = [line(15), call(0, 5, 0), call(0, 5, 1)].concat();
+    assert_eq!(refused(&[twice.clone(), end()].concat()), (0, 0));
+    assert_eq!(refused(&[twice.clone(), call(0, 5, 2)].concat()), (9, 13));
+    assert_eq!(refused(&[twice, follow(0, 5, 1)].concat()), (9, 13));
+    // Two calls with equal offsets are two calls.
+    let file = [line(15), call(0, 5, 0), follow(0, 5, 0), call(0, 5, 0)].concat();
+    assert_eq!(refused(&file), (9, 13));
     // Another line may.
-    let file = [lines(2), call(0, 5, 0), call(1, 5, 0), end()].concat();
+    let file = [lines(2), call(0, 5, 0), call(0, 5, 0), call(1, 5, 0), end()].concat();
     assert_eq!(refused(&file), (0, 0));
 }
 
@@ -188,15 +191,21 @@ fn lower_grounds_come_first() {
         refused(&[full.clone(), call(4, 64, 0)].concat()),
         (8, place)
     );
-    // 9 before 10, 10 before 11.
-    assert_eq!(refused(&[full.clone(), call(3, 9, 0)].concat()), (9, place));
+    // 9 before 10, 10 before 11: a third call as the 257th is 9, a second one 10.
+    assert_eq!(
+        refused(&[full.clone(), call(3, 9, 0)].concat()),
+        (10, place)
+    );
+    let twice = [full[..place - 5].to_vec(), call(0, 0, 0)].concat();
+    assert_eq!(refused(&[twice, call(0, 0, 0)].concat()), (9, place));
     assert_eq!(
         refused(&[full.clone(), follow(4, 0, 0)].concat()),
         (10, place)
     );
     // 9 before 12, 8 before 11, 10 before 12.
     let late = [line(15), call(0, 0, 65_535)].concat();
-    assert_eq!(refused(&[late.clone(), follow(0, 0, 1)].concat()), (9, 8));
+    let later = [late.clone(), call(0, 0, 65_535)].concat();
+    assert_eq!(refused(&[later, follow(0, 0, 1)].concat()), (9, 13));
     assert_eq!(refused(&[line(15), follow(0, 64, 0)].concat()), (8, 3));
     // 13 before 14.
     assert_eq!(refused(&[end(), end()].concat()), (13, 0));
@@ -226,16 +235,13 @@ fn follow_goes_on_from_the_latest_call() {
     ]
     .concat();
     let net = read(&file).expect("an accepted file");
-    let stops = [9, 3, 4, 5, 6];
-    let offsets: Vec<Option<u32>> = stops.iter().map(|&stop| net.offsets[0][stop]).collect();
-    assert_eq!(
-        offsets,
-        [Some(100), Some(105), Some(50), Some(51), Some(51)]
-    );
-    assert_eq!(net.offsets[1][9], Some(7));
-    assert_eq!(net.offsets[1][4], Some(9));
-    assert_eq!(net.offsets[1].iter().flatten().count(), 2);
-    assert_eq!((net.calls, net.cycle), (7, 60));
+    let of_line = |line: usize| -> Vec<(usize, u32)> {
+        let calls = net.calls.iter().filter(|call| call.line == line);
+        calls.map(|call| (call.stop, call.offset)).collect()
+    };
+    assert_eq!(of_line(0), [(3, 105), (4, 50), (5, 51), (6, 51), (9, 100)]);
+    assert_eq!(of_line(1), [(4, 9), (9, 7)]);
+    assert_eq!((net.calls.len(), net.cycle), (7, 60));
     assert_eq!(net.served_stops(), [3, 4, 5, 6, 9]);
 }
 

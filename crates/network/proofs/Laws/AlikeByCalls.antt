@@ -1,18 +1,18 @@
 -- Two stops are alike by places exactly when they are in document 02's words (A.2), over lines and each line's calls in order of offset: calls stand
 -- by line and then offset, so that equally many of each line are the same lines place by place, and a place is a place among its line's calls, the
 -- same at both stops. Assumes nothing.
-use Prim.Native.Nat.{ℕ, zero, suc, _+_, _<_, _≤_}
+use Prim.Native.Nat.{ℕ, zero, suc, _<_, _≤_}
 use mathlib.Core.Path.{_≡_, refl, sym, ap, ap₂, subst, _∙_}
 use mathlib.Core.Bool.{Bool, true, false, _&&_, _||_, and-eq-true-iff}
 use mathlib.Core.Logic.{_⊎_, inl, inr, _↔_}
-use mathlib.Core.List.{List, [], _∷_, map, List·Memᴰ, List·Memᴰ·head, List·Memᴰ·tail, List·Memᴰ·not-nil, List·Memᴰ·cases-cons}
+use mathlib.Core.List.{List, [], _∷_, map, List·Memᴰ, List·Memᴰ·cases-cons}
 use native.Mathlib.Nat.{le-antisymm}
 use native.Mathlib.Omega.{arith}
 use native.Mathlib.Decide.{ℕ-discrete}
 use lib.Dec.{eqb, ltb, leb}
 use lib.IntN.{pos, _-ℤ_}
-use lib.ListN.{length, getD, length-map}
-use borrow.Author.Tests.{le-ltb, ltb-true, eqb-true, eqb-false, eq-eqb, ne-eqb}
+use lib.ListN.{length, getD}
+use borrow.Author.Tests.{le-ltb, ltb-true, eqb-true, eq-eqb, ne-eqb}
 use Rattle.network.specs.declared.Call.{Call}
 use Rattle.network.specs.Lists.{pick, keep}
 use Rattle.network.specs.Divisor.{gcd}
@@ -20,12 +20,12 @@ use Rattle.network.specs.Network.{Net, howOftenAt}
 use Rattle.network.specs.Valid.{noCall}
 use Rattle.network.specs.Gap.{residue}
 use Rattle.network.specs.Rating.{periodOf, callsOfStop}
-use Rattle.network.specs.Tidy.{notAfter, tidy, sortBy}
+use Rattle.network.specs.Tidy.{notAfter, tidy}
 use Rattle.network.specs.Classes.{ordered, orderedCall, remainder, Alike}
 use Rattle.network.specs.Loops.{offsetsAt, matchedDifference, AlikeOfCalls}
 use Rattle.network.proofs.Laws.Lists.{zero-ne-one, getD-map}
 use Rattle.network.proofs.Laws.Members.{EveryTwo, everyTwo-of-implied, keep-all, keep-keep, member-of-keep, member-of-place}
-use Rattle.network.proofs.Laws.Sorted.{EachHas, eachHas-of-all, map-sortBy}
+use Rattle.network.proofs.Laws.Sorted.{eachHas-of-all, map-sortBy}
 use Rattle.network.proofs.Laws.Tidy.{keep-tidy, length-tidy, tidy-sorted}
 
 abbrev linesOf : List Call → List ℕ

@@ -24,7 +24,7 @@ fn archive_prints_a_line_for_each_command() {
 #[test]
 fn archive_of_the_samples() {
     let folder = Folder::new();
-    for name in ["one_line", "two_lines", "village", "town"] {
+    for name in ["one_line", "two_lines", "loop", "village", "town"] {
         let network = format!("samples/{name}.hex");
         let typed = folder.file("tidy.hex", exam(&["archive", &network]).out);
         let raw = folder.file("tidy.net", written(&["archive", &network, "--raw"]));

@@ -68,7 +68,7 @@ fn print_row(seed: u64, file: &[u8], times: Times) {
         "{:5} {:5} {:5} {seed:4} {:14.1} {:12.1} {:6.2}",
         net.lines(),
         net.served_stops().len(),
-        net.calls,
+        net.calls.len(),
         times.engine,
         times.rust,
         times.engine / times.rust

@@ -72,17 +72,24 @@ impl Stated {
         of_line.map(|call| call.2)
     }
 
-    /// Whether a line calls at a stop.
-    pub fn calls_at(&self, line: u8, stop: u8) -> bool {
+    /// How often a line calls at a stop.
+    pub fn how_often(&self, line: u8, stop: u8) -> usize {
         self.calls
             .iter()
-            .any(|call| (call.0, call.1) == (line, stop))
+            .filter(|call| (call.0, call.1) == (line, stop))
+            .count()
+    }
+
+    /// Whether some line calls at some stop twice.
+    pub fn has_loop(&self) -> bool {
+        let twice = |call: &(u8, u8, u16)| self.how_often(call.0, call.1) > 1;
+        self.calls.iter().any(twice)
     }
 
     /// The stops at which a line doesn't call.
     pub fn free_stops(&self, line: u8) -> Vec<u8> {
         (0..STOPS as u8)
-            .filter(|&stop| !self.calls_at(line, stop))
+            .filter(|&stop| self.how_often(line, stop) == 0)
             .collect()
     }
 

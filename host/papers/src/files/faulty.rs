@@ -5,7 +5,8 @@ use super::commands::{bytes_of, Command, Stated};
 use super::dice::Dice;
 use super::valid::{any_minutes, valid_commands};
 use crate::sections::network::{
-    CALL, END, FOLLOW, LINE, MAX_CALLS, MAX_CYCLE, MAX_LINES, MAX_OFFSET, MAX_PERIOD, STOPS,
+    CALL, END, FOLLOW, LINE, MAX_CALLS, MAX_CALLS_AT_STOP, MAX_CYCLE, MAX_LINES, MAX_OFFSET,
+    MAX_PERIOD, STOPS,
 };
 
 /// A refused file with the place that document 01 gives it.
@@ -165,7 +166,8 @@ fn faulty_call(dice: &mut Dice, stated: &Stated, ground: u8) -> Option<Command> 
         return Some(either(dice, line, stop));
     }
     if ground == 9 {
-        let (line, stop, _) = *stated.calls.last()?;
+        let full = |call: &&(u8, u8, u16)| stated.how_often(call.0, call.1) == MAX_CALLS_AT_STOP;
+        let (line, stop, _) = *stated.calls.iter().find(full)?;
         return Some(either(dice, line, stop));
     }
     let free = stated.free_stops(line);

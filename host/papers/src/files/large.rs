@@ -53,14 +53,21 @@ pub fn limit_file(dice: &mut Dice) -> Vec<u8> {
     for line in 0..lines as u8 {
         for stop in 0..stops as u8 {
             let offset = dice.pick(&[0, 1, 59, 32_768, 65_534, 65_535]);
-            commands.push(match dice.below(200) {
-                0 => Command::Follow {
-                    line,
-                    stop,
-                    ride: offset,
-                },
-                _ => Command::Call { line, stop, offset },
-            });
+            // Now and then a line comes back to a stop, once or twice.
+            for _ in 0..if dice.once_in(100) {
+                dice.within(2, 3)
+            } else {
+                1
+            } {
+                commands.push(match dice.below(200) {
+                    0 => Command::Follow {
+                        line,
+                        stop,
+                        ride: offset,
+                    },
+                    _ => Command::Call { line, stop, offset },
+                });
+            }
         }
     }
     commands.push(Command::End);

@@ -2,7 +2,7 @@
 
 use super::commands::{bytes_of, Command, Stated};
 use super::dice::Dice;
-use crate::sections::network::{MAX_CALLS, MAX_PERIOD, STOPS};
+use crate::sections::network::{MAX_CALLS, MAX_CALLS_AT_STOP, MAX_PERIOD, STOPS};
 
 /// Bounds for a generated network.
 #[derive(Clone, Debug)]
@@ -57,7 +57,8 @@ pub fn valid_commands_of(dice: &mut Dice, size: &Size) -> Vec<Command> {
     let pool = period_pool(size);
     let lines = dice.within(size.lines.0, size.lines.1);
     let mut waiting = choose_stops(dice, size, lines);
-    let road = choose_road(dice);
+    // By the second a line comes back to a stop.
+    let road = choose_roads(dice);
     let mut stated = Stated::default();
     let mut commands = Vec::new();
     loop {
@@ -76,7 +77,8 @@ pub fn valid_commands_of(dice: &mut Dice, size: &Size) -> Vec<Command> {
         } else {
             let line = dice.pick(&ready);
             let stop = waiting[line].pop().expect("a waiting stop");
-            let offset = choose_offset(dice, &road, stated.periods[line], stop);
+            let turn = stated.how_often(line as u8, stop);
+            let offset = choose_offset(dice, &road[turn], stated.periods[line], stop);
             call_or_follow(dice, &stated, line as u8, stop, offset)
         };
         stated.add(command);
@@ -85,11 +87,16 @@ pub fn valid_commands_of(dice: &mut Dice, size: &Size) -> Vec<Command> {
 }
 
 /// In half of the files all lines go along one road, with the same minutes
-/// between stops (but for whole periods), so that there are alike stops.
-fn choose_road(dice: &mut Dice) -> Option<Vec<u16>> {
-    match dice.once_in(2) {
-        true => Some((0..STOPS).map(|_| dice.below(60) as u16).collect()),
-        false => None,
+/// between stops (but for whole periods), so that there are alike stops; and
+/// those that come back to a stop along another.
+fn choose_roads(dice: &mut Dice) -> [Option<Vec<u16>>; MAX_CALLS_AT_STOP] {
+    let alike = dice.once_in(2);
+    let longer = dice.below(20) as u16;
+    let there: Vec<u16> = (0..STOPS).map(|_| dice.below(60) as u16).collect();
+    let back = there.iter().map(|minutes| minutes + longer).collect();
+    match alike {
+        true => [Some(there), Some(back)],
+        false => [None, None],
     }
 }
 
@@ -103,14 +110,15 @@ fn choose_offset(dice: &mut Dice, road: &Option<Vec<u16>>, period: u16, stop: u8
     }
 }
 
-/// For each line the stops at which it is to call: one at least, 256 in all at
-/// most.
+/// For each line the stops at which it is to call: one at least, 256 calls in
+/// all at most. In a third of the files lines come back to some of their stops.
 fn choose_stops(dice: &mut Dice, size: &Size, lines: usize) -> Vec<Vec<u8>> {
     let mut stops: Vec<u8> = (0..STOPS as u8).collect();
     if dice.once_in(2) {
         dice.shuffle(&mut stops);
     }
     stops.truncate(dice.within(size.stops.0, size.stops.1));
+    let loops = dice.once_in(3);
     let most = stops.len().min(MAX_CALLS / lines);
     (0..lines)
         .map(|_| {
@@ -120,7 +128,13 @@ fn choose_stops(dice: &mut Dice, size: &Size, lines: usize) -> Vec<Vec<u8>> {
             } else {
                 dice.within(1, most)
             };
-            stops[..count].to_vec()
+            let mut chosen = stops[..count].to_vec();
+            if loops {
+                let twice = dice.within(0, count.min(MAX_CALLS / lines - count));
+                chosen.extend_from_slice(&stops[..twice]);
+                dice.shuffle(&mut chosen);
+            }
+            chosen
         })
         .collect()
 }

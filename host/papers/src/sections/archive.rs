@@ -3,20 +3,17 @@
 use super::network::{read, Network, Refusal, CALL, END, LINE};
 
 /// The archive form of an accepted network: "lines in order, then calls by line
-/// and then stop, all as `43`, then `45`".
+/// and then stop, all as `43`, then `45`"; a line's two calls at a stop by offset
+/// (A.2).
 pub fn archive_form(net: &Network) -> Vec<u8> {
     let mut form = Vec::new();
     for &period in &net.periods {
         form.push(LINE);
         form.extend(two_bytes(period));
     }
-    for (line, offsets) in net.offsets.iter().enumerate() {
-        for (stop, offset) in offsets.iter().enumerate() {
-            if let Some(offset) = offset {
-                form.extend([CALL, line as u8, stop as u8]);
-                form.extend(two_bytes(*offset));
-            }
-        }
+    for call in &net.calls {
+        form.extend([CALL, call.line as u8, call.stop as u8]);
+        form.extend(two_bytes(call.offset));
     }
     form.push(END);
     form
@@ -32,7 +29,7 @@ fn two_bytes(number: u32) -> [u8; 2] {
 /// 18, after the file's own: "row shorter than 3×lines + 5×calls + 1, place 0".
 pub fn archive(file: &[u8], row: &mut [u8]) -> Result<usize, Refusal> {
     let net = read(file)?;
-    let length = 3 * net.lines() + 5 * net.calls + 1;
+    let length = 3 * net.lines() + 5 * net.calls.len() + 1;
     if row.len() < length {
         return Err(Refusal {
             number: 18,

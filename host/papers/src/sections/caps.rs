@@ -1,33 +1,37 @@
-//! Document 01, "Caps".
+//! Document 01, "Caps"; document 02, A.2: "A line's own pair caps its stop at
+//! its exact gap, and the cap's sum has one term per call."
 
-use super::network::{Network, STOPS};
-use super::rating::{divisor, pair_gap, pairs, rating_of_gaps, Rating};
+use super::network::{Call, Network, STOPS};
+use super::rating::{divisor, nearer, pair_gap, pairs, rating_of_gaps, remainder, Rating};
 
 /// The cap of a stop, `None` if it is unserved.
 pub fn cap(net: &Network, stop: usize) -> Option<u32> {
-    let lines = net.lines_at(stop);
-    match lines.len() {
-        0 => None,
-        1 => Some(net.periods[lines[0]]),
-        _ => Some(half_divisor(net, &lines).min(mean_distance(net, &lines))),
+    let calls = net.calls_at(stop);
+    match calls[..] {
+        [] => None,
+        [lone] => Some(net.period(lone)),
+        _ => {
+            let of_pairs = pairs(&calls).map(|(a, b)| pair_cap(net, a, b));
+            Some(of_pairs.fold(mean_distance(net, &calls), u32::min))
+        }
     }
 }
 
-/// "the smallest half of g, rounded down, over its pairs"
-fn half_divisor(net: &Network, lines: &[usize]) -> u32 {
-    pairs(lines)
-        .map(|(a, b)| divisor(net.periods[a], net.periods[b]) / 2)
-        .min()
-        .expect("two lines at least")
+/// "the smallest half of g, rounded down, over its pairs"; of one line the exact
+/// gap, in which its start plays no part.
+fn pair_cap(net: &Network, a: Call, b: Call) -> u32 {
+    if a.line == b.line {
+        let period = net.period(a);
+        let apart = i64::from(a.offset) - i64::from(b.offset);
+        return nearer(remainder(apart, period), period);
+    }
+    divisor(net.period(a), net.period(b)) / 2
 }
 
 /// "the whole part of C / (sum of C/T over its lines), C the common cycle, T a
-/// period"
-fn mean_distance(net: &Network, lines: &[usize]) -> u32 {
-    let arrivals: u32 = lines
-        .iter()
-        .map(|&line| net.cycle / net.periods[line])
-        .sum();
+/// period", with one term per call
+fn mean_distance(net: &Network, calls: &[Call]) -> u32 {
+    let arrivals: u32 = calls.iter().map(|&call| net.cycle / net.period(call)).sum();
     net.cycle / arrivals
 }
 
@@ -44,9 +48,9 @@ pub fn caps(net: &Network) -> [u32; STOPS] {
 /// cap and the gaps of its placed pairs". Starts behind `placed` aren't looked
 /// at. (The walk doesn't use this; it brings its upper values forward.)
 pub fn upper_value(net: &Network, stop: usize, placed: usize, starts: &[i64]) -> Option<u32> {
-    let mut lines = net.lines_at(stop);
-    lines.retain(|&line| line < placed);
-    let gaps = pairs(&lines).map(|(a, b)| pair_gap(net, stop, a, b, starts));
+    let mut calls = net.calls_at(stop);
+    calls.retain(|call| call.line < placed);
+    let gaps = pairs(&calls).map(|(a, b)| pair_gap(net, a, b, starts));
     cap(net, stop).map(|cap| gaps.fold(cap, u32::min))
 }
 

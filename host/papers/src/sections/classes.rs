@@ -1,6 +1,6 @@
-//! Document 01, "Classes of stops"; ground 17.
+//! Document 01, "Classes of stops", and document 02, A.2; ground 17.
 
-use super::network::{read, Network, Refusal, STOPS};
+use super::network::{read, Call, Network, Refusal, STOPS};
 use super::rating::{divisor, pairs, remainder, stop_gap, Rating};
 
 /// The class row's entry for an unserved stop.
@@ -41,23 +41,23 @@ fn lowest_alike(net: &Network, stop: usize) -> usize {
         .unwrap_or(stop)
 }
 
-/// "Two served stops are alike if the same lines call at both and, for each
-/// pair of those lines, the differences of their offsets leave the same
-/// remainder by g."
+/// "Alike stops have equally many calls of each line, matched in order of offset,
+/// and are compared over every pair of calls, also of one line": "the differences
+/// of their offsets leave the same remainder by g".
 pub fn alike(net: &Network, one: usize, other: usize) -> bool {
-    let lines = net.lines_at(one);
-    !lines.is_empty()
-        && lines == net.lines_at(other)
-        && pairs(&lines)
-            .all(|(a, b)| offset_remainder(net, one, a, b) == offset_remainder(net, other, a, b))
+    let (here, there) = (net.calls_at(one), net.calls_at(other));
+    let lines = |calls: &[Call]| calls.iter().map(|call| call.line).collect::<Vec<usize>>();
+    let matched = || pairs(&here).zip(pairs(&there));
+    !here.is_empty()
+        && lines(&here) == lines(&there)
+        && matched()
+            .all(|((a, b), (c, d))| offset_remainder(net, a, b) == offset_remainder(net, c, d))
 }
 
-/// The remainder by g of the difference of two lines' offsets at a stop.
-fn offset_remainder(net: &Network, stop: usize, a: usize, b: usize) -> u32 {
-    let offset =
-        |line: usize| i64::from(net.offsets[line][stop].expect("the line calls at the stop"));
-    let g = divisor(net.periods[a], net.periods[b]);
-    remainder(offset(a) - offset(b), g)
+/// The remainder by g of the difference of two calls' offsets.
+fn offset_remainder(net: &Network, a: Call, b: Call) -> u32 {
+    let g = divisor(net.period(a), net.period(b));
+    remainder(i64::from(a.offset) - i64::from(b.offset), g)
 }
 
 /// The weighted rating: "takes lowest stops only, each gap times its weight in

@@ -1,5 +1,6 @@
 //! Document 01, "The network file", and grounds 1 to 14 of "Grounds for
-//! refusing".
+//! refusing"; document 02, A.2: "A line may now call twice at a stop; ground 9
+//! is for the third."
 
 /// "at most 16 lines"
 pub const MAX_LINES: usize = 16;
@@ -13,6 +14,8 @@ pub const MAX_PERIOD: u32 = 1_440;
 pub const MAX_CYCLE: u32 = 10_080;
 /// "offsets 0 to 65,535"
 pub const MAX_OFFSET: u32 = 65_535;
+/// "A line may now call twice at a stop"
+pub const MAX_CALLS_AT_STOP: usize = 2;
 
 /// The four command bytes.
 pub const LINE: u8 = 0x4C;
@@ -27,15 +30,22 @@ pub struct Refusal {
     pub place: usize,
 }
 
+/// A call: the line reaches the stop so many minutes after its start. The order
+/// of calls is by line, then stop, then offset.
+#[derive(Clone, Copy, Debug, PartialEq, Eq, PartialOrd, Ord)]
+pub struct Call {
+    pub line: usize,
+    pub stop: usize,
+    pub offset: u32,
+}
+
 /// An accepted network.
 #[derive(Clone, Debug, PartialEq, Eq)]
 pub struct Network {
     /// The period of each line, in file order.
     pub periods: Vec<u32>,
-    /// `offsets[line][stop]`: the travel offset, if the line calls there.
-    pub offsets: Vec<[Option<u32>; STOPS]>,
-    /// The number of calls.
-    pub calls: usize,
+    /// The calls, in their order: nothing but reading goes by the file's.
+    pub calls: Vec<Call>,
     /// The least common multiple of all periods.
     pub cycle: u32,
 }
@@ -56,18 +66,23 @@ impl Network {
         self.periods.len()
     }
 
-    /// The lines that call at a stop, ascending.
-    pub fn lines_at(&self, stop: usize) -> Vec<usize> {
-        (0..self.lines())
-            .filter(|&line| self.offsets[line][stop].is_some())
-            .collect()
+    /// The calls at a stop by line, those of one line by offset.
+    pub fn calls_at(&self, stop: usize) -> Vec<Call> {
+        let mut calls = self.calls.clone();
+        calls.retain(|call| call.stop == stop);
+        calls
+    }
+
+    /// The period of a call's line.
+    pub fn period(&self, call: Call) -> u32 {
+        self.periods[call.line]
     }
 
     /// The stops with a call, ascending. "A stop with no call is unserved and
     /// counts nowhere."
     pub fn served_stops(&self) -> Vec<usize> {
         (0..STOPS)
-            .filter(|&stop| !self.lines_at(stop).is_empty())
+            .filter(|&stop| self.calls.iter().any(|call| call.stop == stop))
             .collect()
     }
 
@@ -76,7 +91,7 @@ impl Network {
         Counts {
             lines: self.lines(),
             served_stops: self.served_stops().len(),
-            calls: self.calls,
+            calls: self.calls.len(),
             cycle: self.cycle,
         }
     }
@@ -106,7 +121,7 @@ pub fn read(file: &[u8]) -> Result<Network, Refusal> {
                     number: 14,
                     place: behind,
                 }),
-                false => Ok(reader.net),
+                false => Ok(reader.network()),
             };
         }
         place = behind;
@@ -142,14 +157,19 @@ impl Reader {
     fn new() -> Reader {
         let net = Network {
             periods: Vec::new(),
-            offsets: Vec::new(),
-            calls: 0,
+            calls: Vec::new(),
             cycle: 1,
         };
         Reader {
             net,
             latest: Vec::new(),
         }
+    }
+
+    /// The network of a file that is read to its end.
+    fn network(mut self) -> Network {
+        self.net.calls.sort();
+        self.net
     }
 
     /// Takes one command whose operands are all there.
@@ -172,7 +192,6 @@ impl Reader {
         check((1..=MAX_PERIOD).contains(&period), 5)?;
         self.net.cycle = common_cycle(self.net.cycle, period).ok_or(6u8)?;
         self.net.periods.push(period);
-        self.net.offsets.push([None; STOPS]);
         self.latest.push(None);
         Ok(())
     }
@@ -182,15 +201,16 @@ impl Reader {
     fn call(&mut self, command: u8, line: usize, stop: usize, last: u32) -> Result<(), Ground> {
         check(line < self.net.lines(), 7)?;
         check(stop < STOPS, 8)?;
-        check(self.net.offsets[line][stop].is_none(), 9)?;
-        check(self.net.calls < MAX_CALLS, 10)?;
+        let there = |call: &&Call| (call.line, call.stop) == (line, stop);
+        let often = self.net.calls.iter().filter(there).count();
+        check(often < MAX_CALLS_AT_STOP, 9)?;
+        check(self.net.calls.len() < MAX_CALLS, 10)?;
         let offset = match command {
             FOLLOW => self.latest[line].ok_or(11u8)? + last,
             _ => last,
         };
         check(offset <= MAX_OFFSET, 12)?;
-        self.net.offsets[line][stop] = Some(offset);
-        self.net.calls += 1;
+        self.net.calls.push(Call { line, stop, offset });
         self.latest[line] = Some(offset);
         Ok(())
     }

@@ -1,10 +1,11 @@
 //! Document 01, "The walk"; ground 16.
 //!
 //! The upper values are brought forward: a try looks only at the pairs that
-//! the newly placed line forms with earlier lines.
+//! the newly placed line forms with earlier lines. A line's own pairs are
+//! already in the caps (document 02, A.2).
 
 use super::caps::caps;
-use super::network::{read, Network, Refusal, STOPS};
+use super::network::{read, Call, Network, Refusal, STOPS};
 use super::rating::{divisor, nearer, rating_of_gaps, remainder, Rating};
 
 /// What the search answers.
@@ -70,7 +71,7 @@ pub fn most_tries(net: &Network) -> u128 {
     sum
 }
 
-/// One pair of a line with an earlier line at one stop.
+/// One pair of a line's call with an earlier line's at one stop.
 #[derive(Clone)]
 struct Pair {
     earlier: usize,
@@ -219,7 +220,6 @@ fn minute_more(apart: u32, g: u32) -> u32 {
 /// The stops where a line meets earlier lines.
 fn meetings(net: &Network, line: usize) -> Vec<Meeting> {
     (0..STOPS)
-        .filter(|&stop| net.offsets[line][stop].is_some())
         .map(|stop| Meeting {
             stop,
             pairs: pairs_with_earlier(net, line, stop),
@@ -228,22 +228,25 @@ fn meetings(net: &Network, line: usize) -> Vec<Meeting> {
         .collect()
 }
 
-/// The pairs of a line with earlier lines at a stop where it calls.
+/// The pairs of a line's calls at a stop with those of earlier lines.
 fn pairs_with_earlier(net: &Network, line: usize, stop: usize) -> Vec<Pair> {
-    let offset = |line: usize| i64::from(net.offsets[line][stop].expect("the line calls there"));
-    let mut earlier_lines = net.lines_at(stop);
-    earlier_lines.retain(|&earlier| earlier < line);
-    earlier_lines
-        .iter()
-        .map(|&earlier| {
-            let g = divisor(net.periods[line], net.periods[earlier]);
-            let shift = remainder(offset(line) - offset(earlier), g);
-            Pair {
-                earlier,
-                g,
-                shift,
-                apart: shift,
-            }
-        })
-        .collect()
+    let calls = net.calls_at(stop);
+    let own = calls.iter().filter(|call| call.line == line);
+    own.flat_map(|&call| {
+        let earlier = calls.iter().filter(move |other| other.line < line);
+        earlier.map(move |&other| pair(net, call, other))
+    })
+    .collect()
+}
+
+/// A call with one of an earlier line, before the first try.
+fn pair(net: &Network, call: Call, earlier: Call) -> Pair {
+    let g = divisor(net.period(call), net.period(earlier));
+    let shift = remainder(i64::from(call.offset) - i64::from(earlier.offset), g);
+    Pair {
+        earlier: earlier.line,
+        g,
+        shift,
+        apart: shift,
+    }
 }

@@ -78,7 +78,7 @@ fn stopped_searches() {
 #[test]
 fn the_deepest_walk_on_a_small_stack() {
     let file = deepest_walk();
-    assert_eq!(read(&file).map(|net| net.calls), Ok(256));
+    assert_eq!(read(&file).map(|net| net.calls.len()), Ok(256));
     let line = program::printed(program::best_on_stack(512), &file);
     assert_eq!(line, best(&file));
     assert!(line.starts_with("stopped gap "), "{line}");

@@ -4,6 +4,7 @@
 mod archive;
 mod best;
 mod given;
+mod loops;
 mod network;
 mod paper;
 mod rating;

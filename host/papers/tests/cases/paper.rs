@@ -73,7 +73,8 @@ fn mistakes_near_at_hand() {
     assert_eq!(all_ratings(&p9(), &[0, 3]).map(|found| found.least), Ok(3));
     assert!(all_ratings(&p9(), &[0, 3]).ok() < all_ratings(&p9(), &[0, 4]).ok());
     // Subtracting without g gives 9, forgetting g-d gives 4.
-    assert_eq!(pair_gap(&net(&p1()), 0, 0, 1, &[0, 0]), 1);
+    let p1 = net(&p1());
+    assert_eq!(pair_gap(&p1, p1.calls[0], p1.calls[1], &[0, 0]), 1);
     // Offset differences without remainders: 0 and -10 are alike by 10.
     assert!(alike(&net(&p9()), 0, 1));
     assert!(!alike(&net(&p9()), 0, 2));

@@ -40,7 +40,9 @@ fn source_example_of_section_2_3() {
     let net = net(&bytes);
     let starts = [2, 5, 1];
     for (stop, line, times) in TABLE {
-        assert_eq!(arrivals(&net, line, stop, starts[line]), times);
+        let mut calls = net.calls_at(stop);
+        calls.retain(|call| call.line == line);
+        assert_eq!(arrivals(&net, calls[0], starts[line]), times);
     }
     let gaps: Vec<Option<u32>> = (1..=4)
         .map(|stop| gap_by_counting(&net, stop, &starts))
@@ -67,8 +69,8 @@ fn source_example_of_section_2_3() {
 #[test]
 fn source_example_3_1_1() {
     let net = net(&p1());
-    assert_eq!(arrivals(&net, 0, 0, 0), [8, 23, 38, 53]);
-    assert_eq!(arrivals(&net, 1, 0, 0), [17, 37, 57]);
+    assert_eq!(arrivals(&net, net.calls[0], 0), [8, 23, 38, 53]);
+    assert_eq!(arrivals(&net, net.calls[1], 0), [17, 37, 57]);
     assert_eq!(gap_by_counting(&net, 0, &[0, 0]), Some(1));
     assert_eq!(stop_gap(&net, 0, &[0, 0]), Some(1));
 }

@@ -2,31 +2,40 @@
 
 use papers::files::{valid_file, Dice};
 use papers::sections::classes::{alike, class_call, classes, UNSERVED};
-use papers::sections::network::{read, Network, STOPS};
+use papers::sections::network::{read, Call, Network, STOPS};
 use papers::sections::rating::{pair_gap, pairs};
 
-/// Whether two served stops are alike, by trying: the same lines, and for each
-/// pair of lines the same gap at both stops for every start of one of them.
+/// Whether two served stops are alike, by trying: as many calls of each line,
+/// and for each two calls, matched in order of offset, the same gap at both
+/// stops for every minute by which the one is late.
 fn alike_by_gaps(net: &Network, one: usize, other: usize) -> bool {
-    let lines = net.lines_at(one);
-    let remainder = |stop: usize, a: usize, b: usize| {
-        // The start of b at which the two lines meet at the stop, other starts
-        // 0: it gives away the remainder.
-        let mut starts = vec![0; net.lines()];
-        (0..i64::from(net.periods[b])).find(|&start| {
-            starts[b] = start;
-            pair_gap(net, stop, a, b, &starts) == 0
+    let (here, there) = (net.calls_at(one), net.calls_at(other));
+    let starts = vec![0; net.lines()];
+    // The minutes by which b would have to be late for the two calls to meet:
+    // they give away the remainder.
+    let late = |a: Call, b: Call| {
+        (0..net.period(b)).find(|minutes| {
+            let offset = b.offset + minutes;
+            pair_gap(net, a, Call { offset, ..b }, &starts) == 0
         })
     };
-    lines == net.lines_at(other)
-        && pairs(&lines).all(|(a, b)| remainder(one, a, b) == remainder(other, a, b))
+    let lines = |calls: &[Call]| calls.iter().map(|call| call.line).collect::<Vec<usize>>();
+    lines(&here) == lines(&there)
+        && pairs(&here)
+            .zip(pairs(&there))
+            .all(|((a, b), (c, d))| late(a, b) == late(c, d))
+}
+
+/// Whether some line calls twice.
+fn own_pair(calls: &[Call]) -> bool {
+    pairs(calls).any(|(a, b)| a.line == b.line)
 }
 
 /// Class and weight rows: every entry by its definition.
 #[test]
 fn classes_of_valid_files() {
     let mut dice = Dice::new(17);
-    let mut joined = 0;
+    let (mut joined, mut loops) = (0, 0);
     for _ in 0..1_000 {
         let file = valid_file(&mut dice);
         let net = read(&file).expect("a valid file");
@@ -47,7 +56,8 @@ fn classes_of_valid_files() {
             assert_eq!(usize::from(found.class_row[stop]), alikes[0]);
             let weight = if alikes[0] == stop { alikes.len() } else { 0 };
             assert_eq!(usize::from(found.weight_row[stop]), weight);
-            joined += usize::from(weight > 1 && net.lines_at(stop).len() > 1);
+            joined += usize::from(weight > 1 && net.calls_at(stop).len() > 1);
+            loops += usize::from(weight > 1 && own_pair(&net.calls_at(stop)));
         }
         let total: usize = found
             .weight_row
@@ -62,4 +72,5 @@ fn classes_of_valid_files() {
         assert_eq!((class_row, weight_row), (found.class_row, found.weight_row));
     }
     assert!(joined > 100, "{joined}");
+    assert!(loops > 20, "{loops}");
 }

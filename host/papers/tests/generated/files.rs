@@ -4,7 +4,7 @@ use papers::files::{
     any_file, bytes_of, damaged_file, likely_bytes, limit_file, random_bytes, valid_commands,
     valid_file, very_long_file, Dice, Stated,
 };
-use papers::sections::network::{read, read_counts, Refusal, MAX_CYCLE};
+use papers::sections::network::{read, read_counts, Call, Refusal, MAX_CYCLE};
 
 #[test]
 fn the_same_seed_gives_the_same_files() {
@@ -22,7 +22,7 @@ fn the_same_seed_gives_the_same_files() {
 #[test]
 fn valid_files_are_read_as_written() {
     let mut dice = Dice::new(8);
-    let mut follows = 0;
+    let (mut follows, mut loops) = (0, 0);
     for _ in 0..3_000 {
         let commands = valid_commands(&mut dice);
         let file = bytes_of(&commands);
@@ -31,13 +31,15 @@ fn valid_files_are_read_as_written() {
         let net = read(&file).expect("a valid file");
         let periods: Vec<u32> = stated.periods.iter().map(|&period| period.into()).collect();
         assert_eq!(net.periods, periods);
-        assert_eq!(net.calls, stated.calls.len());
-        for (line, stop, offset) in &stated.calls {
-            let read = net.offsets[usize::from(*line)][usize::from(*stop)];
-            assert_eq!(read, Some(u32::from(*offset)));
-        }
-        let known: usize = net.offsets.iter().flatten().flatten().count();
-        assert_eq!(known, net.calls);
+        let calls = stated.calls.iter().map(|&(line, stop, offset)| Call {
+            line: line.into(),
+            stop: stop.into(),
+            offset: offset.into(),
+        });
+        let mut calls: Vec<Call> = calls.collect();
+        calls.sort();
+        assert_eq!(net.calls, calls);
+        loops += usize::from(stated.has_loop());
         // The least number that every period divides.
         let cycle = (1..=MAX_CYCLE)
             .find(|cycle| periods.iter().all(|period| cycle % period == 0))
@@ -46,6 +48,7 @@ fn valid_files_are_read_as_written() {
         assert_eq!(read_counts(&file), Ok(net.counts()));
     }
     assert!(follows > 3_000);
+    assert!((300..2_000).contains(&loops), "{loops}");
 }
 
 /// Every shorter part of an accepted file is refused on ground 1 or 3, with the

@@ -54,7 +54,7 @@ fn three_ratings_on_large_networks() {
         let net = read(&file).expect("a valid file");
         assert_eq!(net.lines(), lines);
         assert_eq!(net.served_stops().len(), stops);
-        assert_eq!(net.calls, lines * stops.min(256 / lines));
+        assert_eq!(net.calls.len(), lines * stops.min(256 / lines));
         for _ in 0..40 {
             let sheet = sheet(&mut dice, lines);
             let one = rate(&file, &sheet);

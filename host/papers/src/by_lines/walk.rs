@@ -1,0 +1,205 @@
+//! Document 01, "The walk".
+//!
+//! The upper values are brought forward: a try looks only at the pairs that
+//! the newly placed line forms with earlier lines.
+
+use super::caps::caps;
+use super::network::Network;
+use crate::sections::network::STOPS;
+use crate::sections::rating::{divisor, nearer, rating_of_gaps, remainder, Rating};
+use crate::sections::walk::{Answer, Walked};
+
+/// The walk over an accepted network.
+pub fn walk(net: &Network, budget: u32) -> Walked {
+    let mut walker = Walker::new(net, budget);
+    let end = walker.line(0);
+    let tries = walker.tries;
+    let answer = match (end, walker.best) {
+        (End::Walked, Some(best)) => Answer::Finished { best, tries },
+        (End::Walked, None) => unreachable!("the first descent reaches a full timetable"),
+        (End::Stopped, Some(best)) => Answer::Stopped { best, tries },
+        (End::Stopped, None) => Answer::StoppedWithNone { tries },
+    };
+    Walked {
+        answer,
+        starts: walker.best.map(|_| walker.best_starts),
+    }
+}
+
+/// One pair of a line with an earlier line at one stop.
+#[derive(Clone)]
+struct Pair {
+    earlier: usize,
+    /// The greatest common divisor of the two periods.
+    g: u32,
+    /// The line's offset less that of the earlier line, reduced to 0..g-1.
+    shift: u32,
+    /// The difference of arrivals, reduced to 0..g-1, with the line at the
+    /// start that is due and the earlier line where it stands.
+    apart: u32,
+}
+
+/// The pairs of a line with earlier lines at one stop.
+#[derive(Clone)]
+struct Meeting {
+    stop: usize,
+    pairs: Vec<Pair>,
+}
+
+/// How the walk below a line ended.
+#[derive(Clone, Copy, PartialEq, Eq)]
+enum End {
+    Walked,
+    Stopped,
+}
+
+struct Walker<'a> {
+    net: &'a Network,
+    /// For each line the stops where it meets earlier lines.
+    meetings: Vec<Vec<Meeting>>,
+    /// `uppers[n]`: the stops' upper values with the first n lines placed.
+    uppers: Vec<[u32; STOPS]>,
+    /// `ratings[n]`: the upper rating with the first n lines placed.
+    ratings: Vec<Rating>,
+    /// The starts of the placed lines.
+    starts: Vec<i32>,
+    best: Option<Rating>,
+    best_starts: Vec<i32>,
+    tries: u32,
+    budget: u32,
+}
+
+impl Walker<'_> {
+    fn new(net: &Network, budget: u32) -> Walker<'_> {
+        let lines = net.lines();
+        let caps = caps(net);
+        let served: Vec<u32> = net.served_stops().iter().map(|&stop| caps[stop]).collect();
+        Walker {
+            net,
+            meetings: (0..lines).map(|line| meetings(net, line)).collect(),
+            uppers: vec![caps; lines + 1],
+            ratings: vec![rating_of_gaps(&served); lines + 1],
+            starts: vec![0; lines],
+            best: None,
+            best_starts: vec![0; lines],
+            tries: 0,
+            budget,
+        }
+    }
+
+    /// Tries the starts of a line, ascending, all earlier lines being placed.
+    fn line(&mut self, line: usize) -> End {
+        self.enter(line);
+        for start in 0..self.choices(line) {
+            // "If a try is due and the tries made equal the budget [..], the
+            // walk stops."
+            if self.tries == self.budget {
+                return End::Stopped;
+            }
+            self.tries += 1;
+            if self.judge(line, start) == End::Stopped {
+                return End::Stopped;
+            }
+        }
+        End::Walked
+    }
+
+    /// "Line 0 is tried at 0 only, each other line at 0 up to its period less
+    /// 1."
+    fn choices(&self, line: usize) -> u32 {
+        match line {
+            0 => 1,
+            _ => self.net.periods[line],
+        }
+    }
+
+    /// Judges one placement: dropped, or on to the next line, or the new best.
+    fn judge(&mut self, line: usize, start: u32) -> End {
+        self.starts[line] = start as i32;
+        let upper = self.place(line);
+        // "before the first full timetable every rating is above": None is
+        // below every Some.
+        if Some(upper) <= self.best {
+            return End::Walked;
+        }
+        if line + 1 < self.net.lines() {
+            return self.line(line + 1);
+        }
+        self.best = Some(upper);
+        self.best_starts.copy_from_slice(&self.starts);
+        End::Walked
+    }
+
+    /// Makes ready to try a line from start 0 on, all earlier lines being
+    /// placed.
+    fn enter(&mut self, line: usize) {
+        self.uppers[line + 1] = self.uppers[line];
+        for meeting in &mut self.meetings[line] {
+            for pair in &mut meeting.pairs {
+                let earlier = i64::from(self.starts[pair.earlier]);
+                pair.apart = remainder(i64::from(pair.shift) - earlier, pair.g);
+            }
+        }
+    }
+
+    /// Places a line at the start that is due and returns the upper rating.
+    /// Only the stops where the line meets earlier lines get another upper
+    /// value. Starts ascend by one, and so do the differences of arrivals.
+    fn place(&mut self, line: usize) -> Rating {
+        let (before, behind) = self.uppers.split_at_mut(line + 1);
+        let (old, new) = (&before[line], &mut behind[0]);
+        let Rating { mut least, mut sum } = self.ratings[line];
+        for meeting in &mut self.meetings[line] {
+            let mut value = old[meeting.stop];
+            for pair in &mut meeting.pairs {
+                value = value.min(nearer(pair.apart, pair.g));
+                pair.apart = minute_more(pair.apart, pair.g);
+            }
+            least = least.min(value);
+            sum -= old[meeting.stop] - value;
+            new[meeting.stop] = value;
+        }
+        self.ratings[line + 1] = Rating { least, sum };
+        self.ratings[line + 1]
+    }
+}
+
+/// A remainder of 0..g-1 for a difference that is one minute more.
+fn minute_more(apart: u32, g: u32) -> u32 {
+    match apart + 1 == g {
+        true => 0,
+        false => apart + 1,
+    }
+}
+
+/// The stops where a line meets earlier lines.
+fn meetings(net: &Network, line: usize) -> Vec<Meeting> {
+    (0..STOPS)
+        .filter(|&stop| net.offsets[line][stop].is_some())
+        .map(|stop| Meeting {
+            stop,
+            pairs: pairs_with_earlier(net, line, stop),
+        })
+        .filter(|meeting| !meeting.pairs.is_empty())
+        .collect()
+}
+
+/// The pairs of a line with earlier lines at a stop where it calls.
+fn pairs_with_earlier(net: &Network, line: usize, stop: usize) -> Vec<Pair> {
+    let offset = |line: usize| i64::from(net.offsets[line][stop].expect("the line calls there"));
+    let mut earlier_lines = net.lines_at(stop);
+    earlier_lines.retain(|&earlier| earlier < line);
+    earlier_lines
+        .iter()
+        .map(|&earlier| {
+            let g = divisor(net.periods[line], net.periods[earlier]);
+            let shift = remainder(offset(line) - offset(earlier), g);
+            Pair {
+                earlier,
+                g,
+                shift,
+                apart: shift,
+            }
+        })
+        .collect()
+}

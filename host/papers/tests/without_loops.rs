@@ -1,0 +1,120 @@
+//! Loop routes (document 02, A.2) change nothing on files without them: every
+//! call answers as the papers by lines did, tries included, and so does the
+//! engine.
+
+use engine::{Searched, Sheet};
+use papers::by_lines;
+use papers::files::{any_file, faulty_file, sheet, valid_file, Dice};
+use papers::sections::archive::archive_form;
+use papers::sections::caps::cap;
+use papers::sections::classes::{classes, weighted_rating};
+use papers::sections::network::{read, Refusal, STOPS};
+use papers::sections::rating::{rating, rating_by_counting, whole, Rating};
+use papers::sections::walk::{walk, Answer, Walked};
+
+const BUDGET: u32 = 3_000;
+
+/// What a file gives is the same but for a line's second call at a stop, which
+/// was refused. Returns the network by lines where there is one.
+fn compared(file: &[u8]) -> Option<by_lines::network::Network> {
+    match (by_lines::network::read(file), read(file)) {
+        (Ok(before), now) => {
+            assert_eq!(now.map(|net| net.counts()), Ok(before.counts()));
+            Some(before)
+        }
+        (Err(Refusal { number: 9, .. }), _) => None,
+        (Err(before), now) => {
+            assert_eq!(now.map(|net| net.counts()), Err(before));
+            None
+        }
+    }
+}
+
+/// Ratings, weighted ratings, classes, caps, the archive form and the walk.
+fn answers_as_before(dice: &mut Dice, file: &[u8], before: &by_lines::network::Network) {
+    let net = read(file).expect("an accepted file");
+    let found = classes(&net);
+    assert_eq!(by_lines::classes::classes(before), found);
+    assert_eq!(
+        engine::classes(file).map(|rows| rows.class_row),
+        Ok(found.class_row)
+    );
+    let form = by_lines::archive::archive_form(before);
+    assert_eq!(archive_form(&net), form);
+    assert_eq!(engine::archive(file), Ok(form));
+    for stop in 0..STOPS {
+        assert_eq!(by_lines::caps::cap(before, stop), cap(&net, stop));
+    }
+    let starts = sheet(dice, net.lines());
+    let expected = by_lines::rating::rating(before, &whole(&starts));
+    assert_eq!(rating(&net, &whole(&starts)), expected);
+    assert_eq!(rating_by_counting(&net, &whole(&starts)), expected);
+    assert_eq!(weighted_rating(&net, &whole(&starts)), expected);
+    let rated = engine::rate(file, &Sheet::of_starts(&starts));
+    assert_eq!(
+        rated.map(|found| (found.least, found.sum)),
+        Ok((expected.least, expected.sum))
+    );
+    let walked = by_lines::walk::walk(before, BUDGET);
+    assert_eq!(walk(&net, BUDGET), walked);
+    assert_eq!(searched(file), walked);
+}
+
+/// What the engine's search gives, in the papers' words.
+fn searched(file: &[u8]) -> Walked {
+    let rating = |found: engine::Rating| Rating {
+        least: found.least,
+        sum: found.sum,
+    };
+    match engine::search(file, BUDGET).expect("an accepted file") {
+        Searched::Finished(best) => Walked {
+            answer: Answer::Finished {
+                best: rating(best.rating()),
+                tries: best.tries(),
+            },
+            starts: Some(best.starts().to_vec()),
+        },
+        Searched::Stopped { so_far, tries } => Walked {
+            answer: Answer::Stopped {
+                best: rating(so_far.rating()),
+                tries,
+            },
+            starts: Some(so_far.starts().to_vec()),
+        },
+        Searched::StoppedWithNone { tries } => Walked {
+            answer: Answer::StoppedWithNone { tries },
+            starts: None,
+        },
+    }
+}
+
+#[test]
+fn files_without_loops_are_answered_as_before() {
+    let mut dice = Dice::new(91);
+    let (mut without, mut with) = (0, 0);
+    for _ in 0..4_000 {
+        let file = valid_file(&mut dice);
+        match compared(&file) {
+            Some(before) => {
+                answers_as_before(&mut dice, &file, &before);
+                without += 1;
+            }
+            None => with += 1,
+        }
+    }
+    println!("without loops {without}, with loops {with}");
+    assert!(without > 2_000 && with > 300);
+}
+
+#[test]
+fn other_files_are_refused_as_before() {
+    let mut dice = Dice::new(92);
+    for _ in 0..5_000 {
+        compared(&any_file(&mut dice));
+    }
+    for ground in (1..=14).filter(|&ground| ground != 9) {
+        for _ in 0..200 {
+            compared(&faulty_file(&mut dice, ground).bytes);
+        }
+    }
+}
