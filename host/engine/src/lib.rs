@@ -15,6 +15,7 @@
 //! | [`better`]    | a file, two sheets     | [`Better`]: which of them                |
 //! | [`mark`]      | a file, a sheet, a budget | [`Mark`]: the sheet beside the best   |
 //! | [`archive`]   | a file                 | the one form in which a network is kept  |
+//! | [`contents`]  | a file                 | [`Contents`]: periods and calls, by that form |
 //!
 //! What a call doesn't take it refuses, with a [`Ground`] and a place
 //! ([`Refusal`]). Nothing that is handed over makes a call panic.
@@ -76,10 +77,12 @@
 
 mod answers;
 mod calls;
+mod contents;
 mod exports;
 mod ground;
 mod refusal;
 mod sheet;
+mod texts;
 pub mod typed;
 
 pub use answers::{
@@ -89,6 +92,7 @@ pub use calls::{
     archive, archive_into, better, classes, classes_into, mark, rate, read, search, search_into,
     weighted,
 };
+pub use contents::{contents, Call, Contents};
 pub use ground::{Ground, NoGround};
 pub use refusal::Refusal;
 pub use sheet::Sheet;
