@@ -4,7 +4,7 @@ mod folder;
 
 use crate::input::network::Network;
 use crate::line::operands::{networks, sheets};
-use crate::line::options::{budget, BUDGET, BYTES, QUIET, SHEET_BYTES, SHEET_NUMBERS, TYPED};
+use crate::line::options::{budget, BUDGET, BYTES, PLAN, QUIET, SHEET_BYTES, SHEET_NUMBERS, TYPED};
 use crate::line::table::{Request, Sheets, Verb};
 use crate::output::fault::refused_sheet;
 use crate::output::lines::mark_line;
@@ -19,6 +19,7 @@ pub const VERB: Verb = Verb {
     networks: 1,
     sheets: Sheets::OneOrFolder,
     options: &[
+        &PLAN,
         &TYPED,
         &BYTES,
         &SHEET_NUMBERS,
