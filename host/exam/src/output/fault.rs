@@ -9,6 +9,9 @@ use crate::status::{Status, Trouble};
 use engine::typed::{commands, pairs, CALL, END, FOLLOW, LINE};
 use engine::{Ground, Refusal, Sheet};
 
+/// No command has more bytes.
+const WIDEST: usize = 5;
+
 /// A refusal: `refused 5 at 0` and nothing else on standard output, the words
 /// on standard error.
 pub fn refused(refusal: Refusal, network: &Network) -> Result<Status, Trouble> {
@@ -65,29 +68,36 @@ pub fn lengths(network: &Network, sheets: &[&Sheet]) -> String {
     format!("lines: {lines}; sheet: {}", lengths.join("; other sheet: "))
 }
 
-/// The commands of a network, each with its place.
-fn placed(network: &Network) -> impl Iterator<Item = (usize, &[u8])> {
+/// The commands of a network before a place, each with its own.
+fn above(network: &Network, place: usize) -> impl Iterator<Item = (usize, &[u8])> {
     let mut behind = 0;
-    commands(network.bytes()).into_iter().map(move |command| {
+    let file = network.bytes();
+    let commands = commands(&file[..place.min(file.len())]).into_iter();
+    commands.map(move |command| {
         let place = behind;
         behind += command.len();
         (place, command)
     })
 }
 
+/// The command at a place, if there is one.
+fn command_at(network: &Network, place: usize) -> Option<&[u8]> {
+    let behind = network.bytes().get(place..)?;
+    let one = &behind[..behind.len().min(WIDEST)];
+    commands(one).into_iter().next()
+}
+
 /// The bytes at the place of a refusal and what they say.
 fn at_fault(refusal: Refusal, network: &Network) -> String {
     let place = refusal.place as usize;
-    let at_place = placed(network).find(|(begin, command)| place < begin + command.len());
-    match at_place {
+    match command_at(network, place) {
         None => format!("nothing behind its {place} bytes"),
         // Behind the end there are bytes, and no commands.
-        Some(_) if refusal.ground == Ground::ByteAfterEnd => {
-            let byte = &network.bytes()[place..=place];
-            format!("byte {place}: {}", pairs(byte))
+        Some(command) if refusal.ground == Ground::ByteAfterEnd => {
+            format!("byte {place}: {}", pairs(&command[..1]))
         }
-        Some((begin, command)) => {
-            let says = says(network, begin, command);
+        Some(command) => {
+            let says = says(network, place, command);
             format!("byte {place}: {}{says}", pairs(command))
         }
     }
@@ -121,15 +131,14 @@ fn says(network: &Network, place: usize, command: &[u8]) -> String {
 /// How many lines are stated before a place: at most 16 where the engine came so
 /// far.
 fn lines_above(network: &Network, place: usize) -> u8 {
-    let above = placed(network).take_while(|(begin, _)| *begin < place);
-    above.filter(|(_, command)| command[0] == LINE).count() as u8
+    let stated = above(network, place).filter(|(_, command)| command[0] == LINE);
+    stated.count() as u8
 }
 
 /// What the end at this place comes too early for, and where that is stated.
 fn without_call(network: &Network, end: usize) -> (String, usize) {
-    let above = || placed(network).take_while(|(begin, _)| *begin < end);
-    let calls = |line: u8| above().any(|(_, command)| is_call_of(command, line));
-    let stated = above().filter(|(_, command)| command[0] == LINE);
+    let calls = |line: u8| above(network, end).any(|(_, command)| is_call_of(command, line));
+    let stated = above(network, end).filter(|(_, command)| command[0] == LINE);
     let mut silent = (0..).zip(stated).filter(|(line, _)| !calls(*line));
     match silent.next() {
         Some((line, (place, _))) => {
@@ -148,11 +157,11 @@ fn is_call_of(command: &[u8], line: u8) -> bool {
 /// and which: where a pair is missing, the next text line isn't at fault.
 fn run_over(refusal: Refusal, network: &Network) -> Option<(usize, usize)> {
     let place = refusal.place as usize;
-    let reached = |begin: usize| match refusal.ground {
-        Ground::ByteAfterEnd => begin < place,
-        _ => begin <= place,
+    let refused = match refusal.ground {
+        Ground::ByteAfterEnd => None,
+        _ => command_at(network, place).map(|command| (place, command)),
     };
-    let commands = placed(network).take_while(|(begin, _)| reached(*begin));
+    let commands = above(network, place).chain(refused);
     let mut text_lines = commands.filter_map(|(begin, command)| {
         let (from, _) = network.text_line(begin)?;
         let (to, _) = network.text_line(begin + command.len() - 1)?;

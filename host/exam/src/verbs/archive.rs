@@ -18,12 +18,12 @@ pub const VERB: Verb = Verb {
     about: "\
 Prints the archive form, which is the same for every file of one network: the
 lines in order, then each call with its offset by line and then stop, then the
-end, typed, a line for each command.
+end, typed, a text line for each command.
   4C 000F
   43 00 00 0008
   45
-With --raw its bytes, for a file whose name ends in .net. (--typed and --bytes say
-how NETWORK is written.)
+With --raw its bytes, for a file whose name ends in .net. (--plan, --typed and
+--bytes say how NETWORK is written.)
 ",
     run,
 };

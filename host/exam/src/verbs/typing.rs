@@ -57,7 +57,7 @@ fn with_comments(file: &[u8], names: &Names) -> String {
         }
         [FOLLOW, line, stop, high, low] => {
             let (line, stop) = (named::line(names, line), named::stop(names, stop));
-            format!("{line} reaches {stop} {} minutes on", number(high, low))
+            format!("{line} rides {} minutes on to {stop}", number(high, low))
         }
         _ => "the end".to_string(),
     })

@@ -12,7 +12,7 @@ fn input_that_cannot_be_read() {
     let folder = Folder::new();
     let sheet = |text: &str| folder.file("bad.sheet", text);
     let bad = |text: &str, piece: &str| {
-        exam(&["rate", HEX, &sheet(text)]).told("", 2, &["bad.sheet, line", piece]);
+        exam(&["rate", HEX, &sheet(text)]).told("", 2, &["bad.sheet, text line", piece]);
     };
     bad("0\nthree", "line 2: 'three' is no whole number");
     bad("0 3.5", "'3.5' is no whole number");

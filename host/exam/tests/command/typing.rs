@@ -32,7 +32,7 @@ fn type_of_other_networks() {
     let typed = "\
 4C 003C          # line 0: every 60 minutes
 43 00 09 0064    # line 0 reaches stop 9 after 100 minutes
-46 00 01 0001    # line 0 reaches stop 1 1 minutes on
+46 00 01 0001    # line 0 rides 1 minutes on to stop 1
 45               # the end
 ";
     exam_with(&["type", "-", "--typed"], rides.as_bytes()).printed(typed, 0);

@@ -36,9 +36,9 @@ Rates a sheet and searches for the best timetable:
 The last where the budget was used up, so that the best isn't known.
 
 Of a folder every file is marked as a sheet, but for hidden ones and folders: a
-line for each in name order, on all cores, with the name and a colon before it.
-A file that can't be read as a sheet has the line 'NAME: unreadable'. The exit
-status is the gravest of all: 2, then 1, then 3, then 0.
+text line for each in name order, on all cores, with the name and a colon before
+it. A file that can't be read as a sheet has 'NAME: unreadable'. The exit status
+is the gravest of all: 2, then 1, then 3, then 0.
 ",
     run,
 };
