@@ -17,14 +17,20 @@ struct Shown {
 }
 
 /// The sessions of the README: indented lines, commands after `$ ` and, where
-/// they go on, after `> `.
+/// they go on, after `> `. An empty line between two indented ones is printed.
 fn sessions(text: &str) -> Vec<Shown> {
     let mut all: Vec<Shown> = Vec::new();
     let mut within = false;
-    for line in text.lines() {
-        let Some(line) = line.strip_prefix("    ") else {
-            within = false;
-            continue;
+    let mut lines = text.lines().peekable();
+    while let Some(line) = lines.next() {
+        let next_is_indented = lines.peek().is_some_and(|next| next.starts_with("    "));
+        let line = match line.strip_prefix("    ") {
+            Some(line) => line,
+            None if line.is_empty() && next_is_indented => line,
+            None => {
+                within = false;
+                continue;
+            }
         };
         if let Some(command) = line.strip_prefix("$ ") {
             within = true;
@@ -74,7 +80,8 @@ fn the_sessions_are_real() {
     let sessions = sessions(&readme());
     assert!(sessions.len() >= 14, "{} commands", sessions.len());
     let verbs = [
-        "read", "rate", "classes", "best", "better", "mark", "archive", "same",
+        "read", "show", "rate", "classes", "best", "better", "mark", "archive", "same", "plan",
+        "type",
     ];
     for verb in verbs {
         let word = format!("exam {verb} ");
