@@ -44,13 +44,19 @@ impl Origin {
     }
 }
 
-/// Whether a character does something else to a screen than stand there: what is
-/// told apart by it alone looks the same.
+/// Whether a character does something else to a screen than stand there, or
+/// leaves nothing to be seen: what is told apart by it alone looks the same.
 pub(crate) fn is_unseen(sign: char) -> bool {
     sign.is_control()
-        || matches!(sign, '\u{AD}' | '\u{61C}' | '\u{FEFF}')
-        || matches!(sign, '\u{200B}'..='\u{200F}' | '\u{2028}'..='\u{202E}')
-        || matches!(sign, '\u{2060}'..='\u{206F}' | '\u{FFF9}'..='\u{FFFB}')
+        || matches!(
+            sign,
+            '\u{AD}' | '\u{34F}' | '\u{61C}' | '\u{2800}' | '\u{3164}'
+        )
+        || matches!(sign, '\u{115F}'..='\u{1160}' | '\u{17B4}'..='\u{17B5}')
+        || matches!(sign, '\u{180B}'..='\u{180E}' | '\u{200B}'..='\u{200F}')
+        || matches!(sign, '\u{2028}'..='\u{202E}' | '\u{2060}'..='\u{206F}')
+        || matches!(sign, '\u{FE00}'..='\u{FE0F}' | '\u{FEFF}' | '\u{FFA0}')
+        || matches!(sign, '\u{FFF0}'..='\u{FFFB}' | '\u{E0000}'..='\u{E0FFF}')
 }
 
 /// A part of a text for a message: whatever it holds, it moves no cursor and

@@ -156,14 +156,7 @@ impl fmt::Display for Fault {
             Fault::StopBehindCall => {
                 write!(out, "the number of a stop stands above the first call")
             }
-            Fault::StopNotStated { name } => {
-                write!(
-                    out,
-                    "this plan states its stops, and no '{name}' among them; "
-                )?;
-                write!(out, "expected one of them, or stop NUMBER {name} above ")?;
-                write!(out, "the first call")
-            }
+            Fault::StopNotStated { name } => not_stated(out, name),
             Fault::CallWithoutLine => {
                 write!(out, "a call stands under its line; expected ")?;
                 write!(out, "line NAME every PERIOD above it")
@@ -180,6 +173,14 @@ impl fmt::Display for Fault {
             Fault::TooManyStops => write!(out, "a 257th stop"),
         }
     }
+}
+
+fn not_stated(out: &mut fmt::Formatter<'_>, name: &str) -> fmt::Result {
+    write!(
+        out,
+        "this plan states its stops, and no '{name}' among them; expected one of them, or stop \
+         NUMBER {name} above the first call"
+    )
 }
 
 impl BadName {

@@ -3,6 +3,9 @@
 use crate::common::{command, ended, exam, exam_with, typed, Folder, BEST_LINE, HEX, NET, ROOT};
 use std::fs::File;
 
+/// The network of `two_lines.hex`.
+const PLAN: &str = "line Red every 15\n  Market at 8\nline Green every 20\n  Market at 17\n";
+
 #[test]
 fn the_form_is_never_guessed() {
     let folder = Folder::new();
@@ -46,7 +49,6 @@ fn the_form_is_never_guessed() {
 #[test]
 fn a_plan_is_a_network_to_every_verb() {
     let folder = Folder::new();
-    let text = "line Red every 15\n  Market at 8\nline Green every 20\n  Market at 17\n";
     let zeros = folder.file("zeros.sheet", "0 0");
     let good = folder.file("good.sheet", "0 3");
     let answers: [(&[&str], &[&str]); 9] = [
@@ -61,9 +63,9 @@ fn a_plan_is_a_network_to_every_verb() {
         (&["best", "--budget=20", "--quiet"], &[]),
     ];
     let named = [
-        folder.file("a.plan", text),
-        folder.file("A.PLAN", text),
-        folder.file("a.hex", text),
+        folder.file("a.plan", PLAN),
+        folder.file("A.PLAN", PLAN),
+        folder.file("a.hex", PLAN),
     ];
     for (before, behind) in answers {
         let answer = exam(&[before, &[HEX], behind].concat());
@@ -77,10 +79,16 @@ fn a_plan_is_a_network_to_every_verb() {
             assert_eq!((&ran.out, ran.status), (&answer.out, answer.status));
         }
     }
-    exam_with(&["best", "-", "--plan"], text.as_bytes()).printed(BEST_LINE, 0);
-    exam(&["same", "--plan", &named[1], &named[2]]).printed("same\n", 0);
-    // Whatever else it could be, it is taken for what its name says.
-    exam(&["best", &named[2]]).told("", 2, &["text line 1: 'line' isn't hexadecimal"]);
+}
+
+/// Whatever else it could be, it is taken for what its name or the flag says.
+#[test]
+fn a_plan_is_never_guessed() {
+    let folder = Folder::new();
+    let named = [folder.file("a.plan", PLAN), folder.file("a.hex", PLAN)];
+    exam_with(&["best", "-", "--plan"], PLAN.as_bytes()).printed(BEST_LINE, 0);
+    exam(&["same", "--plan", &named[0], &named[1]]).printed("same\n", 0);
+    exam(&["best", &named[1]]).told("", 2, &["text line 1: 'line' isn't hexadecimal"]);
     let typed = folder.file("typed.plan", "4C000F 4300000008 45");
     exam(&["best", &typed]).told(
         "",

@@ -94,124 +94,199 @@ fn there_and_back_on_many_files() {
     assert!(full > 20, "{full} files at the limits");
 }
 
-/// Every ground that a plan can have, with the text line of its statement.
+/// Texts of the words and signs of plans in any order: each is read or has an
+/// error, and what is read has a text line for each byte and comes back from its
+/// plan.
+#[test]
+fn any_text_is_read_or_has_an_error() {
+    const WORDS: [&str; 24] = [
+        "line ",
+        "stop ",
+        "every ",
+        "at ",
+        "+",
+        "+3",
+        "0",
+        "7 ",
+        "20 ",
+        "65535",
+        "256",
+        "\n",
+        "\n",
+        "\n  ",
+        "# ",
+        "\r\n",
+        "Market ",
+        "market ",
+        "Old mill ",
+        "\u{1B}",
+        "\u{FEFF}",
+        "é",
+        "\t",
+        "line A every 5\nX at 0\n",
+    ];
+    const STATEMENTS: [&str; 8] = [
+        "stop 3 X\n",
+        "stop 9 Y\n",
+        "line A every 20\n",
+        "line B every 30\n",
+        "X at 4\n",
+        "Y +9\n",
+        "X +60000\n",
+        "Y at 0 # a\n",
+    ];
+    let mut dice = Dice::new(98);
+    let (mut read, mut accepted) = (0, 0);
+    for _ in 0..20_000 {
+        let words: &[&str] = if dice.once_in(2) { &WORDS } else { &STATEMENTS };
+        let count = dice.within(0, 12);
+        let text: String = (0..count).map(|_| dice.pick(words)).collect();
+        match plan::read(text.as_bytes()) {
+            Err(why) => assert!(
+                (1..=text.lines().count().max(1)).contains(&why.line),
+                "{text}"
+            ),
+            Ok(plan) => {
+                read += 1;
+                let stated = plan.bytes().len() > 1;
+                assert_eq!(plan.line(0).is_some(), stated, "{text}");
+                if let Ok(contents) = engine::contents(plan.bytes()) {
+                    accepted += 1;
+                    let again = plan::text(&contents, plan.names());
+                    let again = plan::read(again.as_bytes()).expect("a plan");
+                    assert_eq!(again.names(), plan.names());
+                    assert_eq!(engine::contents(again.bytes()), Ok(contents), "{text}");
+                }
+            }
+        }
+    }
+    assert!(
+        read > 1_000 && accepted > 100,
+        "{read} read, {accepted} accepted"
+    );
+}
+
+/// A plan is refused so, and this is said of it.
+fn refused(text: &str, refusal: &str, piece: &str) {
+    let ran = exam_with(&["read", "-", "--plan"], text.as_bytes());
+    assert_eq!(ran.status, 1, "{ran:?}");
+    assert!(ran.out.starts_with(refusal), "no '{refusal}' in {ran:?}");
+    assert!(ran.err.contains(piece), "no '{piece}' in {ran:?}");
+}
+
+/// Every ground that a plan can have leads to the text line of its statement.
 #[test]
 fn refusals_lead_to_the_text_line() {
-    let lines = |count: usize| -> String {
-        let line = |number| format!("line L{number} every 5\n  X at 0\n");
-        (0..count).map(line).collect()
-    };
-    let stops = |count: usize| -> String {
-        let call = |number| format!("  S{number} at 0\n");
-        "line A every 5\n".to_string() + &(0..count).map(call).collect::<String>()
-    };
-    let full: String = (0..5)
-        .map(|line| stops(64).replace("line A", &format!("line A{line}")))
-        .collect();
-    let cases = [
-        (
-            lines(17),
-            "refused 4 at 128",
-            "text line 33: line L16 every 5",
-        ),
-        (
-            "line A every 0".to_string(),
-            "refused 5 at 0",
-            "text line 1: line A every 0",
-        ),
-        (
-            "line A every 1440\nX at 0\nline B every 11".to_string(),
-            "refused 6 at 8",
-            "text line 3: line B every 11",
-        ),
-        (stops(65), "refused 8 at 323", "text line 66: S64 at 0"),
-        (
-            "stop 64 X\nline A every 5\nX at 0 # here".to_string(),
-            "refused 8 at 3",
-            "text line 3: X at 0 # here",
-        ),
-        (
-            "line A every 5\nX at 0\nX at 1\nX at 2".to_string(),
-            "refused 9 at ",
-            "(line 0 'A', stop 0 'X', offset ",
-        ),
-        (full, "refused 10 at 1295", "text line 262: S0 at 0"),
-        (
-            "line A every 5\nX at 0\nline B every 5\n# the end".to_string(),
-            "refused 13 at 11",
-            "line 1 'B' never calls\n  text line 3: line B every 5\n",
-        ),
-        (String::new(), "refused 13 at 0", "there is no line\n"),
-    ];
-    for (text, refusal, piece) in cases {
-        let ran = exam_with(&["read", "-", "--plan"], text.as_bytes());
-        assert_eq!(ran.status, 1, "{ran:?}");
-        assert!(ran.out.starts_with(refusal), "no '{refusal}' in {ran:?}");
-        assert!(ran.err.contains(piece), "no '{piece}' in {ran:?}");
-    }
+    let text_line = "text line 1: line A every 0";
+    refused("line A every 0", "refused 5 at 0", text_line);
+    let text_line = "text line 3: line B every 11";
+    refused(
+        "line A every 1440\nX at 0\nline B every 11",
+        "refused 6 at 8",
+        text_line,
+    );
+    let text_line = "text line 3: X at 0 # here";
+    refused(
+        "stop 64 X\nline A every 5\nX at 0 # here",
+        "refused 8 at 3",
+        text_line,
+    );
+    // The third call is one too many, the second may be.
+    let names = "(line 0 'A', stop 0 'X', offset ";
+    refused(
+        "line A every 5\nX at 0\nX at 1\nX at 2",
+        "refused 9 at ",
+        names,
+    );
+    let never = "line 1 'B' never calls\n  text line 3: line B every 5\n";
+    refused(
+        "line A every 5\nX at 0\nline B every 5\n# the end",
+        "refused 13 at 11",
+        never,
+    );
+    refused("", "refused 13 at 0", "there is no line\n");
 }
+
+/// The same for more lines, stops and calls than the engine takes.
+#[test]
+fn refusals_of_large_plans() {
+    let line = |number| format!("line L{number} every 5\n  X at 0\n");
+    let lines: String = (0..17).map(line).collect();
+    refused(&lines, "refused 4 at 128", "text line 33: line L16 every 5");
+    let calls = |count: usize| -> String {
+        let call = |number| format!("  S{number} at 0\n");
+        (0..count).map(call).collect()
+    };
+    let stops = format!("line A every 5\n{}", calls(65));
+    refused(&stops, "refused 8 at 323", "text line 66: S64 at 0");
+    let line = |number| format!("line A{number} every 5\n{}", calls(64));
+    let full: String = (0..5).map(line).collect();
+    refused(&full, "refused 10 at 1295", "text line 262: S0 at 0");
+}
+
+/// Plans that can't be put into bytes, and what is said of them.
+const ERRORS: [(&str, &str); 14] = [
+    (
+        "Market at 8",
+        "text line 1: a call stands under its line; expected line NAME every",
+    ),
+    (
+        "line A every 5\n\nMarket 8",
+        "text line 3: 'Market 8' is no statement; expected NAME at",
+    ),
+    (
+        "line A",
+        "text line 1: 'line A' is no statement; expected line NAME every PERIOD",
+    ),
+    (
+        "stop",
+        "text line 1: 'stop' is no statement; expected stop NUMBER NAME",
+    ),
+    (
+        "line A every 65536",
+        "text line 1: '65536' isn't a number of 0 to 65535, decimal",
+    ),
+    (
+        "line A every 000F",
+        "text line 1: '000F' isn't a number of 0 to 65535, decimal",
+    ),
+    (
+        "stop 256 X",
+        "text line 1: '256' isn't a number of 0 to 255, decimal",
+    ),
+    (
+        "line A every 5\nX +3",
+        "text line 2: + counts from the line's call before",
+    ),
+    (
+        "line A every 5\nX at 65535\nY +1",
+        "text line 3: that is 65536 minutes after",
+    ),
+    (
+        "stop 0 X\nline A every 5\nY at 0",
+        "text line 3: this plan states its stops, and no 'Y'",
+    ),
+    (
+        "line A every 5\nX at 0\nx +1",
+        "text line 3: the names 'x' and 'X', on text line 2",
+    ),
+    (
+        "line A every 5\nline A every 6",
+        "text line 2: the name 'A' is given already",
+    ),
+    ("line 5 every 5", "text line 1: the name '5' has no letter"),
+    (
+        "line A every 5\nX at 5 Y +3",
+        "text line 2: 'at' can't be a word of a name",
+    ),
+];
 
 /// What can't be put into bytes is an error of the plan, with its text line and
 /// what was expected; nothing is asked of the engine.
 #[test]
 fn errors_of_the_plan() {
     let folder = Folder::new();
-    let cases = [
-        (
-            "Market at 8",
-            "text line 1: a call stands under its line; expected line NAME every",
-        ),
-        (
-            "line A every 5\n\nMarket 8",
-            "text line 3: 'Market 8' is no statement; expected NAME at",
-        ),
-        (
-            "line A",
-            "text line 1: 'line A' is no statement; expected line NAME every PERIOD",
-        ),
-        (
-            "stop",
-            "text line 1: 'stop' is no statement; expected stop NUMBER NAME",
-        ),
-        (
-            "line A every 65536",
-            "text line 1: '65536' isn't a number of 0 to 65535, decimal",
-        ),
-        (
-            "line A every 000F",
-            "text line 1: '000F' isn't a number of 0 to 65535, decimal",
-        ),
-        (
-            "stop 256 X",
-            "text line 1: '256' isn't a number of 0 to 255, decimal",
-        ),
-        (
-            "line A every 5\nX +3",
-            "text line 2: + counts from the line's call before",
-        ),
-        (
-            "line A every 5\nX at 65535\nY +1",
-            "text line 3: that is 65536 minutes after",
-        ),
-        (
-            "stop 0 X\nline A every 5\nY at 0",
-            "text line 3: this plan states its stops, and no 'Y'",
-        ),
-        (
-            "line A every 5\nX at 0\nx +1",
-            "text line 3: the names 'x' and 'X', on text line 2",
-        ),
-        (
-            "line A every 5\nline A every 6",
-            "text line 2: the name 'A' is given already",
-        ),
-        ("line 5 every 5", "text line 1: the name '5' has no letter"),
-        (
-            "line A every 5\nX at 5 Y +3",
-            "text line 2: 'at' can't be a word of a name",
-        ),
-    ];
-    for (text, words) in cases {
+    for (text, words) in ERRORS {
         let name = folder.file("bad.plan", text);
         let message = format!("exam: {name}, {words}");
         for verb in ["read", "show", "plan", "type", "best"] {
