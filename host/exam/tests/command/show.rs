@@ -130,8 +130,11 @@ fn show_on_seeded_files() {
     }
 }
 
+/// Line, stop and offset of each call.
+type Calls = Vec<(u8, u8, u16)>;
+
 /// The periods, and the calls as they stand under their lines.
-fn numbers_of(shown: &str) -> (Vec<(u8, u16)>, Vec<(u8, u8, u16)>) {
+fn numbers_of(shown: &str) -> (Vec<(u8, u16)>, Calls) {
     let (mut periods, mut calls) = (Vec::new(), Vec::new());
     for row in shown.lines().skip(1) {
         let words: Vec<&str> = row.split_whitespace().collect();
@@ -147,7 +150,7 @@ fn numbers_of(shown: &str) -> (Vec<(u8, u16)>, Vec<(u8, u8, u16)>) {
     (periods, calls)
 }
 
-fn calls_at_stops(shown: &str) -> Vec<(u8, u8, u16)> {
+fn calls_at_stops(shown: &str) -> Calls {
     let (mut at, mut calls) = (0, Vec::new());
     for row in shown.lines().skip(1) {
         let words: Vec<&str> = row.split_whitespace().collect();
