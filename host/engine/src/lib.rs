@@ -83,7 +83,6 @@ mod ground;
 pub mod plan;
 mod refusal;
 mod sheet;
-mod texts;
 pub mod typed;
 
 pub use answers::{

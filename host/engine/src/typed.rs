@@ -1,5 +1,5 @@
 //! A network as authors type it: hexadecimal pairs with blanks, line ends and
-//! comments from `#` to the end of the text line.
+//! comments from `#` to the end of the line.
 //!
 //! ```
 //! use engine::typed;
@@ -9,12 +9,11 @@
 //! 45")?;
 //! let refusal = engine::read(network.bytes()).unwrap_err();
 //! assert_eq!(refusal.to_string(), "refused 8 at 3");
-//! let (number, line) = network.line(refusal.place as usize).expect("a text line");
+//! let (number, line) = network.line(refusal.place as usize).expect("a typed line");
 //! assert_eq!((number, line), (2, "43 00 40 0008  # a stop that there isn't"));
 //! # Ok::<(), typed::Mistyped>(())
 //! ```
 
-use crate::texts::{printable, text_lines, without_comment, Origin};
 use std::fmt;
 
 /// The byte that begins a line's command: its period follows.
@@ -47,16 +46,22 @@ pub const FOLLOW: u8 = 0x46;
 /// ```
 pub const END: u8 = 0x45;
 
+/// Some editors put these before a text.
+const MARK_OF_UTF8: [u8; 3] = [0xEF, 0xBB, 0xBF];
+
 /// A typed network: its bytes, and where in the text each of them stands.
 ///
 /// ```
 /// let typed = engine::typed::read(b"4C000F # line 0").unwrap();
 /// assert_eq!(typed.bytes(), [0x4C, 0x00, 0x0F]);
 /// ```
-#[derive(Clone, Debug, Default, PartialEq, Eq)]
+#[derive(Clone, Debug, PartialEq, Eq)]
 pub struct Typed {
     bytes: Vec<u8>,
-    origin: Origin,
+    /// The lines of the text.
+    lines: Vec<String>,
+    /// For each byte its line, the first line being 0.
+    line_of_byte: Vec<usize>,
 }
 
 impl Typed {
@@ -70,8 +75,8 @@ impl Typed {
         &self.bytes
     }
 
-    /// The text line of a byte and its number, the first being 1; for a place
-    /// behind the last byte, the last byte's. `None` where nothing is typed.
+    /// The line of a byte and its number, the first being 1; for a place behind
+    /// the last byte, the last byte's. `None` where nothing is typed.
     ///
     /// ```
     /// let typed = engine::typed::read(b"# A note\n4C000F # line 0\n45").unwrap();
@@ -79,7 +84,9 @@ impl Typed {
     /// assert_eq!(typed.line(3), Some((3, "45")));
     /// ```
     pub fn line(&self, place: usize) -> Option<(usize, &str)> {
-        self.origin.line(place)
+        let at = place.min(self.line_of_byte.len().checked_sub(1)?);
+        let line = self.line_of_byte[at];
+        Some((line + 1, self.lines[line].as_str()))
     }
 }
 
@@ -90,11 +97,11 @@ impl Typed {
 ///
 /// let why = typed::read(b"4C000F\n4C 014").unwrap_err();
 /// assert_eq!((why.line, why.word.as_str(), why.fault), (2, "014", Fault::NotInPairs));
-/// assert_eq!(why.to_string(), "text line 2: '014' isn't in pairs of digits");
+/// assert_eq!(why.to_string(), "line 2: '014' isn't in pairs of digits");
 /// ```
 #[derive(Clone, Debug, PartialEq, Eq)]
 pub struct Mistyped {
-    /// The text line at fault, the first being 1.
+    /// The line at fault, the first being 1.
     pub line: usize,
     /// The word at fault.
     pub word: String,
@@ -118,19 +125,14 @@ pub enum Fault {
     NotInPairs,
 }
 
-/// `text line 2: '014' isn't in pairs of digits`.
+/// `line 2: '014' isn't in pairs of digits`.
 impl fmt::Display for Mistyped {
     fn fmt(&self, out: &mut fmt::Formatter<'_>) -> fmt::Result {
         let fault = match self.fault {
             Fault::NotHexadecimal => "isn't hexadecimal",
             Fault::NotInPairs => "isn't in pairs of digits",
         };
-        write!(
-            out,
-            "text line {}: '{}' {fault}",
-            self.line,
-            printable(&self.word)
-        )
+        write!(out, "line {}: '{}' {fault}", self.line, self.word)
     }
 }
 
@@ -143,9 +145,15 @@ impl std::error::Error for Mistyped {}
 /// assert!(engine::read(typed.bytes()).is_ok());
 /// ```
 pub fn read(text: &[u8]) -> Result<Typed, Mistyped> {
-    let mut typed = Typed::default();
-    for (before, line) in text_lines(text).enumerate() {
-        for word in without_comment(line).split(|byte| byte.is_ascii_whitespace()) {
+    let text = text.strip_prefix(&MARK_OF_UTF8).unwrap_or(text);
+    let mut typed = Typed {
+        bytes: Vec::new(),
+        lines: Vec::new(),
+        line_of_byte: Vec::new(),
+    };
+    for (before, line) in text.split(|&byte| byte == b'\n').enumerate() {
+        let pairs = line.split(|&byte| byte == b'#').next().unwrap_or(line);
+        for word in pairs.split(|byte| byte.is_ascii_whitespace()) {
             let read = read_word(word).map_err(|fault| Mistyped {
                 line: before + 1,
                 word: String::from_utf8_lossy(word).into_owned(),
@@ -153,7 +161,9 @@ pub fn read(text: &[u8]) -> Result<Typed, Mistyped> {
             });
             typed.bytes.extend(read?);
         }
-        typed.origin.add(line, typed.bytes.len());
+        typed.line_of_byte.resize(typed.bytes.len(), before);
+        let shown = String::from_utf8_lossy(line).trim().to_string();
+        typed.lines.push(shown);
     }
     Ok(typed)
 }
@@ -212,7 +222,7 @@ pub fn pairs(bytes: &[u8]) -> String {
     pairs.join(" ")
 }
 
-/// A file as authors type it, a text line for each command.
+/// A file as authors type it, a line for each command.
 ///
 /// ```
 /// let network = engine::typed::read(b"4C000F 4300000008 45").unwrap();
@@ -279,17 +289,10 @@ mod tests {
     #[test]
     fn bad_pairs() {
         let bad = |text: &str| read(text.as_bytes()).expect_err("bad pairs").to_string();
-        assert_eq!(
-            bad("45\n4C 0 0F"),
-            "text line 2: '0' isn't in pairs of digits"
-        );
-        assert_eq!(
-            bad("4C000"),
-            "text line 1: '4C000' isn't in pairs of digits"
-        );
-        assert_eq!(bad("0x4C"), "text line 1: '0x4C' isn't hexadecimal");
-        assert_eq!(bad("4G"), "text line 1: '4G' isn't hexadecimal");
-        assert_eq!(bad("\x1B"), "text line 1: '\\u{1b}' isn't hexadecimal");
+        assert_eq!(bad("45\n4C 0 0F"), "line 2: '0' isn't in pairs of digits");
+        assert_eq!(bad("4C000"), "line 1: '4C000' isn't in pairs of digits");
+        assert_eq!(bad("0x4C"), "line 1: '0x4C' isn't hexadecimal");
+        assert_eq!(bad("4G"), "line 1: '4G' isn't hexadecimal");
     }
 
     #[test]

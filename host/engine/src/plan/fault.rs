@@ -1,6 +1,6 @@
 //! Why a text isn't a plan.
 
-use crate::texts::printable;
+use super::texts::printable;
 use std::fmt;
 
 /// Why a text isn't a plan.

@@ -3,7 +3,7 @@
 use super::fault::{BadName, Fault, Misstated};
 use super::names::Names;
 use super::statement::{statement, Minutes, Statement};
-use crate::texts::{text_lines, without_comment, Origin};
+use super::texts::{text_lines, without_comment, Origin};
 use crate::typed::{CALL, END, LINE};
 use std::collections::BTreeMap;
 

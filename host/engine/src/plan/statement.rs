@@ -1,7 +1,7 @@
 //! One text line of a plan as a statement.
 
 use super::fault::{BadName, Fault};
-use crate::texts::is_unseen;
+use super::texts::is_unseen;
 
 const LINE_FORM: &str = "line NAME every PERIOD";
 const STOP_FORM: &str = "stop NUMBER NAME";

@@ -44,7 +44,7 @@ fn starts(text: &[u8]) -> Result<Vec<i32>, String> {
         let words = line.split(|byte| byte.is_ascii_whitespace());
         for word in words.filter(|word| !word.is_empty()) {
             let start = start(&String::from_utf8_lossy(word));
-            starts.push(start.map_err(|message| format!("text line {}: {message}", before + 1))?);
+            starts.push(start.map_err(|message| format!("line {}: {message}", before + 1))?);
         }
     }
     Ok(starts)
@@ -78,14 +78,14 @@ mod tests {
     #[test]
     fn bad_numbers() {
         let bad = |text: &str| starts(text.as_bytes()).expect_err("a bad number");
-        assert_eq!(bad("0\n3x"), "text line 2: '3x' is no whole number");
-        assert_eq!(bad("0, 3"), "text line 1: '0,' is no whole number");
-        assert_eq!(bad("-"), "text line 1: '-' is no whole number");
-        assert_eq!(bad("+-3"), "text line 1: '+-3' is no whole number");
-        assert_eq!(bad("1.5"), "text line 1: '1.5' is no whole number");
-        let large = "text line 1: 2147483648 isn't within -2147483648 to 2147483647";
+        assert_eq!(bad("0\n3x"), "line 2: '3x' is no whole number");
+        assert_eq!(bad("0, 3"), "line 1: '0,' is no whole number");
+        assert_eq!(bad("-"), "line 1: '-' is no whole number");
+        assert_eq!(bad("+-3"), "line 1: '+-3' is no whole number");
+        assert_eq!(bad("1.5"), "line 1: '1.5' is no whole number");
+        let large = "line 1: 2147483648 isn't within -2147483648 to 2147483647";
         assert_eq!(bad("2147483648"), large);
-        let small = "text line 1: -2147483649 isn't within -2147483648 to 2147483647";
+        let small = "line 1: -2147483649 isn't within -2147483648 to 2147483647";
         assert_eq!(bad("-2147483649"), small);
     }
 }

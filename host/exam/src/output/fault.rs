@@ -1,9 +1,9 @@
 //! A refusal, printed and in words, with the command at fault: its bytes, what
 //! they say, and its text line.
 
-use super::escape::shown;
 use super::named;
 use super::streams::{put, say};
+use super::text::shown;
 use crate::input::network::Network;
 use crate::status::{Status, Trouble};
 use engine::typed::{commands, pairs, CALL, END, FOLLOW, LINE};

@@ -1,8 +1,8 @@
 //! What a verb says: answers, messages and signs of life.
 
-pub mod escape;
 pub mod fault;
 pub mod lines;
 pub mod named;
 pub mod streams;
+pub mod text;
 pub mod watch;

@@ -88,7 +88,7 @@ fn a_plan_is_never_guessed() {
     let named = [folder.file("a.plan", PLAN), folder.file("a.hex", PLAN)];
     exam_with(&["best", "-", "--plan"], PLAN.as_bytes()).printed(BEST_LINE, 0);
     exam(&["same", "--plan", &named[0], &named[1]]).printed("same\n", 0);
-    exam(&["best", &named[1]]).told("", 2, &["text line 1: 'line' isn't hexadecimal"]);
+    exam(&["best", &named[1]]).told("", 2, &["line 1: 'line' isn't hexadecimal"]);
     let typed = folder.file("typed.plan", "4C000F 4300000008 45");
     exam(&["best", &typed]).told(
         "",

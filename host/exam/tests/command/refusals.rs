@@ -167,8 +167,6 @@ fn control_characters_are_not_printed() {
         1,
         &["text line 1: 45 # \\u{1b}[2J\\u{7}\\u{9b}\n"],
     );
-    let ran = exam_with(&["read", "--typed", "-"], b"4\x1B");
-    ran.told("", 2, &["text line 1: '4\\u{1b}' isn't hexadecimal"]);
     let ran = exam_with(&["read", "--plan", "-"], b"line \x1B[2J every 5");
     ran.told(
         "",

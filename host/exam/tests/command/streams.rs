@@ -12,7 +12,7 @@ fn input_that_cannot_be_read() {
     let folder = Folder::new();
     let sheet = |text: &str| folder.file("bad.sheet", text);
     let bad = |text: &str, piece: &str| {
-        exam(&["rate", HEX, &sheet(text)]).told("", 2, &["bad.sheet, text line", piece]);
+        exam(&["rate", HEX, &sheet(text)]).told("", 2, &["bad.sheet, line", piece]);
     };
     bad("0\nthree", "line 2: 'three' is no whole number");
     bad("0 3.5", "'3.5' is no whole number");
@@ -34,7 +34,7 @@ fn input_that_cannot_be_read() {
     exam(&["rate", HEX, "samples"]).told("", 2, &["samples is a folder, not a file"]);
     exam(&["best", "samples/one_line.hex/x.net"]).told("", 2, &["x.net: "]);
     let odd = folder.file("odd.hex", "4C000F\n4C 014 45");
-    exam(&["best", &odd]).told("", 2, &["odd.hex, text line 2: '014' isn't in pairs"]);
+    exam(&["best", &odd]).told("", 2, &["odd.hex, line 2: '014' isn't in pairs"]);
     let long = folder.file("long.sheet", "0 ".repeat(600_000));
     exam(&["rate", HEX, &long]).told("", 2, &["longer than"]);
 }

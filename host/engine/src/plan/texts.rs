@@ -1,5 +1,5 @@
-//! What the readers of texts share: the text line of each byte that is made of a
-//! text, and words of a text made fit to print.
+//! The text lines of a plan, which of them each byte was made of, and words of
+//! theirs made fit to print.
 
 /// Some editors put these before a text.
 const MARK_OF_UTF8: [u8; 3] = [0xEF, 0xBB, 0xBF];
@@ -8,19 +8,19 @@ const MARK_OF_UTF8: [u8; 3] = [0xEF, 0xBB, 0xBF];
 const SHOWN: usize = 200;
 
 /// The lines of a text, without the mark that some editors put before it.
-pub(crate) fn text_lines(text: &[u8]) -> impl Iterator<Item = &[u8]> {
+pub(super) fn text_lines(text: &[u8]) -> impl Iterator<Item = &[u8]> {
     let text = text.strip_prefix(&MARK_OF_UTF8).unwrap_or(text);
     text.split(|&byte| byte == b'\n')
 }
 
 /// What stands before a comment.
-pub(crate) fn without_comment(line: &[u8]) -> &[u8] {
+pub(super) fn without_comment(line: &[u8]) -> &[u8] {
     line.split(|&byte| byte == b'#').next().unwrap_or(line)
 }
 
 /// The text lines of which bytes were made.
 #[derive(Clone, Debug, Default, PartialEq, Eq)]
-pub(crate) struct Origin {
+pub(super) struct Origin {
     lines: Vec<String>,
     /// For each byte its text line, the first being 0.
     line_of_byte: Vec<usize>,
@@ -29,7 +29,7 @@ pub(crate) struct Origin {
 impl Origin {
     /// Adds a text line; the bytes up to this count that have none yet were made
     /// of it.
-    pub(crate) fn add(&mut self, line: &[u8], bytes: usize) {
+    pub(super) fn add(&mut self, line: &[u8], bytes: usize) {
         self.line_of_byte.resize(bytes, self.lines.len());
         let shown = String::from_utf8_lossy(line).trim().to_string();
         self.lines.push(shown);
@@ -37,7 +37,7 @@ impl Origin {
 
     /// The text line of a byte and its number, the first being 1; for a place
     /// behind the last byte, the last byte's.
-    pub(crate) fn line(&self, place: usize) -> Option<(usize, &str)> {
+    pub(super) fn line(&self, place: usize) -> Option<(usize, &str)> {
         let at = place.min(self.line_of_byte.len().checked_sub(1)?);
         let line = self.line_of_byte[at];
         Some((line + 1, self.lines[line].as_str()))
@@ -46,7 +46,7 @@ impl Origin {
 
 /// Whether a character does something else to a screen than stand there, or
 /// leaves nothing to be seen: what is told apart by it alone looks the same.
-pub(crate) fn is_unseen(sign: char) -> bool {
+pub(super) fn is_unseen(sign: char) -> bool {
     sign.is_control()
         || matches!(
             sign,
@@ -61,7 +61,7 @@ pub(crate) fn is_unseen(sign: char) -> bool {
 
 /// A part of a text for a message: whatever it holds, it moves no cursor and
 /// fills no screen.
-pub(crate) fn printable(text: &str) -> String {
+pub(super) fn printable(text: &str) -> String {
     let mut shown = String::new();
     for sign in text.chars().take(SHOWN) {
         match is_unseen(sign) {
