@@ -8,10 +8,12 @@
 //!   [`small`] networks so small that every timetable can be rated.
 //! * [`plain`] is rate in quick Rust by hand, [`strong`] the walk, and [`measure`]
 //!   measures the engine's rate call beside the one.
-//! * [`program`] runs the proved engine's program `best`.
+//! * [`program`] runs the proved engine's program `best`, and [`child`] ends a
+//!   process that hangs.
 
 #![forbid(unsafe_code)]
 
+pub mod child;
 pub mod files;
 pub mod measure;
 pub mod plain;
