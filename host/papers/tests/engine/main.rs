@@ -6,6 +6,7 @@
 //! longer run. A case is made from its number alone; a failure names it.
 
 mod answers;
+mod longest;
 mod networks;
 mod optimum;
 mod refusals;
