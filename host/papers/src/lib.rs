@@ -6,6 +6,7 @@
 //!   here.
 //! * [`files`] makes network files and sheets, good and bad, from a seed, and
 //!   [`small`] networks so small that every timetable can be rated.
+//! * [`answers`] has the papers' answers in the types of the engine's wrapper.
 //! * [`plain`] is rate in quick Rust by hand, [`strong`] the walk, and [`measure`]
 //!   measures the engine's rate call beside the one.
 //! * [`program`] runs the proved engine's program `best`, and [`child`] ends a
@@ -13,6 +14,7 @@
 
 #![forbid(unsafe_code)]
 
+pub mod answers;
 pub mod child;
 pub mod files;
 pub mod measure;
