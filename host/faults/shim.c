@@ -8,6 +8,8 @@
 #include <stdio.h>
 #include <stdlib.h>
 #include <string.h>
+#include <threads.h>
+#include <time.h>
 
 #include "../c/examination.h"
 
@@ -63,7 +65,15 @@ static size_t lines_of(const uint8_t *file, size_t file_len)
 /* The length that is taken for a sheet's. */
 static size_t taken_length(enum fault fault, const uint8_t *file, size_t file_len, size_t sheet_len)
 {
+    if (is(SHEET_CUT)) return sheet_len / 4 * 4;
+    if (is(SHEET_OF_16_BITS)) return sheet_len & 65535;
     return is(fault) && sheet_len > 4096 ? 4 * lines_of(file, file_len) : sheet_len;
+}
+
+/* The length that is taken for a file's. */
+static size_t taken_file(size_t file_len)
+{
+    return is(FILE_OF_16_BITS) ? file_len & 65535 : file_len;
 }
 
 /* What an export returns, with the faults that all of them have. */
@@ -76,14 +86,17 @@ static uint32_t returns(uint32_t returned, size_t file_len)
     const uint32_t place = examination_place(returned);
     if (is(PLACE) && place > 0) return returned - 1;
     if ((is(LAST_PLACE) || is(LAST_PLACE_WRAPPED)) && place == 1329) return returned - 1;
+    if (is(EMPTY_FILE) && file_len == 0) return 2 * EXAMINATION_REFUSED;
     if (is(LONG_TAIL) && file_len > 4096 && place > 0) return returned + 1;
     return returned;
 }
 
 uint32_t examination_read(const uint8_t *file, size_t file_len, uint32_t answer[4])
 {
-    const uint32_t returned = real_read(file, file_len, answer);
+    const uint32_t returned = real_read(file, taken_file(file_len), answer);
     if (is(WRONG_SLOT) && returned == 0) answer[2]++;
+    if (is(CALLS_OF_8_BITS) && returned == 0) answer[2] &= 255;
+    if (is(CYCLE_OF_13_BITS) && returned == 0) answer[3] &= 8191;
     return returns(returned, file_len);
 }
 
@@ -113,6 +126,17 @@ static void answer_from_before(size_t file_len, size_t sheet_len, uint32_t answe
     }
 }
 
+/* Answers by way of a row that all threads write to. */
+static void answer_by_shared_row(uint32_t answer[2])
+{
+    static volatile uint32_t row[2];
+    row[0] = answer[0];
+    row[1] = answer[1];
+    thrd_sleep(&(struct timespec){.tv_nsec = 1000}, NULL);
+    answer[0] = row[0];
+    answer[1] = row[1];
+}
+
 uint32_t examination_rate(const uint8_t *file, size_t file_len, const uint8_t *sheet,
                           size_t sheet_len, uint32_t answer[2])
 {
@@ -125,6 +149,7 @@ uint32_t examination_rate(const uint8_t *file, size_t file_len, const uint8_t *s
     if (is(SHEET_CHANGED) && sheet_len > 0) ((uint8_t *)sheet)[0] ^= 1;
     if (is(EVERY_3000TH_RATE) && is_3000th(&calls) && returned == 0) answer[1]++;
     if (is(SUM_OF_16_BITS) && returned == 0) answer[1] &= 65535;
+    if (is(SHARED_ROW) && returned == 0) answer_by_shared_row(answer);
     if (is(FROM_BEFORE) && returned == 0) answer_from_before(file_len, sheet_len, answer);
     return returns(returned, file_len);
 }
@@ -132,7 +157,8 @@ uint32_t examination_rate(const uint8_t *file, size_t file_len, const uint8_t *s
 uint32_t examination_weighted(const uint8_t *file, size_t file_len, const uint8_t *sheet,
                               size_t sheet_len, uint32_t answer[2])
 {
-    const uint32_t returned = real_weighted(file, file_len, sheet, sheet_len, answer);
+    const size_t taken = taken_length(LONG_SHEET_WEIGHTED, file, file_len, sheet_len);
+    const uint32_t returned = real_weighted(file, file_len, sheet, taken, answer);
     if (is(NOT_WEIGHTED) && returned == 0) {
         uint8_t class_row[64];
         uint16_t weight_row[64];
@@ -149,8 +175,9 @@ uint32_t examination_classes(const uint8_t *file, size_t file_len, uint8_t *clas
                              uint32_t answer[1])
 {
     if (is(ROWS_FIRST) && class_len != 64) return 17 * EXAMINATION_REFUSED;
+    const size_t length = is(LONG_CLASS_ROW) && class_len > 4096 ? 64 : class_len;
     const uint32_t returned =
-        real_classes(file, file_len, class_row, class_len, weight_row, weight_len, answer);
+        real_classes(file, file_len, class_row, length, weight_row, weight_len, answer);
     if (returned != 0) return returns(returned, file_len);
     if (is(UNSERVED_AS_0) && class_row[63] == EXAMINATION_UNSERVED) class_row[63] = 0;
     for (size_t stop = 63; is(WEIGHT_ELSEWHERE) && stop > 0; stop--) {
@@ -187,12 +214,16 @@ uint32_t examination_search(const uint8_t *file, size_t file_len, int32_t *start
     uint32_t taken = budget;
     if (is(BUDGET_MORE) && budget < UINT32_MAX) taken++;
     if (is(BUDGET_SIGNED) && budget > 1u << 31) taken = 0;
+    if (is(LONG_START_ROW) && start_len > 4096) start_len = lines_of(file, file_len);
     const uint32_t returned = real_search(file, file_len, start_row, start_len, taken, answer);
     /* The tries are those that were asked for, so that only the fault shows. */
     if (taken != budget && returned <= EXAMINATION_STOPPED_WITH_NONE && answer[2] == taken)
         answer[2] = budget;
     if (is(TRIES) && returned == EXAMINATION_FINISHED) answer[2]--;
+    if (is(TRIES_OF_16_BITS) && !examination_is_refused(returned)) answer[2] &= 65535;
     fault_starts(returned, start_row, start_len, last);
+    if (is(EXACT_BUDGET) && returned == EXAMINATION_FINISHED && answer[2] == budget)
+        return EXAMINATION_STOPPED;
     return returns(returned, file_len);
 }
 
@@ -205,6 +236,8 @@ uint32_t examination_better(const uint8_t *file, size_t file_len, const uint8_t 
         const uint32_t turned = real_better(file, file_len, second, taken, first, first_len);
         if (turned == EXAMINATION_FIRST) return EXAMINATION_SECOND;
     }
+    if (is(FIRST_IF_NONE) && returned == EXAMINATION_NEITHER && lines_of(file, file_len) > 0)
+        return EXAMINATION_FIRST;
     return returned;
 }
 
@@ -236,15 +269,21 @@ uint32_t examination_mark(const uint8_t *file, size_t file_len, const uint8_t *s
     const uint32_t returned = real_mark(file, file_len, sheet, length, taken, answer);
     if (taken != budget && returned == EXAMINATION_UNDECIDED) answer[5] = budget;
     fault_mark(returned, answer);
+    if (is(EXACT_MARK_BUDGET) && returned == EXAMINATION_DECIDED && answer[5] == budget) {
+        answer[2] = answer[3] = answer[4] = 0;
+        return EXAMINATION_UNDECIDED;
+    }
+    if (is(LAST_PLACE_OF_MARK) && returned == 14 * EXAMINATION_REFUSED + 1329) return returned - 1;
     return returns(returned, file_len);
 }
 
-/* Exchanges the first two calls of an archive form. */
-static void swap_calls(uint8_t *row, size_t length)
+/* Exchanges the first two calls of an archive form, or shortens the first one's offset. */
+static void fault_calls(uint8_t *row, size_t length)
 {
     size_t at = 0;
     while (row[at] == 0x4C) at += 3;
-    if (at + 10 >= length) return;
+    if (is(OFFSET_OF_15_BITS)) row[at + 3] &= 127;
+    if (!is(CALLS_SWAPPED) || at + 10 >= length) return;
     uint8_t call[5];
     memcpy(call, row + at, 5);
     memcpy(row + at, row + at + 5, 5);
@@ -253,9 +292,12 @@ static void swap_calls(uint8_t *row, size_t length)
 
 uint32_t examination_archive(const uint8_t *file, size_t file_len, uint8_t *row, size_t row_len)
 {
-    const uint32_t returned = real_archive(file, file_len, row, row_len);
+    const size_t length = is(LONG_ARCHIVE_ROW) && row_len > 4096 ? 0 : row_len;
+    const uint32_t returned = real_archive(file, file_len, row, length);
+    if (is(LAST_PLACE_OF_ARCHIVE) && returned == 14 * EXAMINATION_REFUSED + 1329)
+        return returned - 1;
     if (examination_is_refused(returned)) return returns(returned, file_len);
-    if (is(CALLS_SWAPPED)) swap_calls(row, returned);
+    fault_calls(row, returned);
     if (is(BYTE_BEHIND) && row_len > returned) row[returned] ^= 255;
     return returns(returned, file_len);
 }

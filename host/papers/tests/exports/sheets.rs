@@ -7,7 +7,8 @@ use papers::files::{bytes_of, faulty_file, longest_file, random_bytes, Command, 
 use papers::sections::sheets::{rate_bytes, weighted_bytes};
 use std::collections::BTreeSet;
 
-const MOST: usize = 65_536;
+/// 64 KB, and a sheet that fits above it.
+const MOST: usize = 65_536 + 64;
 
 /// All counts up to 200, those about powers of two, alone and above the right
 /// one, and whole numbers of starts all the way.
