@@ -2,7 +2,7 @@
 //! started it fails with words that say so.
 
 use std::io::{ErrorKind, Read, Write};
-use std::process::{Child, Command, Output, Stdio};
+use std::process::{Child, Command, ExitStatus, Output, Stdio};
 use std::sync::atomic::{AtomicBool, Ordering};
 use std::sync::mpsc::{channel, RecvTimeoutError, Sender};
 use std::sync::{Arc, Mutex, MutexGuard};
@@ -96,14 +96,14 @@ impl Limited {
         let stdout = std::thread::spawn(move || read_all(stdout));
         let stderr = std::thread::spawn(move || read_all(stderr));
         let status = loop {
-            // Looked at first: somebody else may hold an output open.
+            let read = stdout.is_finished() && stderr.is_finished();
+            let ended = if read { self.shared.ended() } else { None };
+            // Asked behind the end, which may be the limit's doing, and also where
+            // somebody else holds an output open.
             let hung = self.shared.hung.load(Ordering::SeqCst);
             assert!(!hung, "the child hung: it was ended after {:?}", self.limit);
-            if stdout.is_finished() && stderr.is_finished() {
-                let ended = self.shared.child().try_wait();
-                if let Some(status) = ended.expect("a child to wait for") {
-                    break status;
-                }
+            if let Some(status) = ended {
+                break status;
             }
             std::thread::sleep(Duration::from_micros(200));
         };
@@ -128,6 +128,11 @@ impl Shared {
     fn child(&self) -> MutexGuard<'_, Child> {
         let held = self.child.lock();
         held.unwrap_or_else(|poisoned| poisoned.into_inner())
+    }
+
+    /// How the child ended, if it has.
+    fn ended(&self) -> Option<ExitStatus> {
+        self.child().try_wait().expect("a child to wait for")
     }
 
     /// Ends the child and what it leads. While it isn't waited for, its number is
