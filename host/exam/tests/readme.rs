@@ -4,6 +4,8 @@
 mod common;
 
 use common::{exam, Folder, ROOT};
+use papers::child::Limited;
+use std::os::unix::process::CommandExt;
 use std::process::{Command, Stdio};
 
 fn readme() -> String {
@@ -54,13 +56,16 @@ fn on_screen(folder: &Folder, command: &str) -> String {
     let exam = std::path::Path::new(env!("CARGO_BIN_EXE_exam"));
     let beside = exam.parent().expect("a folder").display();
     let path = format!("{beside}:{}", std::env::var("PATH").unwrap_or_default());
-    let output = Command::new("sh")
+    let mut shell = Command::new("sh");
+    shell
         .args(["-c", &format!("exec 2>&1\n{command}")])
         .current_dir(folder.path())
         .env("PATH", path)
         .stdin(Stdio::null())
-        .output()
-        .expect("a shell");
+        .stdout(Stdio::piped())
+        // What hangs is ended with all that the shell has started.
+        .process_group(0);
+    let output = Limited::start(&mut shell).output();
     let text = String::from_utf8_lossy(&output.stdout).into_owned();
     // On a slow machine a search shows signs of life.
     let lines = text.lines().filter(|line| !is_sign_of_life(line));
