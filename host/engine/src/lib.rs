@@ -1,6 +1,7 @@
 //! The proved engine, safe to call from a program of the hall's own: one function
-//! for each export of docs/ABI.md, and [`typed`], the reader of networks as
-//! authors type them. Nothing is computed here; every number is the engine's.
+//! for each export of docs/ABI.md, and the readers of networks as people write
+//! them: [`plan`], with names and decimal numbers, and [`typed`], in hexadecimal.
+//! Nothing is computed here; every number is the engine's.
 //!
 //! A network file is bytes. A [`Sheet`] has a start in minutes for each line of
 //! the network, in line order.
@@ -15,20 +16,20 @@
 //! | [`better`]    | a file, two sheets     | [`Better`]: which of them                |
 //! | [`mark`]      | a file, a sheet, a budget | [`Mark`]: the sheet beside the best   |
 //! | [`archive`]   | a file                 | the one form in which a network is kept  |
+//! | [`contents`]  | a file                 | [`Contents`]: periods and calls, by that form |
 //!
 //! What a call doesn't take it refuses, with a [`Ground`] and a place
 //! ([`Refusal`]). Nothing that is handed over makes a call panic.
 //!
 //! ```
-//! use engine::{typed, Mark, Searched, Sheet};
+//! use engine::{plan, Mark, Searched, Sheet};
 //!
 //! # fn main() -> Result<(), Box<dyn std::error::Error>> {
-//! let network = typed::read(
-//!     b"4C 000F          # line 0: every 15 minutes
-//!       4C 0014          # line 1: every 20 minutes
-//!       43 00 00 0008    # line 0 reaches stop 0 after 8 minutes
-//!       43 01 00 0011    # line 1 reaches stop 0 after 17 minutes
-//!       45               # the end",
+//! let network = plan::read(
+//!     b"line Red every 15
+//!         Market at 8      # 8 minutes after the line's start
+//!       line Green every 20
+//!         Market at 17",
 //! )?;
 //! let rating = engine::rate(network.bytes(), &Sheet::of_starts(&[0, 0]))?;
 //! assert_eq!((rating.least, rating.sum), (1, 1));
@@ -76,8 +77,10 @@
 
 mod answers;
 mod calls;
+mod contents;
 mod exports;
 mod ground;
+pub mod plan;
 mod refusal;
 mod sheet;
 pub mod typed;
@@ -89,6 +92,7 @@ pub use calls::{
     archive, archive_into, better, classes, classes_into, mark, rate, read, search, search_into,
     weighted,
 };
+pub use contents::{contents, Call, Contents};
 pub use ground::{Ground, NoGround};
 pub use refusal::Refusal;
 pub use sheet::Sheet;

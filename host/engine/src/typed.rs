@@ -234,6 +234,26 @@ pub fn text(file: &[u8]) -> String {
     lines.map(|line| format!("{line}\n")).collect()
 }
 
+/// The same with a comment behind each command.
+///
+/// ```
+/// use engine::typed::{self, END};
+///
+/// let network = typed::read(b"4C000F 4300000008 45").unwrap();
+/// let text = typed::commented(network.bytes(), |command| match command {
+///     [END] => "the end".to_string(),
+///     _ => format!("{} bytes", command.len()),
+/// });
+/// assert_eq!(
+///     text,
+///     "4C 000F          # 3 bytes\n43 00 00 0008    # 5 bytes\n45               # the end\n"
+/// );
+/// ```
+pub fn commented(file: &[u8], mut comment: impl FnMut(&[u8]) -> String) -> String {
+    let commented = |command| format!("{:16} # {}\n", typed_line(command), comment(command));
+    commands(file).into_iter().map(commented).collect()
+}
+
 /// A command as it is typed: minutes, which come last and have two bytes, stand
 /// together.
 fn typed_line(command: &[u8]) -> String {

@@ -4,6 +4,8 @@
 mod common;
 
 use common::{exam, Folder, ROOT};
+use papers::child::Limited;
+use std::os::unix::process::CommandExt;
 use std::process::{Command, Stdio};
 
 fn readme() -> String {
@@ -17,14 +19,20 @@ struct Shown {
 }
 
 /// The sessions of the README: indented lines, commands after `$ ` and, where
-/// they go on, after `> `.
+/// they go on, after `> `. An empty line between two indented ones is printed.
 fn sessions(text: &str) -> Vec<Shown> {
     let mut all: Vec<Shown> = Vec::new();
     let mut within = false;
-    for line in text.lines() {
-        let Some(line) = line.strip_prefix("    ") else {
-            within = false;
-            continue;
+    let mut lines = text.lines().peekable();
+    while let Some(line) = lines.next() {
+        let next_is_indented = lines.peek().is_some_and(|next| next.starts_with("    "));
+        let line = match line.strip_prefix("    ") {
+            Some(line) => line,
+            None if line.is_empty() && next_is_indented => line,
+            None => {
+                within = false;
+                continue;
+            }
         };
         if let Some(command) = line.strip_prefix("$ ") {
             within = true;
@@ -48,13 +56,16 @@ fn on_screen(folder: &Folder, command: &str) -> String {
     let exam = std::path::Path::new(env!("CARGO_BIN_EXE_exam"));
     let beside = exam.parent().expect("a folder").display();
     let path = format!("{beside}:{}", std::env::var("PATH").unwrap_or_default());
-    let output = Command::new("sh")
+    let mut shell = Command::new("sh");
+    shell
         .args(["-c", &format!("exec 2>&1\n{command}")])
         .current_dir(folder.path())
         .env("PATH", path)
         .stdin(Stdio::null())
-        .output()
-        .expect("a shell");
+        .stdout(Stdio::piped())
+        // What hangs is ended with all that the shell has started.
+        .process_group(0);
+    let output = Limited::start(&mut shell).output();
     let text = String::from_utf8_lossy(&output.stdout).into_owned();
     // On a slow machine a search shows signs of life.
     let lines = text.lines().filter(|line| !is_sign_of_life(line));
@@ -74,7 +85,8 @@ fn the_sessions_are_real() {
     let sessions = sessions(&readme());
     assert!(sessions.len() >= 14, "{} commands", sessions.len());
     let verbs = [
-        "read", "rate", "classes", "best", "better", "mark", "archive", "same",
+        "read", "show", "rate", "classes", "best", "better", "mark", "archive", "same", "plan",
+        "type",
     ];
     for verb in verbs {
         let word = format!("exam {verb} ");

@@ -8,13 +8,17 @@
 //!   files without loops all calls still agree with.
 //! * [`files`] makes network files and sheets, good and bad, from a seed, and
 //!   [`small`] networks so small that every timetable can be rated.
+//! * [`answers`] has the papers' answers in the types of the engine's wrapper.
 //! * [`plain`] is rate in quick Rust by hand, [`strong`] the walk, and [`measure`]
 //!   measures the engine's rate call beside the one.
-//! * [`program`] runs the proved engine's program `best`.
+//! * [`program`] runs the proved engine's program `best`, and [`child`] ends a
+//!   process that hangs.
 
 #![forbid(unsafe_code)]
 
+pub mod answers;
 pub mod by_lines;
+pub mod child;
 pub mod files;
 pub mod measure;
 pub mod plain;

@@ -1,8 +1,8 @@
 //! Runs the proved engine's program `best`, which the gate builds.
 
-use std::io::{ErrorKind, Read, Write};
+use crate::child::Limited;
 use std::path::Path;
-use std::process::{Child, Command, Stdio};
+use std::process::{Command, Stdio};
 use std::time::Duration;
 
 /// Where the gate puts the program.
@@ -38,49 +38,28 @@ pub fn printed(command: Command, input: &[u8]) -> String {
 /// pause behind each of them.
 pub fn printed_for_pieces(command: Command, pieces: &[&[u8]], pause: Duration) -> String {
     let mut child = started(command);
-    hand_over(&mut child, pieces, pause);
-    let line = output(&mut child);
+    child.hand_over(pieces, pause);
+    let line = line(&mut child);
     reap(child);
     line
 }
 
 /// Starts the program, its three streams being pipes.
-pub fn started(mut command: Command) -> Child {
+pub fn started(mut command: Command) -> Limited {
     command.stdin(Stdio::piped());
     command.stdout(Stdio::piped());
     command.stderr(Stdio::piped());
-    let child = command.spawn();
-    child.unwrap_or_else(|error| panic!("{command:?} doesn't start: {error}"))
-}
-
-/// Writes the input and closes it. The program prints one line, so that it
-/// can't get stuck on its output meanwhile.
-pub fn hand_over(child: &mut Child, pieces: &[&[u8]], pause: Duration) {
-    let mut stdin = child.stdin.take().expect("a pipe");
-    for piece in pieces {
-        match stdin.write_all(piece).and_then(|()| stdin.flush()) {
-            Ok(()) => {}
-            // The program may leave what doesn't decide unread.
-            Err(error) if error.kind() == ErrorKind::BrokenPipe => return,
-            Err(error) => panic!("writing to the program: {error}"),
-        }
-        if !pause.is_zero() {
-            std::thread::sleep(pause);
-        }
-    }
+    Limited::start(&mut command)
 }
 
 /// All that the program prints, up to its end.
-pub fn output(child: &mut Child) -> String {
-    let mut text = Vec::new();
-    let mut stdout = child.stdout.take().expect("a pipe");
-    stdout.read_to_end(&mut text).expect("reading what it says");
-    String::from_utf8_lossy(&text).into_owned()
+pub fn line(child: &mut Limited) -> String {
+    String::from_utf8_lossy(&child.printed()).into_owned()
 }
 
 /// Sees to it that the program ended well and without complaints.
-pub fn reap(child: Child) {
-    let ended = child.wait_with_output().expect("a child to wait for");
+pub fn reap(child: Limited) {
+    let ended = child.output();
     let complaints = String::from_utf8_lossy(&ended.stderr);
     assert!(
         ended.status.success() && complaints.is_empty(),

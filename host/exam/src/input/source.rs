@@ -1,6 +1,5 @@
 //! Files and standard input, read with a limit and with clear messages.
 
-use super::form::Form;
 use crate::status::Trouble;
 use std::ffi::OsString;
 use std::fs::File;
@@ -55,7 +54,7 @@ impl Source {
 
     /// The form that the name's ending says, by a list of endings. Capitals
     /// are as good as small letters.
-    pub fn form(&self, endings: &[(&str, Form)]) -> Option<Form> {
+    pub fn form<Form: Copy>(&self, endings: &[(&str, Form)]) -> Option<Form> {
         let Source::File(path) = self else {
             return None;
         };

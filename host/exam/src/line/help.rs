@@ -47,8 +47,9 @@ exam: rates and marks timetables, and finds the best one.
 ";
 
 const INPUT: &str = "\
-NETWORK: a name that ends in .hex or .txt is typed text, hexadecimal pairs with
-blanks, line ends and comments from # to the end of the line; .net is bytes.
+NETWORK: a name that ends in .plan is a plan, with names and decimal numbers (see
+exam plan --help); .hex or .txt is typed text, hexadecimal pairs with blanks, line
+ends and comments from # to the end of the text line; .net is bytes.
 SHEET: .sheet or .txt holds whole numbers, one start for each line of the
 network, in line order, with blanks, line ends and # comments; .bin is bytes, 4
 for each start. A flag (see a verb's help) stands above the ending. A file named

@@ -2,26 +2,32 @@
 
 use super::table::{CommandOption, Request, Value};
 use crate::input::form::Form;
+use crate::input::network;
 
 /// What `best` of document 01 has.
 const USUAL_BUDGET: u32 = 1_000_000;
 
+pub const PLAN: CommandOption =
+    CommandOption::flag("--plan", "the network is a plan, whatever its name")
+        .excluding(&["--typed", "--bytes"]);
+
 pub const TYPED: CommandOption =
     CommandOption::flag("--typed", "the network is typed text, whatever its name")
-        .excluding("--bytes");
+        .excluding(&["--plan", "--bytes"]);
 
 pub const BYTES: CommandOption =
-    CommandOption::flag("--bytes", "the network is bytes, whatever its name").excluding("--typed");
+    CommandOption::flag("--bytes", "the network is bytes, whatever its name")
+        .excluding(&["--plan", "--typed"]);
 
 pub const SHEET_NUMBERS: CommandOption = CommandOption::flag(
     "--sheet-numbers",
     "a sheet is whole numbers, whatever its name",
 )
-.excluding("--sheet-bytes");
+.excluding(&["--sheet-bytes"]);
 
 pub const SHEET_BYTES: CommandOption =
     CommandOption::flag("--sheet-bytes", "a sheet is bytes, whatever its name")
-        .excluding("--sheet-numbers");
+        .excluding(&["--sheet-numbers"]);
 
 pub const BUDGET: CommandOption = CommandOption {
     name: "--budget",
@@ -31,7 +37,7 @@ pub const BUDGET: CommandOption = CommandOption {
         check: |text| budget_of(text).map(|_| ()),
     }),
     help: "stop after N tries, 0 to 4294967295 (otherwise 1000000)",
-    excludes: None,
+    excludes: &[],
     missing: Some("searches nothing and has no budget"),
 };
 
@@ -45,24 +51,28 @@ pub const ROWS: CommandOption = CommandOption::flag(
     "print the class row and the weight row, 64 numbers each",
 );
 
-pub const RAW: CommandOption = CommandOption::flag("--raw", "write the archive form as bytes");
+pub const RAW: CommandOption = CommandOption::flag("--raw", "write bytes");
 
 /// How all networks are written; `None` where the names' endings say it.
-pub fn network_form(request: &Request) -> Option<Form> {
-    form(request, &TYPED, &BYTES)
+pub fn network_form(request: &Request) -> Option<network::Form> {
+    let forms = [
+        (&PLAN, network::Form::Plan),
+        (&TYPED, network::Form::Typed),
+        (&BYTES, network::Form::Bytes),
+    ];
+    given(request, &forms)
 }
 
 /// How all sheets are written; `None` where the names' endings say it.
 pub fn sheet_form(request: &Request) -> Option<Form> {
-    form(request, &SHEET_NUMBERS, &SHEET_BYTES)
+    let forms = [(&SHEET_NUMBERS, Form::Text), (&SHEET_BYTES, Form::Bytes)];
+    given(request, &forms)
 }
 
-fn form(request: &Request, text: &CommandOption, bytes: &CommandOption) -> Option<Form> {
-    match (request.has(text), request.has(bytes)) {
-        (true, _) => Some(Form::Text),
-        (_, true) => Some(Form::Bytes),
-        _ => None,
-    }
+/// What the option says that was given.
+fn given<Form: Copy>(request: &Request, forms: &[(&CommandOption, Form)]) -> Option<Form> {
+    let given = forms.iter().find(|(option, _)| request.has(option));
+    given.map(|(_, form)| *form)
 }
 
 pub fn budget(request: &Request) -> u32 {

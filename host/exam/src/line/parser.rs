@@ -121,10 +121,7 @@ fn add(
     if let (Some(wanted), Some(value)) = (&option.value, &value) {
         (wanted.check)(value).map_err(|message| usage(&message, Some(verb)))?;
     }
-    if option
-        .excludes
-        .is_some_and(|other| request.has_named(other))
-    {
+    if option.excludes.iter().any(|other| request.has_named(other)) {
         return Err(usage("two options contradict each other", Some(verb)));
     }
     request.give(option, value);

@@ -37,8 +37,8 @@ pub struct CommandOption {
     pub value: Option<Value>,
     /// Its line of a verb's help.
     pub help: &'static str,
-    /// The name of the option that can't be given beside it.
-    pub excludes: Option<&'static str>,
+    /// The names of the options that can't be given beside it.
+    pub excludes: &'static [&'static str],
     /// What is said of a verb that hasn't it, where there are better words than
     /// that it hasn't.
     pub missing: Option<&'static str>,
@@ -95,17 +95,14 @@ impl CommandOption {
             name,
             value: None,
             help,
-            excludes: None,
+            excludes: &[],
             missing: None,
         }
     }
 
-    /// The same, never beside another option.
-    pub const fn excluding(self, other: &'static str) -> CommandOption {
-        CommandOption {
-            excludes: Some(other),
-            ..self
-        }
+    /// The same, never beside other options.
+    pub const fn excluding(self, excludes: &'static [&'static str]) -> CommandOption {
+        CommandOption { excludes, ..self }
     }
 }
 

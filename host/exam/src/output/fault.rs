@@ -1,11 +1,16 @@
 //! A refusal, printed and in words, with the command at fault: its bytes, what
-//! they say, and its line in a typed text.
+//! they say, and its text line.
 
+use super::named;
 use super::streams::{put, say};
+use super::text::shown;
 use crate::input::network::Network;
 use crate::status::{Status, Trouble};
 use engine::typed::{commands, pairs, CALL, END, FOLLOW, LINE};
 use engine::{Ground, Refusal, Sheet};
+
+/// No command has more bytes.
+const WIDEST: usize = 5;
 
 /// A refusal: `refused 5 at 0` and nothing else on standard output, the words
 /// on standard error.
@@ -34,19 +39,20 @@ pub fn explained(refusal: Refusal, network: &Network) -> String {
     if !refusal.ground.is_of_file() {
         return text;
     }
-    let place = refusal.place as usize;
-    let behind = network.bytes().get(place..).unwrap_or(&[]);
-    let shown = match commands(behind).first() {
-        None => format!("nothing behind its {place} bytes"),
-        // Behind the end there are bytes, and no commands.
-        Some(command) if refusal.ground == Ground::ByteAfterEnd => {
-            format!("byte {place}: {}", pairs(&command[..1]))
-        }
-        Some(command) => format!("byte {place}: {}{}", pairs(command), says(command)),
-    };
-    text += &format!("\n  {}, {shown}", network.name);
-    if let Some((number, line)) = network.typed_line(place) {
-        text += &format!("\n  line {number}: {line}");
+    let mut place = refusal.place as usize;
+    text += &format!("\n  {}, {}", network.name, at_fault(refusal, network));
+    if refusal.ground == Ground::EndTooEarly {
+        let (words, stated) = without_call(network, place);
+        text += &format!("\n  {words}");
+        place = stated;
+    }
+    if let Some((number, line)) = network.text_line(place) {
+        text += &format!("\n  text line {number}: {}", shown(line));
+    }
+    if let Some((from, to)) = run_over(refusal, network) {
+        text += &format!(
+            "\n  the command of text line {from} takes its last bytes from text line {to}"
+        );
     }
     text
 }
@@ -62,20 +68,104 @@ pub fn lengths(network: &Network, sheets: &[&Sheet]) -> String {
     format!("lines: {lines}; sheet: {}", lengths.join("; other sheet: "))
 }
 
+/// The commands of a network before a place, each with its own.
+fn above(network: &Network, place: usize) -> impl Iterator<Item = (usize, &[u8])> {
+    let mut behind = 0;
+    let file = network.bytes();
+    let commands = commands(&file[..place.min(file.len())]).into_iter();
+    commands.map(move |command| {
+        let place = behind;
+        behind += command.len();
+        (place, command)
+    })
+}
+
+/// The command at a place, if there is one.
+fn command_at(network: &Network, place: usize) -> Option<&[u8]> {
+    let behind = network.bytes().get(place..)?;
+    let one = &behind[..behind.len().min(WIDEST)];
+    commands(one).into_iter().next()
+}
+
+/// The bytes at the place of a refusal and what they say.
+fn at_fault(refusal: Refusal, network: &Network) -> String {
+    let place = refusal.place as usize;
+    match command_at(network, place) {
+        None => format!("nothing behind its {place} bytes"),
+        // Behind the end there are bytes, and no commands.
+        Some(command) if refusal.ground == Ground::ByteAfterEnd => {
+            format!("byte {place}: {}", pairs(&command[..1]))
+        }
+        Some(command) => {
+            let says = says(network, place, command);
+            format!("byte {place}: {}{says}", pairs(command))
+        }
+    }
+}
+
 /// What a command says, if it is whole.
-fn says(command: &[u8]) -> String {
+fn says(network: &Network, place: usize, command: &[u8]) -> String {
     let number = |high: u8, low: u8| u16::from_be_bytes([high, low]);
+    let (line_name, stop_name) = (
+        |line| named::line(&network.names, line),
+        |stop| named::stop(&network.names, stop),
+    );
     match *command {
-        [LINE, high, low] => format!(" (a line, period {})", number(high, low)),
+        [LINE, high, low] => {
+            let line = line_name(lines_above(network, place));
+            format!(" ({line}, period {})", number(high, low))
+        }
         [CALL, line, stop, high, low] => {
-            let offset = number(high, low);
-            format!(" (line {line}, stop {stop}, offset {offset})")
+            let (line, stop, offset) = (line_name(line), stop_name(stop), number(high, low));
+            format!(" ({line}, {stop}, offset {offset})")
         }
         [FOLLOW, line, stop, high, low] => {
-            let ride = number(high, low);
-            format!(" (line {line}, stop {stop}, ride {ride})")
+            let (line, stop, ride) = (line_name(line), stop_name(stop), number(high, low));
+            format!(" ({line}, {stop}, ride {ride})")
         }
         [END] => " (the end)".to_string(),
         _ => String::new(),
     }
+}
+
+/// How many lines are stated before a place: at most 16 where the engine came so
+/// far.
+fn lines_above(network: &Network, place: usize) -> u8 {
+    let stated = above(network, place).filter(|(_, command)| command[0] == LINE);
+    stated.count() as u8
+}
+
+/// What the end at this place comes too early for, and where that is stated.
+fn without_call(network: &Network, end: usize) -> (String, usize) {
+    let calls = |line: u8| above(network, end).any(|(_, command)| is_call_of(command, line));
+    let stated = above(network, end).filter(|(_, command)| command[0] == LINE);
+    let mut silent = (0..).zip(stated).filter(|(line, _)| !calls(*line));
+    match silent.next() {
+        Some((line, (place, _))) => {
+            let line = named::line(&network.names, line);
+            (format!("{line} never calls"), place)
+        }
+        None => ("there is no line".to_string(), end),
+    }
+}
+
+fn is_call_of(command: &[u8], line: u8) -> bool {
+    matches!(command, [CALL | FOLLOW, of, ..] if *of == line)
+}
+
+/// The first command up to the refused one whose bytes stand on two text lines,
+/// and which: where a pair is missing, the next text line isn't at fault.
+fn run_over(refusal: Refusal, network: &Network) -> Option<(usize, usize)> {
+    let place = refusal.place as usize;
+    let refused = match refusal.ground {
+        Ground::ByteAfterEnd => None,
+        _ => command_at(network, place).map(|command| (place, command)),
+    };
+    let commands = above(network, place).chain(refused);
+    let mut text_lines = commands.filter_map(|(begin, command)| {
+        let (from, _) = network.text_line(begin)?;
+        let (to, _) = network.text_line(begin + command.len() - 1)?;
+        Some((from, to))
+    });
+    text_lines.find(|(from, to)| from != to)
 }

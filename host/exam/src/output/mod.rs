@@ -2,5 +2,7 @@
 
 pub mod fault;
 pub mod lines;
+pub mod named;
 pub mod streams;
+pub mod text;
 pub mod watch;

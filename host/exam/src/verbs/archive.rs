@@ -1,7 +1,7 @@
 //! `exam archive`: the one file of a network that is kept.
 
 use crate::line::operands::networks;
-use crate::line::options::{BYTES, RAW, TYPED};
+use crate::line::options::{BYTES, PLAN, RAW, TYPED};
 use crate::line::table::{Request, Sheets, Verb};
 use crate::output::fault::refused;
 use crate::output::streams::put;
@@ -13,17 +13,17 @@ pub const VERB: Verb = Verb {
     operands: "NETWORK",
     networks: 1,
     sheets: Sheets::Exactly(0),
-    options: &[&TYPED, &BYTES, &RAW],
+    options: &[&PLAN, &TYPED, &BYTES, &RAW],
     summary: "the one file of a network that is kept",
     about: "\
 Prints the archive form, which is the same for every file of one network: the
 lines in order, then each call with its offset by line and then stop, then the
-end, typed, a line for each command.
+end, typed, a text line for each command.
   4C 000F
   43 00 00 0008
   45
-With --raw its bytes, for a file whose name ends in .net. (--typed and --bytes say
-how NETWORK is written.)
+With --raw its bytes, for a file whose name ends in .net. (--plan, --typed and
+--bytes say how NETWORK is written.)
 ",
     run,
 };

@@ -1,7 +1,7 @@
 //! `exam best`: the best timetable.
 
 use crate::line::operands::networks;
-use crate::line::options::{budget, BUDGET, BYTES, QUIET, TYPED};
+use crate::line::options::{budget, BUDGET, BYTES, PLAN, QUIET, TYPED};
 use crate::line::table::{Request, Sheets, Verb};
 use crate::output::fault::refused;
 use crate::output::lines::{joined, shown};
@@ -15,7 +15,7 @@ pub const VERB: Verb = Verb {
     operands: "NETWORK",
     networks: 1,
     sheets: Sheets::Exactly(0),
-    options: &[&TYPED, &BYTES, &BUDGET, &QUIET],
+    options: &[&PLAN, &TYPED, &BYTES, &BUDGET, &QUIET],
     summary: "the best timetable",
     about: "\
 Searches for the best timetable and prints its rating, the tries made, and the

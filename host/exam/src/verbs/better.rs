@@ -2,7 +2,7 @@
 
 use crate::input::network::Network;
 use crate::line::operands::{networks, sheets};
-use crate::line::options::{BYTES, SHEET_BYTES, SHEET_NUMBERS, TYPED};
+use crate::line::options::{BYTES, PLAN, SHEET_BYTES, SHEET_NUMBERS, TYPED};
 use crate::line::table::{Request, Sheets, Verb};
 use crate::output::fault::{explained, lengths};
 use crate::output::streams::{put, say};
@@ -14,7 +14,7 @@ pub const VERB: Verb = Verb {
     operands: "NETWORK SHEET SHEET",
     networks: 1,
     sheets: Sheets::Exactly(2),
-    options: &[&TYPED, &BYTES, &SHEET_NUMBERS, &SHEET_BYTES],
+    options: &[&PLAN, &TYPED, &BYTES, &SHEET_NUMBERS, &SHEET_BYTES],
     summary: "the better of two sheets",
     about: "\
 Prints which of two sheets is rated higher: first, second, or neither where the

@@ -1,12 +1,14 @@
 //! `exam classes`: which stops always rate alike.
 
 use crate::line::operands::networks;
-use crate::line::options::{BYTES, ROWS, TYPED};
+use crate::line::options::{BYTES, PLAN, ROWS, TYPED};
 use crate::line::table::{Request, Sheets, Verb};
 use crate::output::fault::refused;
 use crate::output::lines::joined;
+use crate::output::named;
 use crate::output::streams::put;
 use crate::status::{Status, Trouble};
+use engine::plan::Names;
 use engine::Classes;
 
 pub const VERB: Verb = Verb {
@@ -14,14 +16,15 @@ pub const VERB: Verb = Verb {
     operands: "NETWORK",
     networks: 1,
     sheets: Sheets::Exactly(0),
-    options: &[&TYPED, &BYTES, &ROWS],
+    options: &[&PLAN, &TYPED, &BYTES, &ROWS],
     summary: "which stops always rate alike",
     about: "\
 Prints the number of classes of stops that rate alike under every timetable, and
-a line for each class: its lowest stop, how many stops it has, and which.
+for each class its lowest stop, how many stops it has, and which.
   classes 2
   stop 0 weight 2 alike 0 1
   stop 2 weight 1 alike 2
+Of a plan the stops have their names: alike 0 'Market' 1 'School'
 With --rows, for each stop 0 to 63 the lowest stop alike to it (255 if unserved),
 then at each lowest stop the size of its class (0 elsewhere):
   class 0 0 2 255 ..
@@ -38,7 +41,7 @@ fn run(request: &Request) -> Result<Status, Trouble> {
     };
     let text = match request.has(&ROWS) {
         true => rows(&classes),
-        false => class_lines(&classes),
+        false => class_lines(&classes, &network.names),
     };
     put(format!("classes {}\n{text}", classes.count))?;
     Ok(Status::Done)
@@ -50,14 +53,17 @@ fn rows(classes: &Classes) -> String {
     format!("class {class_row}\nweight {weight_row}\n")
 }
 
-/// A line for each class: its lowest stop, its weight and all its stops. The
-/// rows say no less, but nobody reads 128 numbers with pleasure.
-fn class_lines(classes: &Classes) -> String {
+/// For each class its lowest stop, its weight and all its stops. The rows say no
+/// less, but nobody reads 128 numbers with pleasure.
+fn class_lines(classes: &Classes, names: &Names) -> String {
     let mut lines = String::new();
-    for (lowest, weight) in classes.weight_row.iter().enumerate() {
-        let of_class = |stop: &usize| usize::from(classes.class_row[*stop]) == lowest;
-        let stops: Vec<usize> = (0..engine::STOPS).filter(of_class).collect();
-        if *weight > 0 {
+    for (lowest, weight) in (0..).zip(classes.weight_row) {
+        let alike = (0..).zip(classes.class_row);
+        let stops: Vec<String> = alike
+            .filter(|(_, class)| *class == lowest)
+            .map(|(stop, _)| named::with(stop, names.stop(stop)))
+            .collect();
+        if weight > 0 {
             lines += &format!("stop {lowest} weight {weight} alike {}\n", joined(&stops));
         }
     }

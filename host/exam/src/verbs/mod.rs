@@ -5,15 +5,19 @@ mod best;
 mod better;
 mod classes;
 mod mark;
+mod plan;
 mod rate;
 mod read;
 mod same;
+mod show;
+mod typing;
 
 use crate::line::table::Verb;
 
 /// All verbs, in the order of help.
-pub const ALL: [&Verb; 8] = [
+pub const ALL: [&Verb; 11] = [
     &read::VERB,
+    &show::VERB,
     &rate::VERB,
     &classes::VERB,
     &best::VERB,
@@ -21,6 +25,8 @@ pub const ALL: [&Verb; 8] = [
     &mark::VERB,
     &archive::VERB,
     &same::VERB,
+    &plan::VERB,
+    &typing::VERB,
 ];
 
 #[cfg(test)]
@@ -46,18 +52,17 @@ mod tests {
         }
     }
 
-    /// An option is excluded by the one that it excludes, and a verb that has
-    /// the one has the other.
+    /// An option is excluded by those that it excludes, and a verb that has the
+    /// one has the others.
     #[test]
     fn options_exclude_each_other() {
         for verb in ALL {
             for option in verb.options {
-                let Some(name) = option.excludes else {
-                    continue;
-                };
-                let other = verb.options.iter().find(|other| other.name == name);
-                let other = other.unwrap_or_else(|| panic!("{} hasn't {name}", verb.name));
-                assert_eq!(other.excludes, Some(option.name));
+                for name in option.excludes {
+                    let other = verb.options.iter().find(|other| other.name == *name);
+                    let other = other.unwrap_or_else(|| panic!("{} hasn't {name}", verb.name));
+                    assert!(other.excludes.contains(&option.name));
+                }
             }
         }
         assert!(all_options(&ALL).all(|option| option.name.starts_with("--")));

@@ -1,7 +1,7 @@
 //! `exam rate`: the rating of a sheet.
 
 use crate::line::operands::{networks, sheets};
-use crate::line::options::{BYTES, SHEET_BYTES, SHEET_NUMBERS, TYPED};
+use crate::line::options::{BYTES, PLAN, SHEET_BYTES, SHEET_NUMBERS, TYPED};
 use crate::line::table::{Request, Sheets, Verb};
 use crate::output::fault::refused_sheet;
 use crate::output::lines::shown;
@@ -13,7 +13,7 @@ pub const VERB: Verb = Verb {
     operands: "NETWORK SHEET",
     networks: 1,
     sheets: Sheets::Exactly(1),
-    options: &[&TYPED, &BYTES, &SHEET_NUMBERS, &SHEET_BYTES],
+    options: &[&PLAN, &TYPED, &BYTES, &SHEET_NUMBERS, &SHEET_BYTES],
     summary: "a sheet's rating: least gap, sum of gaps",
     about: "\
 Rates a sheet: the least gap between two lines at any stop, and the sum of the

@@ -1,7 +1,7 @@
 //! `exam read`: what a network has.
 
 use crate::line::operands::networks;
-use crate::line::options::{BYTES, TYPED};
+use crate::line::options::{BYTES, PLAN, TYPED};
 use crate::line::table::{Request, Sheets, Verb};
 use crate::output::fault::refused;
 use crate::output::streams::put;
@@ -12,7 +12,7 @@ pub const VERB: Verb = Verb {
     operands: "NETWORK",
     networks: 1,
     sheets: Sheets::Exactly(0),
-    options: &[&TYPED, &BYTES],
+    options: &[&PLAN, &TYPED, &BYTES],
     summary: "lines, stops, calls and common cycle",
     about: "\
 Reads a network and prints what it has:

@@ -1,9 +1,11 @@
 //! `exam same`: whether two files are of one network.
 
+use crate::input::network::Network;
 use crate::line::operands::networks;
-use crate::line::options::{BYTES, TYPED};
+use crate::line::options::{BYTES, PLAN, TYPED};
 use crate::line::table::{Request, Sheets, Verb};
 use crate::output::fault::refused;
+use crate::output::named;
 use crate::output::streams::{put, say};
 use crate::status::{Status, Trouble};
 use engine::typed::{commands, LINE};
@@ -13,15 +15,16 @@ pub const VERB: Verb = Verb {
     operands: "NETWORK NETWORK",
     networks: 2,
     sheets: Sheets::Exactly(0),
-    options: &[&TYPED, &BYTES],
+    options: &[&PLAN, &TYPED, &BYTES],
     summary: "whether two files are of one network",
     about: "\
 Prints same where two files have the same archive form, otherwise different, and
 standard error says in what they differ first:
   exam: another network: line 1 has period 20 in a.hex and 30 in b.hex
+with the names of lines and stops where a plan has them.
 Where a file has a fault, its ground, and standard error names the file:
   refused 5 at 0
-Each file is typed or bytes by its own name; an option counts for both.
+Each file is a plan, typed or bytes by its own name; an option counts for both.
 ",
     run,
 };
@@ -45,7 +48,7 @@ fn run(request: &Request) -> Result<Status, Trouble> {
     // There is such a pair: each form has the end as its last command alone, so
     // that none is the other's beginning.
     if let Some((before, pair)) = pairs.enumerate().find(|(_, (one, other))| one != other) {
-        let words = difference(before, pair, [&networks[0].name, &networks[1].name]);
+        let words = difference(before, pair, [&networks[0], &networks[1]]);
         say(&format!("exam: another network: {words}"));
     }
     Ok(Status::Refused)
@@ -53,21 +56,21 @@ fn run(request: &Request) -> Result<Status, Trouble> {
 
 /// What the first two commands that differ say; before both stand the same
 /// commands, so many.
-fn difference(before: usize, (one, other): (&[u8], &[u8]), [first, second]: [&str; 2]) -> String {
+fn difference(before: usize, (one, other): (&[u8], &[u8]), both: [&Network; 2]) -> String {
+    let [first, second] = both.map(|network| network.name.as_str());
     match (one, other) {
         ([LINE, a @ ..], [LINE, b @ ..]) => {
-            let (a, b) = (number(a), number(b));
-            format!("line {before} has period {a} in {first} and {b} in {second}")
+            let (line, a, b) = (line_of(both, before as u8), number(a), number(b));
+            format!("{line} has period {a} in {first} and {b} in {second}")
         }
-        ([LINE, ..], _) => format!("line {before} is in {first} alone"),
-        (_, [LINE, ..]) => format!("line {before} is in {second} alone"),
+        ([LINE, ..], _) => format!("{} is in {first} alone", line_of(both, before as u8)),
+        (_, [LINE, ..]) => format!("{} is in {second} alone", line_of(both, before as u8)),
         ([_, line, stop, a @ ..], [_, other_line, other_stop, b @ ..])
             if (line, stop) == (other_line, other_stop) =>
         {
+            let (line, stop) = (line_of(both, *line), stop_of(both, *stop));
             let (a, b) = (number(a), number(b));
-            format!(
-                "line {line} reaches stop {stop} after {a} minutes in {first} and {b} in {second}"
-            )
+            format!("{line} reaches {stop} after {a} minutes in {first} and {b} in {second}")
         }
         _ => {
             // Calls stand by line and stop, and the end behind them: the lesser
@@ -76,8 +79,29 @@ fn difference(before: usize, (one, other): (&[u8], &[u8]), [first, second]: [&st
                 true => (one, first),
                 false => (other, second),
             };
-            format!("line {} calls at stop {} in {name} alone", call[1], call[2])
+            let (line, stop) = (line_of(both, call[1]), stop_of(both, call[2]));
+            format!("{line} calls at {stop} in {name} alone")
         }
+    }
+}
+
+/// A line by its number and its name.
+fn line_of(both: [&Network; 2], number: u8) -> String {
+    let names = both.map(|network| network.names.line(number));
+    format!("line {}", with_either(number, names))
+}
+
+/// A stop by its number and its name.
+fn stop_of(both: [&Network; 2], number: u8) -> String {
+    let names = both.map(|network| network.names.stop(number));
+    format!("stop {}", with_either(number, names))
+}
+
+/// Two plans may have two names for one number.
+fn with_either(number: u8, names: [Option<&str>; 2]) -> String {
+    match names {
+        [Some(one), Some(other)] if one != other => format!("{number} '{one}' or '{other}'"),
+        [one, other] => named::with(number, one.or(other)),
     }
 }
 

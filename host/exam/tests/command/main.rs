@@ -1,4 +1,4 @@
-//! The command `exam`: each verb, each exit status, typed and binary networks,
+//! The command `exam`: each verb, each exit status, plans, typed and binary networks,
 //! the words for each ground, and trouble of every kind without a panic.
 
 #[path = "../common/mod.rs"]
@@ -11,9 +11,12 @@ mod classes;
 mod forms;
 mod long;
 mod mark;
+mod plan;
 mod rate;
 mod read;
 mod refusals;
 mod same;
+mod show;
 mod streams;
+mod typing;
 mod usage;

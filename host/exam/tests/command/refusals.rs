@@ -62,7 +62,7 @@ fn the_command_at_fault_is_shown() {
     let network = folder.file("fault.hex", text);
     let message = format!(
         "exam: refused 8 at 3: the stop is above 63\n  {network}, byte 3: 43 00 40 00 08 (line 0, \
-         stop 64, offset 8)\n  line 4: 43 0040 0008 # stop 64\n"
+         stop 64, offset 8)\n  text line 4: 43 0040 0008 # stop 64\n"
     );
     let ran = exam(&["read", &network]);
     ran.told("refused 8 at 3\n", 1, &[]);
@@ -71,22 +71,109 @@ fn the_command_at_fault_is_shown() {
         ("4C000F", "nothing behind its 3 bytes"),
         ("4C000F 99", "byte 3: 99\n"),
         ("4C000F 4300", "byte 3: 43 00\n"),
-        ("4C05A1 45", "byte 0: 4C 05 A1 (a line, period 1441)\n"),
+        ("4C05A1 45", "byte 0: 4C 05 A1 (line 0, period 1441)\n"),
         (
             "4C000F 4600000001",
             "byte 3: 46 00 00 00 01 (line 0, stop 0, ride 1)\n",
         ),
-        ("4C000F 45", "byte 3: 45 (the end)\n"),
+        ("4C000F 45", "byte 3: 45 (the end)\n  line 0 never calls\n"),
+        ("45", "byte 0: 45 (the end)\n  there is no line\n"),
         ("4C000F 4300000008 45 43", "byte 9: 43\n"),
     ];
     for (text, piece) in cases {
         let ran = exam_with(&["best", "--typed", "-"], text.as_bytes());
         assert_eq!(ran.status, 1);
         assert!(ran.err.contains(piece), "no '{piece}' in {ran:?}");
-        assert!(ran.err.ends_with(&format!("  line 1: {text}\n")), "{ran:?}");
+        assert!(
+            ran.err.ends_with(&format!("  text line 1: {text}\n")),
+            "{ran:?}"
+        );
     }
     // Nothing was typed, so that there is no line to show.
     let ran = exam_with(&["best", "--typed", "-"], b"# nothing\n");
     ran.told("refused 1 at 0\n", 1, &["nothing behind its 0 bytes\n"]);
-    assert!(!ran.err.contains("  line "));
+    assert!(!ran.err.contains("text line"));
+}
+
+/// Where a pair is missing, the command takes one of the next text line, and
+/// that begins with the rest of it.
+#[test]
+fn a_missing_pair_is_not_the_next_text_lines_fault() {
+    let said = |text: &str| {
+        let ran = exam_with(&["read", "--typed", "-"], text.as_bytes());
+        assert_eq!(ran.status, 1, "{ran:?}");
+        ran.err
+    };
+    let rest = "43 00 00 0008\n43 01 00 0011\n45\n";
+    let missing = said(&format!("4C 000F\n4C 00 # every 20\n{rest}"));
+    let message =
+        "exam: refused 2 at 6: unknown command\n  standard input, byte 6: 00\n  text line \
+                   3: 43 00 00 0008\n  the command of text line 2 takes its last bytes from text \
+                   line 3\n";
+    assert_eq!(missing, message);
+    // The refusal comes later than the missing pair: the first command is named.
+    let missing = said("4C 000F\n4C 0014\n43 00 00\n\n43 01 00 0011\n45\n");
+    let run_over = "the command of text line 3 takes its last bytes from text line 5\n";
+    assert!(missing.ends_with(run_over), "{missing}");
+    // The refused command itself.
+    let missing = said("4C 05\nA1 45");
+    assert!(missing.starts_with("exam: refused 5 at 0"), "{missing}");
+    let run_over = "the command of text line 1 takes its last bytes from text line 2\n";
+    assert!(missing.ends_with(run_over), "{missing}");
+    // Nothing runs over, or only behind the refused command.
+    for text in [
+        "4C 05A1\n45",
+        "4C 05A1\n43 00 00\n00 08",
+        "4C000F 4300000008 45\n4C\n000F",
+    ] {
+        assert!(!said(text).contains("takes its last bytes"), "{text}");
+    }
+}
+
+/// Ground 13: which line never calls.
+#[test]
+fn the_line_that_never_calls() {
+    let cases = [
+        (
+            "4C000F\n4C0014\n4300000008\n45",
+            "line 1 never calls\n  text line 2: 4C0014\n",
+        ),
+        (
+            "4C000F\n4C0014\n4301000008\n45",
+            "line 0 never calls\n  text line 1: 4C000F\n",
+        ),
+        (
+            "4C000F\n4C0014\n4C0014\n4300000008\n4600010008\n4302000008\n45",
+            "line 1 never calls\n  text line 2: 4C0014\n",
+        ),
+        ("# no line\n45", "there is no line\n  text line 2: 45\n"),
+    ];
+    for (text, piece) in cases {
+        let ran = exam_with(&["best", "--typed", "-"], text.as_bytes());
+        assert_eq!(ran.status, 1, "{ran:?}");
+        assert!(ran.err.ends_with(piece), "no '{piece}' in {ran:?}");
+    }
+    let bytes = [0x4C, 0, 15, 0x45];
+    let pieces = ["line 0 never calls\n"];
+    exam_with(&["read", "--bytes", "-"], &bytes).told("refused 13 at 3\n", 1, &pieces);
+}
+
+/// What a file holds moves no cursor.
+#[test]
+fn control_characters_are_not_printed() {
+    let ran = exam_with(&["read", "--typed", "-"], b"45 # \x1B[2J\x07\xC2\x9B");
+    ran.told(
+        "refused 13 at 0\n",
+        1,
+        &["text line 1: 45 # \\u{1b}[2J\\u{7}\\u{9b}\n"],
+    );
+    let ran = exam_with(&["read", "--plan", "-"], b"line \x1B[2J every 5");
+    ran.told(
+        "",
+        2,
+        &["the name '\\u{1b}[2J' has a character that can't be seen"],
+    );
+    let long = format!("45 # {}", "x".repeat(10_000));
+    let ran = exam_with(&["read", "--typed", "-"], long.as_bytes());
+    assert!(ran.err.len() < 400, "{ran:?}");
 }

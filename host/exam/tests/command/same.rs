@@ -90,7 +90,7 @@ fn same_of_typed_text_and_bytes() {
     exam(&["same", "--typed", &named[0], &named[1]]).printed("same\n", 0);
     exam_with(&["same", "-", HEX, "--typed"], text.as_bytes()).printed("same\n", 0);
     exam_with(&["same", NET, "-", "--bytes"], &bytes).printed("same\n", 0);
-    let hint = ["--typed or --bytes"];
+    let hint = ["--plan, --typed or --bytes"];
     exam(&["same", HEX, &named[1]]).told("", 2, &hint);
     exam_with(&["same", HEX, "-"], text.as_bytes()).told("", 2, &hint);
     exam(&["same", "no.hex", HEX]).told("", 2, &["no.hex: there is no such file"]);
@@ -98,4 +98,45 @@ fn same_of_typed_text_and_bytes() {
     // What can't be read comes before what is refused.
     let bad = folder.file("bad.hex", "4C05A1 45");
     exam(&["same", &bad, "no.hex"]).told("", 2, &["no.hex: there is no such file"]);
+}
+
+/// The names of a plan stand beside the numbers, those of the first file before
+/// those of the second.
+#[test]
+fn same_with_the_names_of_a_plan() {
+    let folder = Folder::new();
+    let plan = "line Red every 15\nMarket at 8\nline Green every 20\nMarket at 17\n";
+    let a = folder.file("a.plan", plan);
+    exam(&["same", &a, HEX]).printed("same\n", 0);
+    let told = |one: &str, other: &str, words: &str| {
+        let ran = exam(&["same", one, other]);
+        ran.told("different\n", 1, &[]);
+        let said = ran.err.replace(&format!("{}/", folder.name()), "");
+        assert_eq!(said, format!("exam: another network: {words}\n"));
+    };
+    let b = folder.file("b.hex", "4C000F 4C001E 4300000008 4301000011 45");
+    let words = "line 1 'Green' has period 20 in a.plan and 30 in b.hex";
+    told(&a, &b, words);
+    let words = "line 1 'Green' has period 30 in b.hex and 20 in a.plan";
+    told(&b, &a, words);
+    let late = folder.file("late.plan", plan.replace("at 17", "at 18"));
+    let words = "line 1 'Green' reaches stop 0 'Market' after 17 minutes in a.plan and 18 in \
+                 late.plan";
+    told(&a, &late, words);
+    let other = plan.replace("at 17", "at 18").replace("Market", "Church");
+    let other = folder.file("other.plan", other);
+    let words = "line 1 'Green' reaches stop 0 'Market' or 'Church' after 17 minutes in a.plan \
+                 and 18 in other.plan";
+    told(&a, &other, words);
+    let more = folder.file("more.plan", format!("{plan}Mill +1\n"));
+    told(
+        &a,
+        &more,
+        "line 1 'Green' calls at stop 1 'Mill' in more.plan alone",
+    );
+    let more = folder.file(
+        "lines.plan",
+        format!("{plan}line Blue every 5\nMarket at 0\n"),
+    );
+    told(&more, &a, "line 2 'Blue' is in lines.plan alone");
 }

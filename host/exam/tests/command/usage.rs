@@ -58,13 +58,33 @@ fn bad_usage_of_archive_and_same() {
 }
 
 #[test]
+fn bad_usage_of_plans() {
+    let cases: [(&[&str], &str); 10] = [
+        (&["show"], "'show' wants NETWORK"),
+        (&["show", NET, NET], "'show' wants NETWORK"),
+        (&["show", NET, "--raw"], "no option '--raw'"),
+        (&["plan"], "'plan' wants NETWORK"),
+        (&["plan", NET, "--raw"], "no option '--raw'"),
+        (&["type"], "'type' wants NETWORK"),
+        (&["type", NET, "--rows"], "no option '--rows'"),
+        (&["best", NET, "--plan", "--typed"], "contradict"),
+        (&["best", NET, "--bytes", "--plan"], "contradict"),
+        (&["same", "-", "-", "--plan"], "one file only"),
+    ];
+    for (words, message) in cases {
+        exam(words).told("", 2, &[message, "try: exam"]);
+    }
+}
+
+#[test]
 fn help_for_each_verb() {
     let overview = exam(&["--help"]);
     for words in [&["help"][..], &["-h"], &["--help"]] {
         exam(words).printed(&overview.out, 0);
     }
     let verbs = [
-        "read", "rate", "classes", "best", "better", "mark", "archive", "same",
+        "read", "show", "rate", "classes", "best", "better", "mark", "archive", "same", "plan",
+        "type",
     ];
     for verb in verbs {
         assert!(overview.out.contains(&format!("  exam {verb} NETWORK")));
@@ -74,7 +94,11 @@ fn help_for_each_verb() {
         assert!(help.out.contains("Exit status: 0 done; 1 refused"));
         let searches = ["best", "mark"].contains(&verb);
         assert_eq!(help.out.contains("--budget N"), searches);
-        assert_eq!(help.out.contains("  --raw "), verb == "archive");
+        let writes_bytes = ["archive", "type"].contains(&verb);
+        assert_eq!(help.out.contains("  --raw "), writes_bytes);
+        for form in ["--plan", "--typed", "--bytes"] {
+            assert!(help.out.contains(&format!("  {form} ")), "{verb} {form}");
+        }
         // Help comes also where operands are there.
         exam(&[verb, NET, "-h"]).printed(&help.out, 0);
         exam(&["help", verb]).printed(&help.out, 0);
@@ -87,6 +111,7 @@ fn help_for_each_verb() {
 fn help_in_columns() {
     let overview = "
   exam read NETWORK                    lines, stops, calls and common cycle
+  exam show NETWORK                    what was read, in decimal, for proofreading
   exam rate NETWORK SHEET              a sheet's rating: least gap, sum of gaps
   exam classes NETWORK                 which stops always rate alike
   exam best NETWORK                    the best timetable
@@ -94,12 +119,15 @@ fn help_in_columns() {
   exam mark NETWORK SHEET-OR-FOLDER    a sheet, or each of a folder, against the best
   exam archive NETWORK                 the one file of a network that is kept
   exam same NETWORK NETWORK            whether two files are of one network
+  exam plan NETWORK                    a network as a plan, with names and decimal numbers
+  exam type NETWORK                    a plan in hexadecimal, or as bytes
   exam VERB --help                     more about a verb
 
 NETWORK: a name";
     assert!(exam(&["--help"]).out.contains(overview));
     let options = "
 Options:
+  --plan            the network is a plan, whatever its name
   --typed           the network is typed text, whatever its name
   --bytes           the network is bytes, whatever its name
   --sheet-numbers   a sheet is whole numbers, whatever its name
@@ -111,6 +139,7 @@ Exit status: ";
     assert!(exam(&["mark", "--help"]).out.contains(options));
     let options = "
 Options:
+  --plan            the network is a plan, whatever its name
   --typed           the network is typed text, whatever its name
   --bytes           the network is bytes, whatever its name
   --rows            print the class row and the weight row, 64 numbers each

@@ -2,10 +2,11 @@
 
 #![allow(dead_code)]
 
-use std::io::Write;
+use papers::child::Limited;
 use std::path::{Path, PathBuf};
 use std::process::{Child, Command, Stdio};
 use std::sync::atomic::{AtomicUsize, Ordering};
+use std::time::Duration;
 
 /// The repository.
 pub const ROOT: &str = concat!(env!("CARGO_MANIFEST_DIR"), "/../..");
@@ -60,17 +61,19 @@ pub fn exam(words: &[&str]) -> Ran {
 /// Runs `exam` with a standard input.
 pub fn exam_with(words: &[&str], input: &[u8]) -> Ran {
     let mut command = command(words);
-    let mut child = command.stdin(Stdio::piped()).spawn().expect("exam starts");
-    let mut stdin = child.stdin.take().expect("a pipe");
-    // What doesn't decide may stay unread.
-    let _ = stdin.write_all(input);
-    drop(stdin);
-    ended(child)
+    let mut child = Limited::start(command.stdin(Stdio::piped()));
+    child.hand_over(&[input], Duration::ZERO);
+    left_by(child)
 }
 
-/// Waits for the end. No run may panic, and each ends by itself.
+/// Waits for the end of a run that has just been started.
 pub fn ended(child: Child) -> Ran {
-    let output = child.wait_with_output().expect("exam ends");
+    left_by(Limited::of(child))
+}
+
+/// Waits for the end. No run may panic, and each ends by itself and in time.
+fn left_by(child: Limited) -> Ran {
+    let output = child.output();
     let err = String::from_utf8_lossy(&output.stderr).into_owned();
     assert!(!err.contains("panicked"), "{err}");
     Ran {
@@ -82,7 +85,7 @@ pub fn ended(child: Child) -> Ran {
 
 /// What a run wrote, bytes as they are.
 pub fn written(words: &[&str]) -> Vec<u8> {
-    let output = command(words).output().expect("exam runs");
+    let output = Limited::start(&mut command(words)).output();
     assert_eq!((output.status.code(), output.stderr), (Some(0), vec![]));
     output.stdout
 }

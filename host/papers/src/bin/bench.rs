@@ -93,8 +93,8 @@ fn measure(file: &[u8]) -> Times {
 /// One run of the program, its start and its reading included.
 fn engine_time(file: &[u8], line: &str) -> f64 {
     let mut child = program::started(program::best());
-    program::hand_over(&mut child, &[file], Duration::ZERO);
-    let printed = program::output(&mut child);
+    child.hand_over(&[file], Duration::ZERO);
+    let printed = program::line(&mut child);
     let time = time_of_ended(child.id());
     program::reap(child);
     if printed != line {

@@ -36,6 +36,22 @@ pub fn dense_file(dice: &mut Dice, lines: usize, stops: usize) -> Vec<u8> {
     bytes_of(&commands)
 }
 
+/// The longest file there is, 1,329 bytes: 16 lines, 256 calls in any order and
+/// the end.
+pub fn longest_file(dice: &mut Dice) -> Vec<u8> {
+    let period = dice.pick(&[12, 60, 1_440]);
+    let mut calls: Vec<Command> = (0..=255u8)
+        .map(|call| Command::Call {
+            line: call / 16,
+            stop: call % 16,
+            offset: dice.below(1_440) as u16,
+        })
+        .collect();
+    dice.shuffle(&mut calls);
+    let lines = vec![Command::Line { period }; 16];
+    bytes_of(&[lines, calls, vec![Command::End]].concat())
+}
+
 /// A file at one of the limits or beyond it: of lines, periods, the cycle,
 /// stops, calls or offsets.
 pub fn limit_file(dice: &mut Dice) -> Vec<u8> {

@@ -31,7 +31,7 @@ pub use commands::{bytes_of, Command, Stated};
 pub use damaged::damaged_file;
 pub use dice::Dice;
 pub use faulty::{faulty_file, Faulty};
-pub use large::{dense_file, limit_file, very_long_file};
+pub use large::{dense_file, limit_file, longest_file, very_long_file};
 pub use retyped::retyped;
 pub use sheets::{any_budget, any_sheet, any_sheet_bytes, any_start, sheet, sheet_bytes};
 pub use valid::{any_size, valid_commands, valid_commands_of, valid_file, Size, CYCLES};

@@ -2,6 +2,7 @@
 
 use crate::cases::deepest_walk;
 use crate::given::{agreed, long_search, shown, PAPER, PAPER_LINE, SHORT};
+use papers::child::Limited;
 use papers::files::{very_long_file, Dice};
 use papers::program;
 use papers::sections::best::best;
@@ -49,7 +50,7 @@ fn an_endless_input() {
     let mut command = program::best();
     command.stdin(File::open("/dev/zero").expect("zeros"));
     command.stdout(Stdio::piped());
-    let ended = command.output().expect("the program runs");
+    let ended = Limited::start(&mut command).output();
     assert_eq!(ended.stdout, b"refused 2 at 0\n");
 }
 
@@ -94,8 +95,10 @@ fn inputs_that_fail() {
 }
 
 fn said_of(stdin: impl Into<Stdio>) -> (String, String) {
-    let ended = program::best().stdin(stdin).output();
-    said(&ended.expect("the program runs"))
+    let mut command = program::best();
+    command.stdin(stdin);
+    command.stdout(Stdio::piped()).stderr(Stdio::piped());
+    said(&Limited::start(&mut command).output())
 }
 
 /// An input that fails behind its beginning: the other end is gone and has

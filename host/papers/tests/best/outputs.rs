@@ -2,6 +2,7 @@
 
 use crate::given::{long_search, PAPER, PAPER_LINE};
 use crate::inputs::said;
+use papers::child::Limited;
 use papers::program;
 use std::collections::BTreeSet;
 use std::fs::File;
@@ -72,7 +73,7 @@ fn complaint(stdout: impl Into<Stdio>, input: &[u8]) -> String {
     let mut command = program::best();
     command.stdin(Stdio::piped()).stdout(stdout);
     command.stderr(Stdio::piped());
-    let mut child = command.spawn().expect("the program runs");
-    program::hand_over(&mut child, &[input], Duration::ZERO);
-    said(&child.wait_with_output().expect("a child to wait for")).1
+    let mut child = Limited::start(&mut command);
+    child.hand_over(&[input], Duration::ZERO);
+    said(&child.output()).1
 }

@@ -5,7 +5,7 @@
 //! `EXAM_CASES=1000000 cargo test --release --offline --test engine` is the
 //! longer run. A case is made from its number alone; a failure names it.
 
-mod answers;
+mod longest;
 mod networks;
 mod optimum;
 mod refusals;

@@ -1,7 +1,7 @@
 //! The optimum beside every timetable of small networks.
 
-use crate::answers::rated;
 use engine::{Mark, Rating, Searched, Sheet};
+use papers::answers::rated;
 use papers::files::Dice;
 use papers::sections::network::Network;
 use papers::sections::rating::rating;

@@ -1,7 +1,7 @@
 //! Every call on seeded files and sheets of every kind.
 
-use crate::answers::{counts, marked, rating_or_refusal, refusal, walked};
 use engine::{Mark, Refusal, Sheet};
+use papers::answers::{counts, marked, rating_or_refusal, refusal, walked};
 use papers::files::{any_budget, any_file, any_sheet_bytes, random_bytes, sheet_bytes, Dice};
 use papers::sections;
 use papers::sections::archive::archive_form;

@@ -26,10 +26,13 @@ pub fn refused(refusal: Refusal) -> u32 {
 pub struct Seen {
     pub answers: [usize; 3],
     pub grounds: [usize; 19],
+    /// What was returned at last.
+    pub last: u32,
 }
 
 impl Seen {
     pub fn add(&mut self, returned: u32) {
+        self.last = returned;
         match returned / 65_536 {
             0 => self.answers[returned as usize] += 1,
             number => self.grounds[number as usize] += 1,
@@ -45,7 +48,7 @@ impl Seen {
     }
 }
 
-fn compare_read(dice: &mut Dice, file: &[u8], seen: &mut Seen) {
+pub fn compare_read(dice: &mut Dice, file: &[u8], seen: &mut Seen) {
     let mut answer = answer_row::<4>(dice);
     let before = answer.clone();
     let (returned, expected) = match read_counts(file) {
@@ -89,7 +92,7 @@ pub fn compare_rate(
     seen.add(found);
 }
 
-fn compare_classes(dice: &mut Dice, file: &[u8], seen: &mut Seen) {
+pub fn compare_classes(dice: &mut Dice, file: &[u8], seen: &mut Seen) {
     let mut class_row = Lent::of(row_length(dice, 64), || dice.byte());
     let mut weight_row = Lent::of(row_length(dice, 64), || dice.bits() as u16);
     let mut answer = answer_row::<1>(dice);
@@ -114,10 +117,9 @@ fn compare_classes(dice: &mut Dice, file: &[u8], seen: &mut Seen) {
     seen.add(found);
 }
 
-fn compare_search(dice: &mut Dice, file: &[u8], lines: usize, seen: &mut Seen) {
-    let mut start_row = Lent::of(row_length(dice, lines), || dice.bits() as i32);
+pub fn compare_search(dice: &mut Dice, file: &[u8], places: usize, budget: u32, seen: &mut Seen) {
+    let mut start_row = Lent::of(places, || dice.bits() as i32);
     let mut answer = answer_row::<3>(dice);
-    let budget = small_budget(dice);
     let mut starts_after = start_row.clone();
     let (returned, answer_after) = match search(file, starts_after.row(), budget) {
         Err(refusal) => (refused(refusal), answer.clone()),
@@ -146,8 +148,21 @@ fn compare_search(dice: &mut Dice, file: &[u8], lines: usize, seen: &mut Seen) {
 }
 
 /// The generator's budgets up to 2,000: longer searches are compared elsewhere.
-fn small_budget(dice: &mut Dice) -> u32 {
-    any_budget(dice) % 2_000
+pub fn small_budget(dice: &mut Dice) -> u32 {
+    any_budget(dice).min(2_000)
+}
+
+/// Few searches stop before their first try, and some end at 2,000.
+#[test]
+fn small_budgets() {
+    let mut dice = Dice::new(67);
+    let budgets: Vec<u32> = (0..8_000).map(|_| small_budget(&mut dice)).collect();
+    let count = |budget: u32| budgets.iter().filter(|&&found| found == budget).count();
+    assert_eq!(budgets.iter().max(), Some(&2_000));
+    // Of eight kinds, two are longer, and of one a quarter is 0.
+    assert!((1_700..2_100).contains(&count(2_000)), "{}", count(2_000));
+    assert!((200..400).contains(&count(0)), "{}", count(0));
+    assert!(budgets.iter().filter(|&&budget| budget < 400).count() > 5_000);
 }
 
 pub fn compare_better(file: &[u8], first: &[u8], second: &[u8], seen: &mut Seen) {
@@ -170,9 +185,8 @@ pub fn compare_better(file: &[u8], first: &[u8], second: &[u8], seen: &mut Seen)
     seen.add(found);
 }
 
-pub fn compare_mark(dice: &mut Dice, file: &[u8], sheet: &[u8], seen: &mut Seen) {
+pub fn compare_mark(dice: &mut Dice, file: &[u8], sheet: &[u8], budget: u32, seen: &mut Seen) {
     let mut answer = answer_row::<6>(dice);
-    let budget = small_budget(dice);
     let before = answer.clone();
     let (returned, expected) = match mark_bytes(file, sheet, budget) {
         Err(refusal) => (refused(refusal), before),
@@ -240,6 +254,21 @@ pub struct AllSeen {
     pub archive: Seen,
 }
 
+impl AllSeen {
+    /// The exports that can refuse.
+    pub fn refusing(&self) -> [&Seen; 7] {
+        [
+            &self.read,
+            &self.rate,
+            &self.weighted,
+            &self.classes,
+            &self.search,
+            &self.mark,
+            &self.archive,
+        ]
+    }
+}
+
 /// Every export on one file with two sheets; the file and the sheets stay as
 /// they were.
 pub fn compare_all(dice: &mut Dice, file: &[u8], seen: &mut AllSeen) {
@@ -252,9 +281,11 @@ pub fn compare_all(dice: &mut Dice, file: &[u8], seen: &mut AllSeen) {
     let weighted: (Rates, _) = (examination_weighted, weighted_bytes(file, &first));
     compare_rate(dice, weighted, file, &first, &mut seen.weighted);
     compare_classes(dice, file, &mut seen.classes);
-    compare_search(dice, file, lines, &mut seen.search);
+    let (places, budget) = (row_length(dice, lines), small_budget(dice));
+    compare_search(dice, file, places, budget, &mut seen.search);
     compare_better(file, &first, &second, &mut seen.better);
-    compare_mark(dice, file, &first, &mut seen.mark);
+    let budget = small_budget(dice);
+    compare_mark(dice, file, &first, budget, &mut seen.mark);
     let right = archive_length(dice, file);
     let length = row_length(dice, right);
     compare_archive(dice, file, length, &mut seen.archive);

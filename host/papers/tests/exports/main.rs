@@ -1,11 +1,14 @@
 //! The exports of the static library, declared as docs/ABI.md has them, beside
 //! the independent implementation: return values, answer rows and lent rows.
 
+mod budgets;
 mod compared;
 mod declared;
+mod ends;
 mod lent;
 mod rows;
 mod seeded;
+mod sheets;
 
 #[link(name = "examination", kind = "static")]
 extern "C" {

@@ -16,7 +16,8 @@ fn rows_of_other_lengths() {
     let file = three_lines([15, 20, 12]);
     let net = read(&file).expect("an accepted file");
     let best = walk(&net, 1_000).starts.expect("a best");
-    for length in (0..=40).filter(|&length| length != 3) {
+    let long = [259, 4_096, 4_099, 65_536, 65_539];
+    for length in (0..=40).filter(|&length| length != 3).chain(long) {
         let mut row = Lent::of(length, || dice.bits() as i32);
         let mut answer = answer_row::<3>(&mut dice);
         let before = (row.clone(), answer.clone());
@@ -27,8 +28,10 @@ fn rows_of_other_lengths() {
     let mut row = vec![7; 3];
     let found = searched(&file, &mut row, &mut [0; 3]);
     assert_eq!((found, row), (0, best));
-    for (class, weight) in [(64, 63), (63, 64), (0, 64), (64, 0), (65, 64), (64, 4_096)] {
-        assert_eq!(filled(&mut dice, &file, class, weight), 17 * 65_536);
+    for other in [0, 1, 63, 65, 320, 4_096, 4_160, 65_536, 65_600] {
+        for (class, weight) in [(64, other), (other, 64), (other, other)] {
+            assert_eq!(filled(&mut dice, &file, class, weight), 17 * 65_536);
+        }
     }
     assert_eq!(filled(&mut dice, &file, 64, 64), 0);
 }
@@ -87,10 +90,10 @@ fn archive_rows_of_every_length() {
     ];
     for (file, right) in files {
         let mut seen = Seen::default();
-        for length in 0..=right + 40 {
+        for length in (0..=right + 40).chain([4_096, 4_097, 65_536, 65_537]) {
             compare_archive(&mut dice, &file, length, &mut seen);
         }
-        assert_eq!((seen.answers[0], seen.grounds[18]), (41, right));
+        assert_eq!((seen.answers[0], seen.grounds[18]), (45, right));
     }
 }
 

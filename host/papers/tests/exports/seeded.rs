@@ -1,8 +1,8 @@
 //! Every export on seeded files and sheets, and on empty parts.
 
 use crate::compared::{
-    compare_all, compare_archive, compare_better, compare_mark, compare_rate, three_lines, AllSeen,
-    Rates, Seen,
+    compare_all, compare_archive, compare_better, compare_mark, compare_rate, small_budget,
+    three_lines, AllSeen, Rates, Seen,
 };
 use crate::{examination_rate, examination_weighted};
 use papers::files::{any_file, faulty_file, sheet, sheet_bytes, valid_file, Dice};
@@ -60,7 +60,8 @@ fn both_ends_of_32_bits() {
             compare_rate(&mut dice, rate, &file, &sheet, &mut seen);
             let weighted: (Rates, _) = (examination_weighted, weighted_bytes(&file, &sheet));
             compare_rate(&mut dice, weighted, &file, &sheet, &mut seen);
-            compare_mark(&mut dice, &file, &sheet, &mut seen);
+            let budget = small_budget(&mut dice);
+            compare_mark(&mut dice, &file, &sheet, budget, &mut seen);
             let other = sheet_bytes(&starts.map(|start| start.wrapping_neg()));
             compare_better(&file, &sheet, &other, &mut seen);
         }
@@ -78,7 +79,7 @@ fn empty_parts() {
     let mut one = Seen::default();
     compare_better(&file, &[], &[], &mut one);
     compare_better(&file, &[], &sheet_bytes(&sheet(&mut dice, 3)), &mut one);
-    compare_mark(&mut dice, &file, &[], &mut one);
+    compare_mark(&mut dice, &file, &[], 100, &mut one);
     compare_archive(&mut dice, &file, 0, &mut one);
     compare_archive(&mut dice, &[], 0, &mut one);
     assert_eq!(one.answers, [1, 0, 1]);

@@ -4,7 +4,7 @@ mod folder;
 
 use crate::input::network::Network;
 use crate::line::operands::{networks, sheets};
-use crate::line::options::{budget, BUDGET, BYTES, QUIET, SHEET_BYTES, SHEET_NUMBERS, TYPED};
+use crate::line::options::{budget, BUDGET, BYTES, PLAN, QUIET, SHEET_BYTES, SHEET_NUMBERS, TYPED};
 use crate::line::table::{Request, Sheets, Verb};
 use crate::output::fault::refused_sheet;
 use crate::output::lines::mark_line;
@@ -19,6 +19,7 @@ pub const VERB: Verb = Verb {
     networks: 1,
     sheets: Sheets::OneOrFolder,
     options: &[
+        &PLAN,
         &TYPED,
         &BYTES,
         &SHEET_NUMBERS,
@@ -35,9 +36,9 @@ Rates a sheet and searches for the best timetable:
 The last where the budget was used up, so that the best isn't known.
 
 Of a folder every file is marked as a sheet, but for hidden ones and folders: a
-line for each in name order, on all cores, with the name and a colon before it.
-A file that can't be read as a sheet has the line 'NAME: unreadable'. The exit
-status is the gravest of all: 2, then 1, then 3, then 0.
+text line for each in name order, on all cores, with the name and a colon before
+it. A file that can't be read as a sheet has 'NAME: unreadable'. The exit status
+is the gravest of all: 2, then 1, then 3, then 0.
 ",
     run,
 };

@@ -1,11 +1,11 @@
 //! The papers' answers in the wrapper's types; a search's the other way, since
 //! nobody but the wrapper makes a best.
 
+use crate::sections;
+use crate::sections::network::Network;
+use crate::sections::sheets::Marked;
+use crate::sections::walk::{Answer, Walked};
 use engine::{Counts, Ground, Mark, Rating, Refusal, Searched};
-use papers::sections;
-use papers::sections::network::Network;
-use papers::sections::sheets::Marked;
-use papers::sections::walk::{Answer, Walked};
 
 pub fn refusal(paper: sections::network::Refusal) -> Refusal {
     let number = u32::from(paper.number);

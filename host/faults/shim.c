@@ -1,0 +1,303 @@
+/*
+ * The eight exports over the real ones, which .ci/faults has renamed, with the
+ * faults of faults.h. The variable EXAMINATION_FAULT has the number of the one that
+ * this process is to have; unset or 0 is none. It is linked by the tests of the
+ * tests alone.
+ */
+#include <stdatomic.h>
+#include <stdio.h>
+#include <stdlib.h>
+#include <string.h>
+#include <threads.h>
+#include <time.h>
+
+#include "../c/examination.h"
+
+extern __typeof__(examination_read) real_read;
+extern __typeof__(examination_rate) real_rate;
+extern __typeof__(examination_weighted) real_weighted;
+extern __typeof__(examination_classes) real_classes;
+extern __typeof__(examination_search) real_search;
+extern __typeof__(examination_better) real_better;
+extern __typeof__(examination_mark) real_mark;
+extern __typeof__(examination_archive) real_archive;
+
+enum fault {
+    NO_FAULT,
+#define FAULT(name, words, file, test) name,
+#include "faults.h"
+#undef FAULT
+    FAULTS
+};
+
+/* Whether this is the fault of the process. A number that isn't there ends it: it
+ * would pass for no fault. */
+static int is(enum fault fault)
+{
+    static atomic_int kept = -1;
+    int chosen = atomic_load(&kept);
+    if (chosen < 0) {
+        const char *text = getenv("EXAMINATION_FAULT");
+        char *end = NULL;
+        const long number = text == NULL ? 0 : strtol(text, &end, 10);
+        if (number < 0 || number >= FAULTS || (text != NULL && (end == text || *end != '\0'))) {
+            fprintf(stderr, "EXAMINATION_FAULT is 0 to %d\n", FAULTS - 1);
+            abort();
+        }
+        chosen = (int)number;
+        atomic_store(&kept, chosen);
+    }
+    return chosen == (int)fault;
+}
+
+static int is_3000th(atomic_uint *calls)
+{
+    return atomic_fetch_add(calls, 1) % 3000 == 2999;
+}
+
+/* The lines of a file, 0 if it is refused. */
+static size_t lines_of(const uint8_t *file, size_t file_len)
+{
+    uint32_t counts[EXAMINATION_READ_PLACES];
+    return examination_is_refused(real_read(file, file_len, counts)) ? 0 : counts[0];
+}
+
+/* The length that is taken for a sheet's. */
+static size_t taken_length(enum fault fault, const uint8_t *file, size_t file_len, size_t sheet_len)
+{
+    if (is(SHEET_CUT)) return sheet_len / 4 * 4;
+    if (is(SHEET_OF_16_BITS)) return sheet_len & 65535;
+    return is(fault) && sheet_len > 4096 ? 4 * lines_of(file, file_len) : sheet_len;
+}
+
+/* The length that is taken for a file's. */
+static size_t taken_file(size_t file_len)
+{
+    return is(FILE_OF_16_BITS) ? file_len & 65535 : file_len;
+}
+
+/* What an export returns, with the faults that all of them have. */
+static uint32_t returns(uint32_t returned, size_t file_len)
+{
+    static void *volatile kept;
+    if (is(MEMORY_KEPT)) kept = malloc(1);
+    (void)kept;
+    if (!examination_is_refused(returned)) return returned;
+    const uint32_t place = examination_place(returned);
+    if (is(PLACE) && place > 0) return returned - 1;
+    if ((is(LAST_PLACE) || is(LAST_PLACE_WRAPPED)) && place == 1329) return returned - 1;
+    if (is(EMPTY_FILE) && file_len == 0) return 2 * EXAMINATION_REFUSED;
+    if (is(LONG_TAIL) && file_len > 4096 && place > 0) return returned + 1;
+    return returned;
+}
+
+uint32_t examination_read(const uint8_t *file, size_t file_len, uint32_t answer[4])
+{
+    const uint32_t returned = real_read(file, taken_file(file_len), answer);
+    if (is(WRONG_SLOT) && returned == 0) answer[2]++;
+    if (is(CALLS_OF_8_BITS) && returned == 0) answer[2] &= 255;
+    if (is(CYCLE_OF_13_BITS) && returned == 0) answer[3] &= 8191;
+    return returns(returned, file_len);
+}
+
+/* The rating of a sheet whose first start has lost its sign. */
+static uint32_t rate_unsigned(const uint8_t *file, size_t file_len, const uint8_t *sheet,
+                              size_t sheet_len, uint32_t answer[2])
+{
+    uint8_t copy[64];
+    memcpy(copy, sheet, sheet_len);
+    copy[0] &= 127;
+    return real_rate(file, file_len, copy, sheet_len, answer);
+}
+
+/* Answers as the call before did if that one's lengths were the same. */
+static void answer_from_before(size_t file_len, size_t sheet_len, uint32_t answer[2])
+{
+    static _Thread_local struct {
+        size_t file_len, sheet_len;
+        uint32_t answer[2];
+    } before;
+    if (before.file_len == file_len && before.sheet_len == sheet_len) {
+        memcpy(answer, before.answer, sizeof before.answer);
+    } else {
+        before.file_len = file_len;
+        before.sheet_len = sheet_len;
+        memcpy(before.answer, answer, sizeof before.answer);
+    }
+}
+
+/* Answers by way of a row that all threads write to. */
+static void answer_by_shared_row(uint32_t answer[2])
+{
+    static volatile uint32_t row[2];
+    row[0] = answer[0];
+    row[1] = answer[1];
+    thrd_sleep(&(struct timespec){.tv_nsec = 1000}, NULL);
+    answer[0] = row[0];
+    answer[1] = row[1];
+}
+
+uint32_t examination_rate(const uint8_t *file, size_t file_len, const uint8_t *sheet,
+                          size_t sheet_len, uint32_t answer[2])
+{
+    static atomic_uint calls;
+    if (is(SHEET_FIRST) && sheet_len % 4 != 0) return 15 * EXAMINATION_REFUSED;
+    if (is(SIGN_DROPPED) && sheet_len >= 4 && sheet_len <= 64)
+        return rate_unsigned(file, file_len, sheet, sheet_len, answer);
+    const size_t taken = taken_length(LONG_SHEET_RATED, file, file_len, sheet_len);
+    const uint32_t returned = real_rate(file, file_len, sheet, taken, answer);
+    if (is(SHEET_CHANGED) && sheet_len > 0) ((uint8_t *)sheet)[0] ^= 1;
+    if (is(EVERY_3000TH_RATE) && is_3000th(&calls) && returned == 0) answer[1]++;
+    if (is(SUM_OF_16_BITS) && returned == 0) answer[1] &= 65535;
+    if (is(SHARED_ROW) && returned == 0) answer_by_shared_row(answer);
+    if (is(FROM_BEFORE) && returned == 0) answer_from_before(file_len, sheet_len, answer);
+    return returns(returned, file_len);
+}
+
+uint32_t examination_weighted(const uint8_t *file, size_t file_len, const uint8_t *sheet,
+                              size_t sheet_len, uint32_t answer[2])
+{
+    const size_t taken = taken_length(LONG_SHEET_WEIGHTED, file, file_len, sheet_len);
+    const uint32_t returned = real_weighted(file, file_len, sheet, taken, answer);
+    if (is(NOT_WEIGHTED) && returned == 0) {
+        uint8_t class_row[64];
+        uint16_t weight_row[64];
+        uint32_t count, counts[4];
+        real_classes(file, file_len, class_row, 64, weight_row, 64, &count);
+        real_read(file, file_len, counts);
+        if (count < counts[1]) answer[1] -= answer[0];
+    }
+    return returns(returned, file_len);
+}
+
+uint32_t examination_classes(const uint8_t *file, size_t file_len, uint8_t *class_row,
+                             size_t class_len, uint16_t *weight_row, size_t weight_len,
+                             uint32_t answer[1])
+{
+    if (is(ROWS_FIRST) && class_len != 64) return 17 * EXAMINATION_REFUSED;
+    const size_t length = is(LONG_CLASS_ROW) && class_len > 4096 ? 64 : class_len;
+    const uint32_t returned =
+        real_classes(file, file_len, class_row, length, weight_row, weight_len, answer);
+    if (returned != 0) return returns(returned, file_len);
+    if (is(UNSERVED_AS_0) && class_row[63] == EXAMINATION_UNSERVED) class_row[63] = 0;
+    for (size_t stop = 63; is(WEIGHT_ELSEWHERE) && stop > 0; stop--) {
+        const uint8_t lowest = class_row[stop];
+        if (lowest == EXAMINATION_UNSERVED || lowest == stop) continue;
+        weight_row[stop] = weight_row[lowest];
+        weight_row[lowest] = 0;
+        break;
+    }
+    return returned;
+}
+
+/* What stands in the start row behind a search, the last start before it being this. */
+static void fault_starts(uint32_t returned, int32_t *start_row, size_t start_len, int32_t last)
+{
+    if (returned <= EXAMINATION_STOPPED) {
+        if (is(LAST_START) || (is(SIXTEENTH_START) && start_len == 16))
+            start_row[start_len - 1] = last;
+        if (is(STARTS_SWAPPED) && start_len > 2) {
+            const int32_t start = start_row[1];
+            start_row[1] = start_row[2];
+            start_row[2] = start;
+        }
+        return;
+    }
+    if (is(NONE_WRITES) && returned == EXAMINATION_STOPPED_WITH_NONE) start_row[0] = 0;
+    if (is(ROW_ON_REFUSAL) && examination_is_refused(returned) && start_len > 0) start_row[0] = 0;
+}
+
+uint32_t examination_search(const uint8_t *file, size_t file_len, int32_t *start_row,
+                            size_t start_len, uint32_t budget, uint32_t answer[3])
+{
+    const int32_t last = start_len > 0 ? start_row[start_len - 1] : 0;
+    uint32_t taken = budget;
+    if (is(BUDGET_MORE) && budget < UINT32_MAX) taken++;
+    if (is(BUDGET_SIGNED) && budget > 1u << 31) taken = 0;
+    if (is(LONG_START_ROW) && start_len > 4096) start_len = lines_of(file, file_len);
+    const uint32_t returned = real_search(file, file_len, start_row, start_len, taken, answer);
+    /* The tries are those that were asked for, so that only the fault shows. */
+    if (taken != budget && returned <= EXAMINATION_STOPPED_WITH_NONE && answer[2] == taken)
+        answer[2] = budget;
+    if (is(TRIES) && returned == EXAMINATION_FINISHED) answer[2]--;
+    if (is(TRIES_OF_16_BITS) && !examination_is_refused(returned)) answer[2] &= 65535;
+    fault_starts(returned, start_row, start_len, last);
+    if (is(EXACT_BUDGET) && returned == EXAMINATION_FINISHED && answer[2] == budget)
+        return EXAMINATION_STOPPED;
+    return returns(returned, file_len);
+}
+
+uint32_t examination_better(const uint8_t *file, size_t file_len, const uint8_t *first,
+                            size_t first_len, const uint8_t *second, size_t second_len)
+{
+    const size_t taken = taken_length(LONG_SHEET_BETTER, file, file_len, second_len);
+    const uint32_t returned = real_better(file, file_len, first, first_len, second, taken);
+    if (is(SECOND_IF_EQUAL) && returned == EXAMINATION_FIRST) {
+        const uint32_t turned = real_better(file, file_len, second, taken, first, first_len);
+        if (turned == EXAMINATION_FIRST) return EXAMINATION_SECOND;
+    }
+    if (is(FIRST_IF_NONE) && returned == EXAMINATION_NEITHER && lines_of(file, file_len) > 0)
+        return EXAMINATION_FIRST;
+    return returned;
+}
+
+/* What stands in the answer behind a mark. */
+static void fault_mark(uint32_t returned, uint32_t answer[6])
+{
+    static atomic_uint calls;
+    if (is(CLEARED_ON_REFUSAL) && examination_is_refused(returned)) answer[5] = 0;
+    if (is(EVERY_3000TH_MARK) && is_3000th(&calls) && returned == EXAMINATION_DECIDED)
+        answer[4] ^= 1;
+    if (is(BEST_OF_UNDECIDED) && returned == EXAMINATION_UNDECIDED) answer[3] = answer[1];
+    if (returned != EXAMINATION_DECIDED) return;
+    if (is(EQUAL_NEVER)) answer[4] = 0;
+    if (is(EQUAL_ALWAYS)) answer[4] = 1;
+    if (is(SLOTS_SWAPPED)) {
+        const uint32_t sum = answer[1];
+        answer[1] = answer[3];
+        answer[3] = sum;
+    }
+}
+
+uint32_t examination_mark(const uint8_t *file, size_t file_len, const uint8_t *sheet,
+                          size_t sheet_len, uint32_t budget, uint32_t answer[6])
+{
+    const size_t length = taken_length(LONG_SHEET_MARKED, file, file_len, sheet_len);
+    uint32_t taken = budget;
+    if (is(BUDGET_LESS) && budget > 0) taken--;
+    if (is(MARK_BUDGET_SIGNED) && budget > 1u << 31) taken = 0;
+    const uint32_t returned = real_mark(file, file_len, sheet, length, taken, answer);
+    if (taken != budget && returned == EXAMINATION_UNDECIDED) answer[5] = budget;
+    fault_mark(returned, answer);
+    if (is(EXACT_MARK_BUDGET) && returned == EXAMINATION_DECIDED && answer[5] == budget) {
+        answer[2] = answer[3] = answer[4] = 0;
+        return EXAMINATION_UNDECIDED;
+    }
+    if (is(LAST_PLACE_OF_MARK) && returned == 14 * EXAMINATION_REFUSED + 1329) return returned - 1;
+    return returns(returned, file_len);
+}
+
+/* Exchanges the first two calls of an archive form, or shortens the first one's offset. */
+static void fault_calls(uint8_t *row, size_t length)
+{
+    size_t at = 0;
+    while (row[at] == 0x4C) at += 3;
+    if (is(OFFSET_OF_15_BITS)) row[at + 3] &= 127;
+    if (!is(CALLS_SWAPPED) || at + 10 >= length) return;
+    uint8_t call[5];
+    memcpy(call, row + at, 5);
+    memcpy(row + at, row + at + 5, 5);
+    memcpy(row + at + 5, call, 5);
+}
+
+uint32_t examination_archive(const uint8_t *file, size_t file_len, uint8_t *row, size_t row_len)
+{
+    const size_t length = is(LONG_ARCHIVE_ROW) && row_len > 4096 ? 0 : row_len;
+    const uint32_t returned = real_archive(file, file_len, row, length);
+    if (is(LAST_PLACE_OF_ARCHIVE) && returned == 14 * EXAMINATION_REFUSED + 1329)
+        return returned - 1;
+    if (examination_is_refused(returned)) return returns(returned, file_len);
+    fault_calls(row, returned);
+    if (is(BYTE_BEHIND) && row_len > returned) row[returned] ^= 255;
+    return returns(returned, file_len);
+}

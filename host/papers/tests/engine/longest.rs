@@ -1,0 +1,35 @@
+//! The longest file through the wrapper, and a byte more.
+
+use engine::{Better, Ground, Refusal, Sheet};
+use papers::files::{longest_file, Dice};
+use papers::sections::archive::archive_form;
+use papers::sections::network::read;
+
+/// Ground 14 at 1,329 from every call that can refuse, whatever stands behind.
+#[test]
+fn a_byte_behind_the_longest_file() {
+    let longest = longest_file(&mut Dice::new(75));
+    let net = read(&longest).expect("an accepted file");
+    assert_eq!((longest.len(), net.lines(), net.calls), (1_329, 16, 256));
+    assert_eq!(engine::archive(&longest), Ok(archive_form(&net)));
+    let sheet = Sheet::of_starts(&[0; 16]);
+    for length in [1_330, 4_096, 5_000] {
+        let mut longer = longest.clone();
+        longer.resize(length, 0x45);
+        let refusal = Err(Refusal {
+            ground: Ground::ByteAfterEnd,
+            place: 1_329,
+        });
+        assert_eq!(engine::read(&longer).map(drop), refusal);
+        assert_eq!(engine::rate(&longer, &sheet).map(drop), refusal);
+        assert_eq!(engine::weighted(&longer, &sheet).map(drop), refusal);
+        assert_eq!(engine::classes(&longer).map(drop), refusal);
+        assert_eq!(engine::search(&longer, 100).map(drop), refusal);
+        let searched = engine::search_into(&longer, &mut [7; 16], 100);
+        assert_eq!(searched.map(drop), refusal);
+        assert_eq!(engine::mark(&longer, &sheet, 100).map(drop), refusal);
+        assert_eq!(engine::archive(&longer).map(drop), refusal);
+        let better = engine::better(&longer, &sheet, &sheet);
+        assert_eq!(better, Better::Neither);
+    }
+}

@@ -1,0 +1,88 @@
+//! The ends of what is allowed: the longest file and what stands behind it, and
+//! the largest numbers.
+
+use crate::compared::{
+    compare_archive, compare_better, compare_classes, compare_mark, compare_rate, compare_read,
+    compare_search, AllSeen, Rates,
+};
+use crate::{examination_rate, examination_weighted};
+use papers::files::{bytes_of, longest_file, sheet, sheet_bytes, Command, Dice};
+use papers::sections::sheets::{rate_bytes, weighted_bytes};
+
+/// Ground 14 at 1,329, the last place of all.
+const BEHIND_THE_LONGEST: u32 = 14 * 65_536 + 1_329;
+
+/// Every export on a file, with rows and sheets that are right for so many lines.
+fn compare_with_right_rows(dice: &mut Dice, file: &[u8], lines: usize) -> AllSeen {
+    let mut seen = AllSeen::default();
+    let [one, other] = [0, 1].map(|_| sheet_bytes(&sheet(dice, lines)));
+    compare_read(dice, file, &mut seen.read);
+    let rate: (Rates, _) = (examination_rate, rate_bytes(file, &one));
+    compare_rate(dice, rate, file, &one, &mut seen.rate);
+    let weighted: (Rates, _) = (examination_weighted, weighted_bytes(file, &one));
+    compare_rate(dice, weighted, file, &one, &mut seen.weighted);
+    // Now and then a row is of another length, which comes after the file.
+    for _ in 0..8 {
+        compare_classes(dice, file, &mut seen.classes);
+    }
+    compare_search(dice, file, lines, 3_000, &mut seen.search);
+    compare_better(file, &one, &other, &mut seen.better);
+    compare_mark(dice, file, &one, 3_000, &mut seen.mark);
+    compare_archive(dice, file, 1_329, &mut seen.archive);
+    seen
+}
+
+#[test]
+fn the_longest_file_is_accepted() {
+    let mut dice = Dice::new(76);
+    let longest = longest_file(&mut dice);
+    assert_eq!(longest.len(), 1_329);
+    let seen = compare_with_right_rows(&mut dice, &longest, 16);
+    for one in seen.refusing() {
+        assert!(one.answers != [0; 3] && one.grounds[14] == 0, "{seen:?}");
+    }
+}
+
+/// A byte more than the longest file, whatever it is, is ground 14 at 1,329,
+/// however many come behind it.
+#[test]
+fn a_byte_behind_the_longest_file() {
+    let mut dice = Dice::new(68);
+    let longest = longest_file(&mut dice);
+    for length in [1_330, 1_331, 1_334, 4_095, 4_096, 4_097, 5_000, 65_536] {
+        for tail in [0, 0x43, 0x45, 0x4C, 0xFF] {
+            let mut longer = longest.clone();
+            longer.resize(length, tail);
+            let seen = compare_with_right_rows(&mut dice, &longer, 16);
+            for one in seen.refusing() {
+                assert_eq!((one.answers, one.last), ([0; 3], BEHIND_THE_LONGEST));
+            }
+            assert_eq!(seen.better.answers, [1, 0, 0]);
+        }
+    }
+}
+
+/// Numbers above 16 bits: one line of 1,440 minutes at 64 stops, all alike, has
+/// the largest sum, 92,160.
+#[test]
+fn the_largest_sum() {
+    let mut dice = Dice::new(69);
+    let calls = (0..64).map(|stop| Command::Call {
+        line: 0,
+        stop,
+        offset: 65_535 - u16::from(stop),
+    });
+    let line = [Command::Line { period: 1_440 }];
+    let commands: Vec<Command> = line
+        .into_iter()
+        .chain(calls)
+        .chain([Command::End])
+        .collect();
+    let file = bytes_of(&commands);
+    let rating = rate_bytes(&file, &[0; 4]).expect("an accepted file");
+    assert_eq!((rating.least, rating.sum), (1_440, 92_160));
+    let seen = compare_with_right_rows(&mut dice, &file, 1);
+    assert_eq!((seen.rate.answers[0], seen.weighted.answers[0]), (1, 1));
+    assert_eq!((seen.search.answers[0], seen.mark.answers[0]), (1, 1));
+    assert!(seen.classes.answers[0] > 0);
+}
