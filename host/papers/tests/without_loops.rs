@@ -2,15 +2,16 @@
 //! call answers as the papers by lines did, tries included, and so does the
 //! engine.
 
-use engine::{Searched, Sheet};
+use engine::Sheet;
+use papers::answers;
 use papers::by_lines;
 use papers::files::{any_file, faulty_file, sheet, valid_file, Dice};
 use papers::sections::archive::archive_form;
 use papers::sections::caps::cap;
 use papers::sections::classes::{classes, weighted_rating};
 use papers::sections::network::{read, Refusal, STOPS};
-use papers::sections::rating::{rating, rating_by_counting, whole, Rating};
-use papers::sections::walk::{walk, Answer, Walked};
+use papers::sections::rating::{rating, rating_by_counting, whole};
+use papers::sections::walk::walk;
 
 const BUDGET: u32 = 3_000;
 
@@ -51,41 +52,13 @@ fn answers_as_before(dice: &mut Dice, file: &[u8], before: &by_lines::network::N
     assert_eq!(rating_by_counting(&net, &whole(&starts)), expected);
     assert_eq!(weighted_rating(&net, &whole(&starts)), expected);
     let rated = engine::rate(file, &Sheet::of_starts(&starts));
-    assert_eq!(
-        rated.map(|found| (found.least, found.sum)),
-        Ok((expected.least, expected.sum))
-    );
+    assert_eq!(rated, Ok(answers::rated(expected)));
     let walked = by_lines::walk::walk(before, BUDGET);
     assert_eq!(walk(&net, BUDGET), walked);
-    assert_eq!(searched(file), walked);
-}
-
-/// What the engine's search gives, in the papers' words.
-fn searched(file: &[u8]) -> Walked {
-    let rating = |found: engine::Rating| Rating {
-        least: found.least,
-        sum: found.sum,
-    };
-    match engine::search(file, BUDGET).expect("an accepted file") {
-        Searched::Finished(best) => Walked {
-            answer: Answer::Finished {
-                best: rating(best.rating()),
-                tries: best.tries(),
-            },
-            starts: Some(best.starts().to_vec()),
-        },
-        Searched::Stopped { so_far, tries } => Walked {
-            answer: Answer::Stopped {
-                best: rating(so_far.rating()),
-                tries,
-            },
-            starts: Some(so_far.starts().to_vec()),
-        },
-        Searched::StoppedWithNone { tries } => Walked {
-            answer: Answer::StoppedWithNone { tries },
-            starts: None,
-        },
-    }
+    assert_eq!(
+        engine::search(file, BUDGET).map(answers::walked),
+        Ok(walked)
+    );
 }
 
 #[test]
