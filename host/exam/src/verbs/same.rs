@@ -8,7 +8,7 @@ use crate::output::fault::refused;
 use crate::output::named;
 use crate::output::streams::{put, say};
 use crate::status::{Status, Trouble};
-use engine::typed::{commands, LINE};
+use engine::{Call, Contents};
 
 pub const VERB: Verb = Verb {
     name: "same",
@@ -44,45 +44,53 @@ fn run(request: &Request) -> Result<Status, Trouble> {
         return Ok(Status::Done);
     }
     put("different\n")?;
-    let pairs = commands(&forms[0]).into_iter().zip(commands(&forms[1]));
-    // There is such a pair: each form has the end as its last command alone, so
-    // that none is the other's beginning.
-    if let Some((before, pair)) = pairs.enumerate().find(|(_, (one, other))| one != other) {
-        let words = difference(before, pair, [&networks[0], &networks[1]]);
+    // What an accepted file says is not refused.
+    if let [Ok(one), Ok(other)] = [&forms[0], &forms[1]].map(|form| engine::contents(form)) {
+        let words = difference(&one, &other, [&networks[0], &networks[1]]);
         say(&format!("exam: another network: {words}"));
     }
     Ok(Status::Refused)
 }
 
-/// What the first two commands that differ say; before both stand the same
-/// commands, so many.
-fn difference(before: usize, (one, other): (&[u8], &[u8]), both: [&Network; 2]) -> String {
+/// In what two networks differ first: by lines, then by calls in their order.
+fn difference(one: &Contents, other: &Contents, both: [&Network; 2]) -> String {
     let [first, second] = both.map(|network| network.name.as_str());
-    match (one, other) {
-        ([LINE, a @ ..], [LINE, b @ ..]) => {
-            let (line, a, b) = (line_of(both, before as u8), number(a), number(b));
-            format!("{line} has period {a} in {first} and {b} in {second}")
-        }
-        ([LINE, ..], _) => format!("{} is in {first} alone", line_of(both, before as u8)),
-        (_, [LINE, ..]) => format!("{} is in {second} alone", line_of(both, before as u8)),
-        ([_, line, stop, a @ ..], [_, other_line, other_stop, b @ ..])
-            if (line, stop) == (other_line, other_stop) =>
-        {
-            let (line, stop) = (line_of(both, *line), stop_of(both, *stop));
-            let (a, b) = (number(a), number(b));
-            format!("{line} reaches {stop} after {a} minutes in {first} and {b} in {second}")
-        }
-        _ => {
-            // Calls stand by line and stop, and the end behind them: the lesser
-            // of the two isn't in the other file.
-            let (call, name) = match one < other {
-                true => (one, first),
-                false => (other, second),
-            };
-            let (line, stop) = (line_of(both, call[1]), stop_of(both, call[2]));
-            format!("{line} calls at {stop} in {name} alone")
+    for number in 0..=u8::MAX {
+        let [a, b] = [one, other].map(|network| network.periods.get(usize::from(number)));
+        let line = line_of(both, number);
+        match (a, b) {
+            (None, None) => break,
+            (Some(_), None) => return format!("{line} is in {first} alone"),
+            (None, Some(_)) => return format!("{line} is in {second} alone"),
+            (Some(a), Some(b)) if a != b => {
+                return format!("{line} has period {a} in {first} and {b} in {second}")
+            }
+            _ => {}
         }
     }
+    let calls = one.calls.iter().chain(&other.calls);
+    let mut places: Vec<(u8, u8)> = calls.map(|call| (call.line, call.stop)).collect();
+    places.sort();
+    let differs = |&(line, stop): &(u8, u8)| offsets(one, line, stop) != offsets(other, line, stop);
+    // There is such a place: the archive forms differ, and not by their lines.
+    let (number, place) = places.into_iter().find(differs).unwrap_or((0, 0));
+    let (line, stop) = (line_of(both, number), stop_of(both, place));
+    let [a, b] = [one, other].map(|network| offsets(network, number, place));
+    match (a.is_empty(), b.is_empty()) {
+        (false, true) => format!("{line} calls at {stop} in {first} alone"),
+        (true, false) => format!("{line} calls at {stop} in {second} alone"),
+        _ => {
+            let [a, b] = [a, b].map(|offsets| offsets.join(" and "));
+            format!("{line} reaches {stop} after {a} minutes in {first} and {b} in {second}")
+        }
+    }
+}
+
+/// The minutes after which a line reaches a stop, twice where it is a loop.
+fn offsets(network: &Contents, line: u8, stop: u8) -> Vec<String> {
+    let there = |call: &&Call| (call.line, call.stop) == (line, stop);
+    let calls = network.calls.iter().filter(there);
+    calls.map(|call| call.offset.to_string()).collect()
 }
 
 /// A line by its number and its name.
@@ -103,10 +111,4 @@ fn with_either(number: u8, names: [Option<&str>; 2]) -> String {
         [Some(one), Some(other)] if one != other => format!("{number} '{one}' or '{other}'"),
         [one, other] => named::with(number, one.or(other)),
     }
-}
-
-/// A number, most significant byte first.
-fn number(bytes: &[u8]) -> u32 {
-    let more = |number, byte: &u8| number * 256 + u32::from(*byte);
-    bytes.iter().fold(0, more)
 }
