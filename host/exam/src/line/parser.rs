@@ -134,7 +134,7 @@ fn add(
 /// Puts options and operands together.
 fn request(verb: &Verb, told: Told) -> Result<Request, Trouble> {
     let (mut request, operands) = (told.request, told.operands);
-    if operands.len() != verb.operand_count() {
+    if !verb.takes(operands.len()) {
         let message = format!("'{}' wants {}", verb.name, verb.operands);
         return Err(usage(&message, Some(verb)));
     }

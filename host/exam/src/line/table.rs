@@ -26,7 +26,8 @@ pub struct Verb {
 /// How many sheets a verb takes.
 pub enum Sheets {
     Exactly(usize),
-    OneOrFolder,
+    /// Sheets and folders of sheets.
+    AtLeastOne,
 }
 
 /// An option: declared once, shared by the verbs that have it.
@@ -74,13 +75,12 @@ pub fn all_options(verbs: &[&Verb]) -> impl Iterator<Item = &'static CommandOpti
 }
 
 impl Verb {
-    /// How many operands it takes.
-    pub fn operand_count(&self) -> usize {
-        let sheets = match self.sheets {
-            Sheets::Exactly(count) => count,
-            Sheets::OneOrFolder => 1,
-        };
-        self.networks + sheets
+    /// Whether it takes so many operands.
+    pub fn takes(&self, operands: usize) -> bool {
+        match self.sheets {
+            Sheets::Exactly(sheets) => operands == self.networks + sheets,
+            Sheets::AtLeastOne => operands > self.networks,
+        }
     }
 
     pub fn has(&self, option: &CommandOption) -> bool {

@@ -1,6 +1,9 @@
 //! What a verb says: answers, messages and signs of life.
 
+pub mod csv;
 pub mod fault;
+pub mod json;
 pub mod lines;
+pub mod names;
 pub mod streams;
 pub mod watch;

@@ -4,7 +4,7 @@ use crate::common::{exam, NET};
 
 #[test]
 fn bad_usage() {
-    let cases: [(&[&str], &str); 22] = [
+    let cases: [(&[&str], &str); 26] = [
         (&[], "say what to do"),
         (&["rank"], "no verb 'rank'"),
         (&[""], "no verb ''"),
@@ -31,7 +31,11 @@ fn bad_usage() {
         ),
         (&["best", NET, "--budget", "+5"], "budget '+5'"),
         (&["best", NET, "--budget="], "budget ''"),
+        (&["best", NET, "--budget", "MAX"], "budget 'MAX'"),
         (&["best", NET, "--typed", "--bytes"], "contradict"),
+        (&["rate", NET, "a.sheet", "--csv", "--json"], "contradict"),
+        (&["better", NET, "a", "b", "--csv"], "no option '--csv'"),
+        (&["mark", NET, "a", "--sheet"], "no option '--sheet'"),
         (&["rate", "-", "-"], "one file only"),
     ];
     for (words, message) in cases {
@@ -86,15 +90,15 @@ fn help_for_each_verb() {
 #[test]
 fn help_in_columns() {
     let overview = "
-  exam read NETWORK                    lines, stops, calls and common cycle
-  exam rate NETWORK SHEET              a sheet's rating: least gap, sum of gaps
-  exam classes NETWORK                 which stops always rate alike
-  exam best NETWORK                    the best timetable
-  exam better NETWORK SHEET SHEET      the better of two sheets
-  exam mark NETWORK SHEET-OR-FOLDER    a sheet, or each of a folder, against the best
-  exam archive NETWORK                 the one file of a network that is kept
-  exam same NETWORK NETWORK            whether two files are of one network
-  exam VERB --help                     more about a verb
+  exam read NETWORK                      lines, stops, calls and common cycle
+  exam rate NETWORK SHEET-OR-FOLDER..    a sheet's rating: least gap, sum of gaps
+  exam classes NETWORK                   which stops always rate alike
+  exam best NETWORK                      the best timetable
+  exam better NETWORK SHEET SHEET        the better of two sheets
+  exam mark NETWORK SHEET-OR-FOLDER..    a sheet, or each of a folder, against the best
+  exam archive NETWORK                   the one file of a network that is kept
+  exam same NETWORK NETWORK              whether two files are of one network
+  exam VERB --help                       more about a verb
 
 NETWORK: a name";
     assert!(exam(&["--help"]).out.contains(overview));
@@ -104,8 +108,10 @@ Options:
   --bytes           the network is bytes, whatever its name
   --sheet-numbers   a sheet is whole numbers, whatever its name
   --sheet-bytes     a sheet is bytes, whatever its name
-  --budget N        stop after N tries, 0 to 4294967295 (otherwise 1000000)
+  --budget N        stop after N tries, 0 to 4294967295 or max (otherwise 1000000)
   --quiet           no sign of life on standard error during a long search
+  --csv             print a record with a row for each sheet, as CSV
+  --json            print a record with a row for each sheet, as JSON
 
 Exit status: ";
     assert!(exam(&["mark", "--help"]).out.contains(options));
