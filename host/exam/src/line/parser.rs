@@ -121,6 +121,10 @@ fn add(
     if let (Some(wanted), Some(value)) = (&option.value, &value) {
         (wanted.check)(value).map_err(|message| usage(&message, Some(verb)))?;
     }
+    let name = option.name;
+    if request.has(option) {
+        return Err(usage(&format!("{name} is given twice"), Some(verb)));
+    }
     if option
         .excludes
         .is_some_and(|other| request.has_named(other))

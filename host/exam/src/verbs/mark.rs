@@ -34,12 +34,12 @@ Rates a sheet and searches for the best timetable:
 The last where the budget was used up, so that the best isn't known. Standard
 error then says which budget always suffices.
 
-Of several sheets, or a folder, a line for each with its name and a colon before
-it, after one search for all. Every file of a folder is taken for a sheet, in name
-order, but for hidden ones; a folder within it is named on standard error. A file
-that can't be read as a sheet has the line 'NAME: unreadable'. The last line on
-standard error is the tally, and the exit status is the gravest of all: 2, then 1,
-then 3, then 0.
+Of several sheets, or a folder, a text line for each with its name and a colon
+before it, after one search for all. Every file of a folder is taken for a sheet,
+in name order, but for hidden ones; a folder within it is named on standard error
+and left out. A file that can't be read as a sheet has 'NAME: unreadable'. The last
+text line on standard error is the tally, and the exit status is the gravest of
+all: 2, then 1, then 3, then 0.
 
 With --csv or --json standard output is a record for a program: for each sheet
 name, status (equal, below, undecided, refused or unreadable), gap, sum, best_gap,

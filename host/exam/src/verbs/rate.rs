@@ -19,9 +19,9 @@ gaps over all stops.
   gap 1 sum 1
 A sheet that hasn't one start for each line: refused 15 at 0
 
-Of several sheets, or a folder, a line for each with its name and a colon before
-it; 'exam mark --help' says which files of a folder are taken, and how the command
-ends. Standard error has the tally in the end.
+Of several sheets, or a folder, a text line for each with its name and a colon
+before it; 'exam mark --help' says which files of a folder are taken, how the
+command ends and what a record has. Standard error has the tally in the end.
 ",
     run,
 };

@@ -31,13 +31,13 @@ fn best_stopped() {
     exam(&["best", NET, "--budget", "0"]).told("stopped tries 0\n", 3, &words);
 }
 
-/// Of two budgets the last counts, as a word that is typed behind a line of the
-/// shell's history is meant.
+/// Which of two budgets was meant nobody says.
 #[test]
-fn the_last_of_two_budgets() {
-    let line = "stopped gap 2 sum 2 tries 20 starts 0 3\n";
-    exam(&["best", NET, "--budget", "max", "--budget=20"]).told(line, 3, &[]);
-    exam(&["best", NET, "--budget=20", "--budget", "max"]).printed(BEST_LINE, 0);
+fn two_budgets() {
+    for second in [&["--budget", "20"][..], &["--budget=max"]] {
+        let words = [&["best", NET, "--budget", "max"], second].concat();
+        exam(&words).told("", 2, &["--budget is given twice", "try: exam best --help"]);
+    }
 }
 
 /// A large budget is searched in stages: the answer is that of one call, where a

@@ -6,7 +6,7 @@ use papers::sections::network::read;
 use papers::sections::walk::{walk, Answer};
 use std::io::{BufRead, BufReader, Read};
 use std::os::unix::process::ExitStatusExt;
-use std::process::{Child, ChildStderr, Command, ExitStatus};
+use std::process::{Child, ChildStderr, Command, ExitStatus, Stdio};
 use std::sync::mpsc;
 use std::time::Duration;
 
@@ -106,6 +106,29 @@ fn a_sign_of_life() {
     }
 }
 
+/// On a terminal, which `script` lends, there is one line, written over, and
+/// blank before the answer comes.
+#[test]
+fn a_sign_of_life_on_a_terminal() {
+    let folder = Folder::new();
+    let network = long_network(&folder);
+    let exam = command(&[]).get_program().to_string_lossy().into_owned();
+    let words = format!("{exam} best {network} --budget 40000000");
+    let mut script = Command::new("script");
+    let script = script
+        .args(["-qec", &words, "/dev/null"])
+        .stdin(Stdio::null());
+    let Ok(ran) = script.output() else {
+        println!("not tested: there is no command 'script' here");
+        return;
+    };
+    let screen = String::from_utf8_lossy(&ran.stdout).into_owned();
+    let (signs, answer) = screen.rsplit_once(" \r").expect("a line made blank");
+    assert!(signs.starts_with("\rexam: 1 s, "), "{screen}");
+    assert!(!signs.contains('\n'), "{screen}");
+    assert!(answer.starts_with("stopped gap "), "{screen}");
+}
+
 #[test]
 fn no_sign_of_life_where_none_is_wanted() {
     let folder = Folder::new();
@@ -161,7 +184,7 @@ fn an_interruption_that_is_passed_over() {
         .args(["-c", "trap '' INT; exec \"$@\"", "sh"])
         .arg(exam);
     shell.args(["best", &network, "--budget=1000000000"]);
-    shell.stderr(std::process::Stdio::piped());
+    shell.stderr(Stdio::piped());
     let mut running = Running(shell.spawn().expect("a shell"));
     running.first_line_said();
     running.interrupt();
