@@ -82,14 +82,6 @@ mod refusal;
 mod sheet;
 pub mod typed;
 
-/// The version of this library, with which the engine's own goes: that of the
-/// package in `host/engine/Cargo.toml`. A hall's records name it.
-///
-/// ```
-/// assert_eq!(engine::VERSION.split('.').count(), 3);
-/// ```
-pub const VERSION: &str = env!("CARGO_PKG_VERSION");
-
 pub use answers::{
     Best, Better, Classes, Counts, Mark, Rating, RowSearched, Searched, SoFar, STOPS,
 };
@@ -100,3 +92,11 @@ pub use calls::{
 pub use ground::{Ground, NoGround};
 pub use refusal::Refusal;
 pub use sheet::Sheet;
+
+/// The version of this library, with which the engine's own goes: that of the
+/// package in `host/engine/Cargo.toml`. A hall's records name it.
+///
+/// ```
+/// assert_eq!(engine::VERSION.split('.').count(), 3);
+/// ```
+pub const VERSION: &str = env!("CARGO_PKG_VERSION");

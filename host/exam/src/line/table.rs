@@ -75,11 +75,20 @@ pub fn all_options(verbs: &[&Verb]) -> impl Iterator<Item = &'static CommandOpti
 }
 
 impl Verb {
+    /// How many operands it takes, at least.
+    pub fn operand_count(&self) -> usize {
+        let sheets = match self.sheets {
+            Sheets::Exactly(count) => count,
+            Sheets::AtLeastOne => 1,
+        };
+        self.networks + sheets
+    }
+
     /// Whether it takes so many operands.
     pub fn takes(&self, operands: usize) -> bool {
         match self.sheets {
-            Sheets::Exactly(sheets) => operands == self.networks + sheets,
-            Sheets::AtLeastOne => operands > self.networks,
+            Sheets::Exactly(_) => operands == self.operand_count(),
+            Sheets::AtLeastOne => operands >= self.operand_count(),
         }
     }
 

@@ -40,7 +40,7 @@ mod tests {
     fn operands_are_written_as_they_are_counted() {
         for verb in ALL {
             let words: Vec<&str> = verb.operands.split(' ').collect();
-            assert!(verb.takes(words.len()), "{}", verb.name);
+            assert_eq!(words.len(), verb.operand_count(), "{}", verb.name);
             let networks = words.iter().filter(|word| **word == "NETWORK");
             assert_eq!(networks.count(), verb.networks, "{}", verb.name);
         }

@@ -33,7 +33,8 @@ fn best_stopped() {
 
 /// Which of two budgets was meant nobody says.
 #[test]
-fn two_budgets() {
+fn bad_budgets() {
+    exam(&["best", NET, "--budget", "MAX"]).told("", 2, &["budget 'MAX'", "or max"]);
     for second in [&["--budget", "20"][..], &["--budget=max"]] {
         let words = [&["best", NET, "--budget", "max"], second].concat();
         exam(&words).told("", 2, &["--budget is given twice", "try: exam best --help"]);

@@ -29,9 +29,9 @@ impl Running {
         Running(command(words).spawn().expect("exam starts"))
     }
 
-    /// The first line on standard error, for which nobody waits longer than
-    /// some seconds.
-    fn first_line_said(&mut self) -> String {
+    /// The next line on standard error, for which nobody waits longer than some
+    /// seconds.
+    fn line_said(&mut self) -> String {
         let mut stderr = BufReader::new(self.0.stderr.take().expect("a pipe"));
         let (sender, receiver) = mpsc::channel();
         std::thread::spawn(move || {
@@ -92,10 +92,10 @@ fn a_sign_of_life() {
     ];
     for (words, doing) in cases {
         let mut running = Running::new(&[words, &["--budget", "max"]].concat());
-        let line = running.first_line_said();
+        let line = running.line_said();
         let (elapsed, sign) = line.split_once(" s, ").expect("a sign");
         let nothing_known = format!("{doing}, budget 4294967295\n");
-        let known = sign.starts_with("gap ") && sign.contains(" in 4294967 of 4294967295 tries, ");
+        let known = sign.starts_with("gap ") && sign.contains(" of 4294967295 tries, ");
         assert!(sign == nothing_known || known, "{line}");
         assert!(!line.contains('\r'), "no terminal: {line}");
         let seconds: u64 = elapsed
@@ -107,13 +107,14 @@ fn a_sign_of_life() {
 }
 
 /// On a terminal, which `script` lends, there is one line, written over, and
-/// blank before the answer comes.
+/// blank before anything else comes.
 #[test]
 fn a_sign_of_life_on_a_terminal() {
     let folder = Folder::new();
     let network = long_network(&folder);
     let exam = command(&[]).get_program().to_string_lossy().into_owned();
-    let words = format!("{exam} best {network} --budget 40000000");
+    let words =
+        format!("timeout --foreground -s INT 2.5 {exam} best {network} --budget 1000000000");
     let mut script = Command::new("script");
     let script = script
         .args(["-qec", &words, "/dev/null"])
@@ -123,10 +124,10 @@ fn a_sign_of_life_on_a_terminal() {
         return;
     };
     let screen = String::from_utf8_lossy(&ran.stdout).into_owned();
-    let (signs, answer) = screen.rsplit_once(" \r").expect("a line made blank");
+    let (signs, last) = screen.rsplit_once(" \r").expect("a line made blank");
     assert!(signs.starts_with("\rexam: 1 s, "), "{screen}");
     assert!(!signs.contains('\n'), "{screen}");
-    assert!(answer.starts_with("stopped gap "), "{screen}");
+    assert!(last.starts_with("exam: interrupted; "), "{screen}");
 }
 
 #[test]
@@ -149,9 +150,13 @@ fn an_interrupted_search_says_what_it_has() {
     let network = long_network(&folder);
     let sheet = folder.file("a.sheet", "0 ".repeat(16));
     for words in [&["best", &network][..], &["mark", &network, &sheet]] {
-        // The first of its stages is short, so that the first sign has it.
+        // The first of its stages is short, so that the first sign has it, or the
+        // next where the machine has much to do.
         let mut running = Running::new(&[words, &["--budget=1000000000"]].concat());
-        let sign = running.first_line_said();
+        let mut sign = running.line_said();
+        while !sign.contains(" tries, ") {
+            sign = running.line_said();
+        }
         running.interrupt();
         let (said, status) = running.ended();
         let stopped = "exam: interrupted; stopped gap ";
@@ -186,7 +191,7 @@ fn an_interruption_that_is_passed_over() {
     shell.args(["best", &network, "--budget=1000000000"]);
     shell.stderr(Stdio::piped());
     let mut running = Running(shell.spawn().expect("a shell"));
-    running.first_line_said();
+    running.line_said();
     running.interrupt();
     std::thread::sleep(Duration::from_millis(300));
     assert!(running.0.try_wait().expect("a state").is_none());

@@ -102,6 +102,17 @@ fn of_one_sheet_and_of_rate() {
     assert_eq!(said, "");
 }
 
+#[test]
+fn two_forms_at_once_and_verbs_without_a_record() {
+    let forms = ["--csv", "--json"];
+    exam(&[&["rate", HEX, "a.sheet"][..], &forms].concat()).told("", 2, &["contradict"]);
+    for form in forms {
+        let words = format!("no option '{form}'");
+        exam(&["better", HEX, "a.sheet", "b.sheet", form]).told("", 2, &[&words]);
+        exam(&["best", HEX, form]).told("", 2, &[&words]);
+    }
+}
+
 /// Every sheet of a refused network is refused, as the engine refuses it. There
 /// is no archive form then, and no checksum.
 #[test]

@@ -4,7 +4,7 @@ use crate::common::{exam, NET};
 
 #[test]
 fn bad_usage() {
-    let cases: [(&[&str], &str); 26] = [
+    let cases: [(&[&str], &str); 22] = [
         (&[], "say what to do"),
         (&["rank"], "no verb 'rank'"),
         (&[""], "no verb ''"),
@@ -31,11 +31,7 @@ fn bad_usage() {
         ),
         (&["best", NET, "--budget", "+5"], "budget '+5'"),
         (&["best", NET, "--budget="], "budget ''"),
-        (&["best", NET, "--budget", "MAX"], "budget 'MAX'"),
         (&["best", NET, "--typed", "--bytes"], "contradict"),
-        (&["rate", NET, "a.sheet", "--csv", "--json"], "contradict"),
-        (&["better", NET, "a", "b", "--csv"], "no option '--csv'"),
-        (&["mark", NET, "a", "--sheet"], "no option '--sheet'"),
         (&["rate", "-", "-"], "one file only"),
     ];
     for (words, message) in cases {
