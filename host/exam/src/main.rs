@@ -13,6 +13,7 @@
 //!
 //! Each uses those above it alone.
 
+// But for `interrupt.rs`.
 #![deny(unsafe_code)]
 
 mod hall;

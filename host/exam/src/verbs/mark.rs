@@ -32,7 +32,8 @@ Rates a sheet and searches for the best timetable:
   gap 1 sum 1 best gap 2 sum 2 below tries 21
   undecided gap 1 sum 1 tries 20
 The last where the budget was used up, so that the best isn't known. Standard
-error then says which budget always suffices.
+error then says which budget always suffices. What it says while the search runs,
+and at Ctrl-C, 'exam best --help' tells.
 
 Of several sheets, or a folder, a text line for each with its name and a colon
 before it, after one search for all. Every file of a folder is taken for a sheet,
