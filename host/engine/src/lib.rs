@@ -96,3 +96,11 @@ pub use contents::{contents, Call, Contents};
 pub use ground::{Ground, NoGround};
 pub use refusal::Refusal;
 pub use sheet::Sheet;
+
+/// The version of this library, with which the engine's own goes: that of the
+/// package in `host/engine/Cargo.toml`. A hall's records name it.
+///
+/// ```
+/// assert_eq!(engine::VERSION.split('.').count(), 3);
+/// ```
+pub const VERSION: &str = env!("CARGO_PKG_VERSION");

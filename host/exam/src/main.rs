@@ -4,16 +4,21 @@
 //! | folder or file | what                                                    |
 //! |----------------|---------------------------------------------------------|
 //! | `status.rs`    | exit statuses, and trouble in words                     |
+//! | `interrupt.rs` | Ctrl-C while the engine searches                        |
 //! | `input`        | files and standard input, networks and sheets           |
 //! | `output`       | standard output and standard error, refusals in words   |
 //! | `line`         | the command line: its table, its options, parser, help  |
+//! | `hall`         | what several verbs do with sheets and long searches     |
 //! | `verbs`        | a file for each verb, and the list of all               |
 //!
 //! Each uses those above it alone.
 
-#![forbid(unsafe_code)]
+// But for `interrupt.rs`.
+#![deny(unsafe_code)]
 
+mod hall;
 mod input;
+mod interrupt;
 mod line;
 mod output;
 mod status;

@@ -33,10 +33,10 @@ pub const BUDGET: CommandOption = CommandOption {
     name: "--budget",
     value: Some(Value {
         placeholder: "N",
-        words: "a number",
+        words: "a number or max",
         check: |text| budget_of(text).map(|_| ()),
     }),
-    help: "stop after N tries, 0 to 4294967295 (otherwise 1000000)",
+    help: "stop after N tries, 0 to 4294967295 or max (otherwise 1000000)",
     excludes: &[],
     missing: Some("searches nothing and has no budget"),
 };
@@ -50,6 +50,22 @@ pub const ROWS: CommandOption = CommandOption::flag(
     "--rows",
     "print the class row and the weight row, 64 numbers each",
 );
+
+/// `exam best`; a sheet to be kept as the key.
+pub const SHEET: CommandOption = CommandOption::flag(
+    "--sheet",
+    "print the best timetable as a sheet, to be kept as the key",
+);
+
+pub const CSV: CommandOption =
+    CommandOption::flag("--csv", "print a record with a row for each sheet, as CSV")
+        .excluding(&["--json"]);
+
+pub const JSON: CommandOption = CommandOption::flag(
+    "--json",
+    "print a record with a row for each sheet, as JSON",
+)
+.excluding(&["--csv"]);
 
 pub const RAW: CommandOption = CommandOption::flag("--raw", "write bytes");
 
@@ -81,13 +97,16 @@ pub fn budget(request: &Request) -> u32 {
     given.and_then(Result::ok).unwrap_or(USUAL_BUDGET)
 }
 
-/// Digits alone: a sign, which `parse` takes, isn't one.
+/// Digits alone: a sign, which `parse` takes, isn't one. `max` is the largest.
 fn budget_of(text: &str) -> Result<u32, String> {
+    if text == "max" {
+        return Ok(u32::MAX);
+    }
     let digits = !text.is_empty() && text.bytes().all(|byte| byte.is_ascii_digit());
     match text.parse() {
         Ok(budget) if digits => Ok(budget),
         _ => Err(format!(
-            "the budget '{text}' isn't a number of 0 to {}",
+            "the budget '{text}' isn't a number of 0 to {}, or max",
             u32::MAX
         )),
     }

@@ -121,6 +121,10 @@ fn add(
     if let (Some(wanted), Some(value)) = (&option.value, &value) {
         (wanted.check)(value).map_err(|message| usage(&message, Some(verb)))?;
     }
+    let name = option.name;
+    if request.has(option) {
+        return Err(usage(&format!("{name} is given twice"), Some(verb)));
+    }
     if option.excludes.iter().any(|other| request.has_named(other)) {
         return Err(usage("two options contradict each other", Some(verb)));
     }
@@ -131,7 +135,7 @@ fn add(
 /// Puts options and operands together.
 fn request(verb: &Verb, told: Told) -> Result<Request, Trouble> {
     let (mut request, operands) = (told.request, told.operands);
-    if operands.len() != verb.operand_count() {
+    if !verb.takes(operands.len()) {
         let message = format!("'{}' wants {}", verb.name, verb.operands);
         return Err(usage(&message, Some(verb)));
     }

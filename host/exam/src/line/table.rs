@@ -26,7 +26,8 @@ pub struct Verb {
 /// How many sheets a verb takes.
 pub enum Sheets {
     Exactly(usize),
-    OneOrFolder,
+    /// Sheets and folders of sheets.
+    AtLeastOne,
 }
 
 /// An option: declared once, shared by the verbs that have it.
@@ -74,13 +75,21 @@ pub fn all_options(verbs: &[&Verb]) -> impl Iterator<Item = &'static CommandOpti
 }
 
 impl Verb {
-    /// How many operands it takes.
+    /// How many operands it takes, at least.
     pub fn operand_count(&self) -> usize {
         let sheets = match self.sheets {
             Sheets::Exactly(count) => count,
-            Sheets::OneOrFolder => 1,
+            Sheets::AtLeastOne => 1,
         };
         self.networks + sheets
+    }
+
+    /// Whether it takes so many operands.
+    pub fn takes(&self, operands: usize) -> bool {
+        match self.sheets {
+            Sheets::Exactly(_) => operands == self.operand_count(),
+            Sheets::AtLeastOne => operands >= self.operand_count(),
+        }
     }
 
     pub fn has(&self, option: &CommandOption) -> bool {
@@ -121,10 +130,10 @@ impl Request {
         self.given.iter().any(|given| given.option == option)
     }
 
-    /// The value of an option; the last one where it is given more than once.
+    /// The value of an option, which the parser takes once.
     pub fn value(&self, option: &CommandOption) -> Option<&str> {
-        let mut latest = self.given.iter().rev();
-        let given = latest.find(|given| given.option == option.name)?;
+        let mut given = self.given.iter();
+        let given = given.find(|given| given.option == option.name)?;
         given.value.as_deref()
     }
 }

@@ -1,14 +1,12 @@
-//! Ratings, marks and rows as they are printed.
+//! Ratings, marks, searches and rows as they are printed, without line ends.
 
-use crate::status::Status;
-use engine::{Mark, Rating};
+use engine::{Mark, Rating, Searched};
 
 pub fn shown(rating: Rating) -> String {
     format!("gap {} sum {}", rating.least, rating.sum)
 }
 
-/// A mark as it is printed, without a line end.
-pub fn mark_line(mark: Mark) -> (String, Status) {
+pub fn mark_line(mark: Mark) -> String {
     match mark {
         Mark::Decided {
             sheet,
@@ -18,13 +16,27 @@ pub fn mark_line(mark: Mark) -> (String, Status) {
         } => {
             let (sheet, best) = (shown(sheet), shown(best));
             let word = if equal { "equal" } else { "below" };
-            let line = format!("{sheet} best {best} {word} tries {tries}");
-            (line, Status::Done)
+            format!("{sheet} best {best} {word} tries {tries}")
         }
         Mark::Undecided { sheet, tries } => {
-            let line = format!("undecided {} tries {tries}", shown(sheet));
-            (line, Status::Undecided)
+            format!("undecided {} tries {tries}", shown(sheet))
         }
+    }
+}
+
+/// Document 01's line.
+pub fn search_line(searched: &Searched) -> String {
+    let line = |rating: Rating, tries: u32, starts: &[i32]| {
+        let (rating, starts) = (shown(rating), joined(starts));
+        format!("{rating} tries {tries} starts {starts}")
+    };
+    match searched {
+        Searched::Finished(best) => line(best.rating(), best.tries(), best.starts()),
+        Searched::Stopped { so_far, tries } => {
+            let line = line(so_far.rating(), *tries, so_far.starts());
+            format!("stopped {line}")
+        }
+        Searched::StoppedWithNone { tries } => format!("stopped tries {tries}"),
     }
 }
 

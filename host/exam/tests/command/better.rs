@@ -11,8 +11,13 @@ fn better_prints_which() {
     let odd = folder.file("odd.bin", [0, 0, 0, 0, 0]);
     exam(&["better", HEX, &good, &zeros]).printed("first\n", 0);
     exam(&["better", HEX, &zeros, &good]).printed("second\n", 0);
-    exam(&["better", HEX, &good, &good]).printed("first\n", 0);
-    exam(&["better", HEX, &short, &zeros]).printed("second\n", 0);
+    exam(&["better", HEX, &good, &good]).said("first\n", 0, "exam: both sheets have gap 2 sum 2\n");
+    let words = "exam: the first sheet hasn't one start for each line\n  \
+                 lines: 2; sheet: 1 starts; other sheet: 2 starts\n";
+    exam(&["better", HEX, &short, &zeros]).said("second\n", 0, words);
+    let words = "exam: the second sheet hasn't one start for each line\n  \
+                 lines: 2; sheet: 2 starts; other sheet: 5 bytes, 4 being a start\n";
+    exam(&["better", HEX, &zeros, &odd]).said("first\n", 0, words);
     let lengths = "lines: 2; sheet: 1 starts; other sheet: 5 bytes";
     exam(&["better", HEX, &short, &odd]).told("neither\n", 1, &["one start for each", lengths]);
     let bad = folder.file("bad.hex", "4C05A1");

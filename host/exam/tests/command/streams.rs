@@ -31,7 +31,8 @@ fn input_that_cannot_be_read() {
     exam(&["rate", HEX, "no.sheet"]).told("", 2, &["no.sheet: there is no such file"]);
     exam(&["mark", HEX, "no_folder"]).told("", 2, &["no_folder: there is no such file"]);
     exam(&["best", "samples"]).told("", 2, &["samples is a folder, not a file"]);
-    exam(&["rate", HEX, "samples"]).told("", 2, &["samples is a folder, not a file"]);
+    let sheets = ["better", HEX, "samples", "samples"];
+    exam(&sheets).told("", 2, &["samples is a folder, not a file"]);
     exam(&["best", "samples/one_line.hex/x.net"]).told("", 2, &["x.net: "]);
     let odd = folder.file("odd.hex", "4C000F\n4C 014 45");
     exam(&["best", &odd]).told("", 2, &["odd.hex, line 2: '014' isn't in pairs"]);

@@ -110,18 +110,18 @@ fn help_for_each_verb() {
 #[test]
 fn help_in_columns() {
     let overview = "
-  exam read NETWORK                    lines, stops, calls and common cycle
-  exam show NETWORK                    what was read, in decimal, for proofreading
-  exam rate NETWORK SHEET              a sheet's rating: least gap, sum of gaps
-  exam classes NETWORK                 which stops always rate alike
-  exam best NETWORK                    the best timetable
-  exam better NETWORK SHEET SHEET      the better of two sheets
-  exam mark NETWORK SHEET-OR-FOLDER    a sheet, or each of a folder, against the best
-  exam archive NETWORK                 the one file of a network that is kept
-  exam same NETWORK NETWORK            whether two files are of one network
-  exam plan NETWORK                    a network as a plan, with names and decimal numbers
-  exam type NETWORK                    a plan in hexadecimal, or as bytes
-  exam VERB --help                     more about a verb
+  exam read NETWORK                      lines, stops, calls and common cycle
+  exam show NETWORK                      what was read, in decimal, for proofreading
+  exam rate NETWORK SHEET-OR-FOLDER..    a sheet's rating: least gap, sum of gaps
+  exam classes NETWORK                   which stops always rate alike
+  exam best NETWORK                      the best timetable
+  exam better NETWORK SHEET SHEET        the better of two sheets
+  exam mark NETWORK SHEET-OR-FOLDER..    a sheet, or each of a folder, against the best
+  exam archive NETWORK                   the one file of a network that is kept
+  exam same NETWORK NETWORK              whether two files are of one network
+  exam plan NETWORK                      a network as a plan, with names and decimal numbers
+  exam type NETWORK                      a plan in hexadecimal, or as bytes
+  exam VERB --help                       more about a verb
 
 NETWORK: a name";
     assert!(exam(&["--help"]).out.contains(overview));
@@ -132,8 +132,10 @@ Options:
   --bytes           the network is bytes, whatever its name
   --sheet-numbers   a sheet is whole numbers, whatever its name
   --sheet-bytes     a sheet is bytes, whatever its name
-  --budget N        stop after N tries, 0 to 4294967295 (otherwise 1000000)
+  --budget N        stop after N tries, 0 to 4294967295 or max (otherwise 1000000)
   --quiet           no sign of life on standard error during a long search
+  --csv             print a record with a row for each sheet, as CSV
+  --json            print a record with a row for each sheet, as JSON
 
 Exit status: ";
     assert!(exam(&["mark", "--help"]).out.contains(options));

@@ -34,6 +34,12 @@ impl Ran {
         assert_eq!(self.err, "", "{self:?}");
     }
 
+    /// Demands standard output, status and standard error.
+    pub fn said(&self, out: &str, status: i32, err: &str) {
+        assert_eq!((self.out.as_str(), self.status), (out, status), "{self:?}");
+        assert_eq!(self.err, err, "{self:?}");
+    }
+
     /// Demands standard output, status, and these pieces on standard error.
     pub fn told(&self, out: &str, status: i32, pieces: &[&str]) {
         assert_eq!((self.out.as_str(), self.status), (out, status), "{self:?}");

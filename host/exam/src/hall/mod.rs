@@ -1,0 +1,21 @@
+//! What several verbs do with a hall's sheets and with long searches.
+//!
+//! | file          | what                                                   |
+//! |---------------|--------------------------------------------------------|
+//! | `sheets.rs`   | the sheets that operands name, files and folders       |
+//! | `outcome.rs`  | what became of a sheet                                 |
+//! | `record.rs`   | the fields of the record, as CSV and JSON              |
+//! | `report.rs`   | all sheets: a line or a row for each, and the tally    |
+//! | `judging.rs`  | from the sheets of a request to its report             |
+//! | `search.rs`   | a search that may take long                            |
+//! | `bound.rs`    | the budget that always suffices                        |
+//! | `checksum.rs` | the checksum of a network                              |
+
+pub mod bound;
+pub mod checksum;
+pub mod judging;
+pub mod outcome;
+pub mod record;
+pub mod report;
+pub mod search;
+pub mod sheets;
