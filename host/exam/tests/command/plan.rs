@@ -26,9 +26,12 @@ fn plan_of_a_refused_network() {
 /// The sample is the same network, and so is every sample's plan.
 #[test]
 fn plans_of_the_samples() {
-    exam(&["same", "samples/village.plan", "samples/village.hex"]).printed("same\n", 0);
+    for name in ["loop", "village"] {
+        let [plan, typed] = ["plan", "hex"].map(|ending| format!("samples/{name}.{ending}"));
+        exam(&["same", &plan, &typed]).printed("same\n", 0);
+    }
     let folder = Folder::new();
-    for name in ["one_line", "two_lines", "village", "town"] {
+    for name in ["one_line", "two_lines", "loop", "village", "town"] {
         let network = format!("samples/{name}.hex");
         let plan = folder.file("a.plan", written(&["plan", &network]));
         exam(&["same", &network, &plan]).printed("same\n", 0);

@@ -3,7 +3,7 @@
 use crate::common::{exam, exam_with, typed, Folder, HEX, NET, ROOT};
 
 /// Networks beside that of `two_lines.hex`, and in what they differ from it.
-const OTHERS: [(&str, &str); 8] = [
+const OTHERS: [(&str, &str); 9] = [
     // Lines exchanged.
     (
         "4C0014 4C000F 4300000011 4301000008 45",
@@ -34,6 +34,11 @@ const OTHERS: [(&str, &str); 8] = [
     (
         "4C000F 4C0014 4300000008 4300010008 4301000011 45",
         "line 0 calls at stop 1 in b.hex alone",
+    ),
+    // A loop: once and twice at a stop.
+    (
+        "4C000F 4C0014 4300000008 4300000003 4301000011 45",
+        "line 0 reaches stop 0 after 8 minutes in a.hex and 3 and 8 in b.hex",
     ),
 ];
 
