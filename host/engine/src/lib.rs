@@ -80,6 +80,7 @@ mod exports;
 mod ground;
 mod refusal;
 mod sheet;
+pub mod text;
 pub mod typed;
 
 pub use answers::{

@@ -14,6 +14,7 @@
 //! # Ok::<(), typed::Mistyped>(())
 //! ```
 
+use crate::text;
 use std::fmt;
 
 /// The byte that begins a line's command: its period follows.
@@ -45,9 +46,6 @@ pub const FOLLOW: u8 = 0x46;
 /// assert_eq!(typed.bytes()[0], engine::typed::END);
 /// ```
 pub const END: u8 = 0x45;
-
-/// Some editors put these before a text.
-const MARK_OF_UTF8: [u8; 3] = [0xEF, 0xBB, 0xBF];
 
 /// A typed network: its bytes, and where in the text each of them stands.
 ///
@@ -96,17 +94,22 @@ impl Typed {
 /// use engine::typed::{self, Fault};
 ///
 /// let why = typed::read(b"4C000F\n4C 014").unwrap_err();
-/// assert_eq!((why.line, why.word.as_str(), why.fault), (2, "014", Fault::NotInPairs));
-/// assert_eq!(why.to_string(), "line 2: '014' isn't in pairs of digits");
+/// assert_eq!((why.line, why.column), (2, 4));
+/// assert_eq!((why.word.as_str(), why.fault), ("014", Fault::NotInPairs));
+/// assert_eq!(why.to_string(), "line 2: '014' isn't in pairs of digits (column 4)");
 /// ```
 #[derive(Clone, Debug, PartialEq, Eq)]
 pub struct Mistyped {
     /// The line at fault, the first being 1.
     pub line: usize,
-    /// The word at fault.
+    /// The column at fault, the first being 1, counted in characters.
+    pub column: usize,
+    /// The word at fault, as [`text::shown`] writes it.
     pub word: String,
     /// What is wrong with it.
     pub fault: Fault,
+    /// What the character at fault is, where it is none of a plain keyboard.
+    pub odd: Option<String>,
 }
 
 /// What is wrong with a word.
@@ -125,14 +128,21 @@ pub enum Fault {
     NotInPairs,
 }
 
-/// `line 2: '014' isn't in pairs of digits`.
+/// `line 2: '014' isn't in pairs of digits (column 4)`.
 impl fmt::Display for Mistyped {
     fn fmt(&self, out: &mut fmt::Formatter<'_>) -> fmt::Result {
         let fault = match self.fault {
             Fault::NotHexadecimal => "isn't hexadecimal",
             Fault::NotInPairs => "isn't in pairs of digits",
         };
-        write!(out, "line {}: '{}' {fault}", self.line, self.word)
+        let (line, word, column) = (self.line, &self.word, self.column);
+        match &self.odd {
+            None => write!(out, "line {line}: '{word}' {fault} (column {column})"),
+            Some(odd) => write!(
+                out,
+                "line {line}: '{word}' {fault} (column {column}: {odd})"
+            ),
+        }
     }
 }
 
@@ -145,27 +155,45 @@ impl std::error::Error for Mistyped {}
 /// assert!(engine::read(typed.bytes()).is_ok());
 /// ```
 pub fn read(text: &[u8]) -> Result<Typed, Mistyped> {
-    let text = text.strip_prefix(&MARK_OF_UTF8).unwrap_or(text);
     let mut typed = Typed {
         bytes: Vec::new(),
         lines: Vec::new(),
         line_of_byte: Vec::new(),
     };
-    for (before, line) in text.split(|&byte| byte == b'\n').enumerate() {
-        let pairs = line.split(|&byte| byte == b'#').next().unwrap_or(line);
-        for word in pairs.split(|byte| byte.is_ascii_whitespace()) {
-            let read = read_word(word).map_err(|fault| Mistyped {
-                line: before + 1,
-                word: String::from_utf8_lossy(word).into_owned(),
-                fault,
-            });
+    for (before, line) in text::lines(text).enumerate() {
+        for word in text::words(line) {
+            let read = read_word(word.bytes).map_err(|fault| mistyped(before + 1, word, fault));
             typed.bytes.extend(read?);
         }
         typed.line_of_byte.resize(typed.bytes.len(), before);
-        let shown = String::from_utf8_lossy(line).trim().to_string();
-        typed.lines.push(shown);
+        typed.lines.push(shown_line(line));
     }
     Ok(typed)
+}
+
+/// A word at fault, at the first character that is.
+fn mistyped(line: usize, word: text::Word<'_>, fault: Fault) -> Mistyped {
+    let other = word.bytes.iter().position(|&byte| digit(byte).is_none());
+    let (column, odd) = match word.odd() {
+        // Before it stand plain characters, of a byte each.
+        Some((column, odd)) if column <= word.column + other.unwrap_or(0) => (column, Some(odd)),
+        _ => (word.column + other.unwrap_or(0), None),
+    };
+    Mistyped {
+        line,
+        column,
+        word: word.shown(),
+        fault,
+        odd,
+    }
+}
+
+/// A line for a message. A tab is a blank there: it is common, and its width
+/// nobody's business.
+fn shown_line(line: &[u8]) -> String {
+    let blank = |&byte: &u8| if byte == b'\t' { b' ' } else { byte };
+    let line: Vec<u8> = line.trim_ascii().iter().map(blank).collect();
+    text::shown(&line)
 }
 
 /// The bytes of a word of hexadecimal pairs.
@@ -253,7 +281,7 @@ mod tests {
     fn pairs_blanks_and_comments() {
         let typed = read(b"\xEF\xBB\xBF# two\n4c00 0F\t# l\xFFne\r\n\n45").expect("pairs");
         assert_eq!(typed.bytes(), [0x4C, 0x00, 0x0F, 0x45]);
-        assert_eq!(typed.line(0), Some((2, "4c00 0F\t# l\u{FFFD}ne")));
+        assert_eq!(typed.line(0), Some((2, "4c00 0F # l\\xFFne")));
         assert_eq!(typed.line(2).map(|line| line.0), Some(2));
         assert_eq!(typed.line(3), Some((4, "45")));
         // Behind the last byte.
@@ -269,10 +297,41 @@ mod tests {
     #[test]
     fn bad_pairs() {
         let bad = |text: &str| read(text.as_bytes()).expect_err("bad pairs").to_string();
-        assert_eq!(bad("45\n4C 0 0F"), "line 2: '0' isn't in pairs of digits");
-        assert_eq!(bad("4C000"), "line 1: '4C000' isn't in pairs of digits");
-        assert_eq!(bad("0x4C"), "line 1: '0x4C' isn't hexadecimal");
-        assert_eq!(bad("4G"), "line 1: '4G' isn't hexadecimal");
+        let pairs = "isn't in pairs of digits";
+        assert_eq!(
+            bad("45\n4C 0 0F"),
+            format!("line 2: '0' {pairs} (column 4)")
+        );
+        assert_eq!(bad("4C000"), format!("line 1: '4C000' {pairs} (column 1)"));
+        assert_eq!(bad("0x4C"), "line 1: '0x4C' isn't hexadecimal (column 2)");
+        assert_eq!(bad("  4G"), "line 1: '4G' isn't hexadecimal (column 4)");
+    }
+
+    #[test]
+    fn pairs_from_any_editor() {
+        let typed = read("\u{FEFF}4C\u{A0}000F\r\n\u{3000}45\r\n".as_bytes()).expect("pairs");
+        assert_eq!(typed.bytes(), [0x4C, 0x00, 0x0F, 0x45]);
+        let bad = |text: &str| read(text.as_bytes()).expect_err("bad pairs").to_string();
+        let full = "line 2: '4Ｃ' isn't hexadecimal (column 5: U+FF23 is full-width; type C)";
+        assert_eq!(bad("45\n00 4Ｃ"), full);
+        let minus = "line 1: '\u{2212}1' isn't hexadecimal (column 1: U+2212 is a minus)";
+        assert_eq!(bad("\u{2212}1"), minus);
+        // The first fault counts, be it a plain character or not.
+        assert_eq!(
+            bad("4x\u{200B}"),
+            "line 1: '4x\\u{200b}' isn't hexadecimal (column 2)"
+        );
+        let unseen = "(column 3: U+200B can't be seen; delete it)";
+        assert_eq!(
+            bad("4C\u{200B}x"),
+            format!("line 1: '4C\\u{{200b}}x' isn't hexadecimal {unseen}")
+        );
+        let bytes = read(b"4C \xE9").expect_err("bad pairs").to_string();
+        let no_text = "the byte E9 is no text in UTF-8";
+        assert_eq!(
+            bytes,
+            format!("line 1: '\\xE9' isn't hexadecimal (column 4: {no_text})")
+        );
     }
 
     #[test]
