@@ -83,6 +83,17 @@ mod sheet;
 pub mod text;
 pub mod typed;
 
+/// The engine's library as it was linked, and what the command `cksum` says of
+/// it: a sum and a length in bytes.
+///
+/// ```
+/// assert!(engine::LIBRARY.contains("libexamination.a"));
+/// ```
+pub const LIBRARY: &str = concat!(
+    "libexamination.a, proved in Rattle, cksum ",
+    env!("EXAMINATION_CKSUM")
+);
+
 pub use answers::{
     Best, Better, Classes, Counts, Mark, Rating, RowSearched, Searched, SoFar, STOPS,
 };

@@ -19,7 +19,7 @@ mod output;
 mod status;
 mod verbs;
 
-use line::help;
+use line::pages;
 use line::parser::{asked, Asked};
 use output::streams::{put, say};
 use status::{Status, Trouble};
@@ -27,16 +27,18 @@ use std::process::ExitCode;
 use verbs::ALL;
 
 fn main() -> ExitCode {
-    let words = std::env::args_os().skip(1).collect();
-    let ended = match asked(&ALL, words) {
-        Ok(Asked::Overview) => put(help::overview(&ALL)).map(|()| Status::Done),
-        Ok(Asked::Help(verb)) => put(help::of_verb(&ALL, verb)).map(|()| Status::Done),
-        Ok(Asked::Run(verb, request)) => (verb.run)(&request),
-        Err(trouble) => Err(trouble),
-    };
-    let status = ended.unwrap_or_else(|Trouble(message)| {
+    let status = run().unwrap_or_else(|Trouble(message)| {
         say(&format!("exam: {message}"));
         Status::Trouble
     });
     ExitCode::from(status as u8)
+}
+
+fn run() -> Result<Status, Trouble> {
+    let words = std::env::args_os().skip(1).collect();
+    let asked = asked(&ALL, words)?;
+    match asked {
+        Asked::Page(page) => put(pages::text(&ALL, page)).map(|()| Status::Done),
+        Asked::Run(verb, request) => (verb.run)(&request),
+    }
 }

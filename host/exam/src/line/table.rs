@@ -50,7 +50,7 @@ pub struct Value {
     pub placeholder: &'static str,
     /// What it is in words, for the message that it isn't there.
     pub words: &'static str,
-    /// Says what is wrong with a value.
+    /// Says what is wrong with a value, which it shows by `engine::text::shown`.
     pub check: fn(&str) -> Result<(), String>,
 }
 
@@ -124,10 +124,10 @@ impl Request {
         self.given.iter().any(|given| given.option == option)
     }
 
-    /// The value of an option; the last one where it is given more than once.
+    /// The value of an option, which the parser takes once.
     pub fn value(&self, option: &CommandOption) -> Option<&str> {
-        let mut latest = self.given.iter().rev();
-        let given = latest.find(|given| given.option == option.name)?;
+        let mut given = self.given.iter();
+        let given = given.find(|given| given.option == option.name)?;
         given.value.as_deref()
     }
 }

@@ -11,6 +11,7 @@ mod classes;
 mod forms;
 mod long;
 mod mark;
+mod pages;
 mod rate;
 mod read;
 mod refusals;
