@@ -4,6 +4,8 @@
 //! | folder or file | what                                                    |
 //! |----------------|---------------------------------------------------------|
 //! | `status.rs`    | exit statuses, and trouble in words                     |
+//! | `system.rs`    | what the operating system says, in our words            |
+//! | `closed.rs`    | whether standard input and output were open             |
 //! | `input`        | files and standard input, networks and sheets           |
 //! | `output`       | standard output and standard error, refusals in words   |
 //! | `line`         | the command line: its table, its options, parser, help  |
@@ -11,12 +13,15 @@
 //!
 //! Each uses those above it alone.
 
-#![forbid(unsafe_code)]
+// But for `closed.rs`.
+#![deny(unsafe_code)]
 
+mod closed;
 mod input;
 mod line;
 mod output;
 mod status;
+mod system;
 mod verbs;
 
 use line::pages;
@@ -27,8 +32,10 @@ use std::process::ExitCode;
 use verbs::ALL;
 
 fn main() -> ExitCode {
-    let status = run().unwrap_or_else(|Trouble(message)| {
-        say(&format!("exam: {message}"));
+    let status = run().unwrap_or_else(|trouble| {
+        if trouble != Trouble::unsaid() {
+            say(&format!("exam: {}", trouble.0));
+        }
         Status::Trouble
     });
     ExitCode::from(status as u8)
@@ -37,6 +44,10 @@ fn main() -> ExitCode {
 fn run() -> Result<Status, Trouble> {
     let words = std::env::args_os().skip(1).collect();
     let asked = asked(&ALL, words)?;
+    // Nobody waits for a search whose answer can't be given.
+    if closed::output() {
+        return Err(Trouble("standard output is closed".to_string()));
+    }
     match asked {
         Asked::Page(page) => put(pages::text(&ALL, page)).map(|()| Status::Done),
         Asked::Run(verb, request) => (verb.run)(&request),
