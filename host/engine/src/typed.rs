@@ -96,11 +96,11 @@ impl Typed {
 /// let why = typed::read(b"4C000F\n4C 014").unwrap_err();
 /// assert_eq!((why.line, why.column), (2, 4));
 /// assert_eq!((why.word.as_str(), why.fault), ("014", Fault::NotInPairs));
-/// assert_eq!(why.to_string(), "line 2: '014' isn't in pairs of digits (column 4)");
+/// assert_eq!(why.to_string(), "text line 2: '014' isn't in pairs of digits (column 4)");
 /// ```
 #[derive(Clone, Debug, PartialEq, Eq)]
 pub struct Mistyped {
-    /// The line at fault, the first being 1.
+    /// The text line at fault, the first being 1.
     pub line: usize,
     /// The column at fault, the first being 1, counted in characters.
     pub column: usize,
@@ -128,7 +128,7 @@ pub enum Fault {
     NotInPairs,
 }
 
-/// `line 2: '014' isn't in pairs of digits (column 4)`.
+/// `text line 2: '014' isn't in pairs of digits (column 4)`.
 impl fmt::Display for Mistyped {
     fn fmt(&self, out: &mut fmt::Formatter<'_>) -> fmt::Result {
         let fault = match self.fault {
@@ -137,10 +137,10 @@ impl fmt::Display for Mistyped {
         };
         let (line, word, column) = (self.line, &self.word, self.column);
         match &self.odd {
-            None => write!(out, "line {line}: '{word}' {fault} (column {column})"),
+            None => write!(out, "text line {line}: '{word}' {fault} (column {column})"),
             Some(odd) => write!(
                 out,
-                "line {line}: '{word}' {fault} (column {column}: {odd})"
+                "text line {line}: '{word}' {fault} (column {column}: {odd})"
             ),
         }
     }
@@ -300,11 +300,20 @@ mod tests {
         let pairs = "isn't in pairs of digits";
         assert_eq!(
             bad("45\n4C 0 0F"),
-            format!("line 2: '0' {pairs} (column 4)")
+            format!("text line 2: \'0' {pairs} (column 4)")
         );
-        assert_eq!(bad("4C000"), format!("line 1: '4C000' {pairs} (column 1)"));
-        assert_eq!(bad("0x4C"), "line 1: '0x4C' isn't hexadecimal (column 2)");
-        assert_eq!(bad("  4G"), "line 1: '4G' isn't hexadecimal (column 4)");
+        assert_eq!(
+            bad("4C000"),
+            format!("text line 1: \'4C000' {pairs} (column 1)")
+        );
+        assert_eq!(
+            bad("0x4C"),
+            "text line 1: \'0x4C' isn't hexadecimal (column 2)"
+        );
+        assert_eq!(
+            bad("  4G"),
+            "text line 1: \'4G' isn't hexadecimal (column 4)"
+        );
     }
 
     #[test]
@@ -312,25 +321,25 @@ mod tests {
         let typed = read("\u{FEFF}4C\u{A0}000F\r\n\u{3000}45\r\n".as_bytes()).expect("pairs");
         assert_eq!(typed.bytes(), [0x4C, 0x00, 0x0F, 0x45]);
         let bad = |text: &str| read(text.as_bytes()).expect_err("bad pairs").to_string();
-        let full = "line 2: '4Ｃ' isn't hexadecimal (column 5: U+FF23 is full-width; type C)";
+        let full = "text line 2: \'4Ｃ' isn't hexadecimal (column 5: U+FF23 is full-width; type C)";
         assert_eq!(bad("45\n00 4Ｃ"), full);
-        let minus = "line 1: '\u{2212}1' isn't hexadecimal (column 1: U+2212 is a minus)";
+        let minus = "text line 1: \'\u{2212}1' isn't hexadecimal (column 1: U+2212 is a minus)";
         assert_eq!(bad("\u{2212}1"), minus);
         // The first fault counts, be it a plain character or not.
         assert_eq!(
             bad("4x\u{200B}"),
-            "line 1: '4x\\u{200b}' isn't hexadecimal (column 2)"
+            "text line 1: \'4x\\u{200b}' isn't hexadecimal (column 2)"
         );
         let unseen = "(column 3: U+200B can't be seen; delete it)";
         assert_eq!(
             bad("4C\u{200B}x"),
-            format!("line 1: '4C\\u{{200b}}x' isn't hexadecimal {unseen}")
+            format!("text line 1: \'4C\\u{{200b}}x' isn't hexadecimal {unseen}")
         );
         let bytes = read(b"4C \xE9").expect_err("bad pairs").to_string();
         let no_text = "the byte E9 is no text in UTF-8";
         assert_eq!(
             bytes,
-            format!("line 1: '\\xE9' isn't hexadecimal (column 4: {no_text})")
+            format!("text line 1: \'\\xE9' isn't hexadecimal (column 4: {no_text})")
         );
     }
 

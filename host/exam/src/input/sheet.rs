@@ -43,7 +43,7 @@ fn starts(text: &[u8]) -> Result<Vec<i32>, String> {
     for (before, line) in text::lines(text).enumerate() {
         for word in text::words(line) {
             let start = start(word);
-            starts.push(start.map_err(|message| format!("line {}: {message}", before + 1))?);
+            starts.push(start.map_err(|message| format!("text line {}: {message}", before + 1))?);
         }
     }
     Ok(starts)
@@ -106,21 +106,21 @@ mod tests {
     fn bad_numbers() {
         let wanted = "a start is whole minutes, such as 15 or -17";
         for (text, place, word, column) in [
-            ("0\n 3x", "line 2", "3x", 2),
-            ("-", "line 1", "-", 1),
-            ("0 +-3", "line 1", "+-3", 3),
-            ("1.5", "line 1", "1.5", 1),
+            ("0\n 3x", "text line 2", "3x", 2),
+            ("-", "text line 1", "-", 1),
+            ("0 +-3", "text line 1", "+-3", 3),
+            ("1.5", "text line 1", "1.5", 1),
         ] {
             let message =
                 format!("{place}: '{word}' is no whole number (column {column}: {wanted})");
             assert_eq!(bad(text), message);
         }
         let blanks = "starts stand apart by blanks or line ends alone";
-        let message = format!("line 1: '0,' is no whole number (column 1: {blanks})");
+        let message = format!("text line 1: '0,' is no whole number (column 1: {blanks})");
         assert_eq!(bad("0, 3"), message);
-        let large = "line 1: 2147483648 isn't within -2147483648 to 2147483647 (column 3)";
+        let large = "text line 1: 2147483648 isn't within -2147483648 to 2147483647 (column 3)";
         assert_eq!(bad("0 2147483648"), large);
-        let small = "line 1: -2147483649 isn't within -2147483648 to 2147483647 (column 1)";
+        let small = "text line 1: -2147483649 isn't within -2147483648 to 2147483647 (column 1)";
         assert_eq!(bad("-2147483649"), small);
     }
 
@@ -150,13 +150,13 @@ mod tests {
                 "column 2: U+001B is a control character",
             ),
         ] {
-            let message = format!("line 1: '{word}' is no whole number ({why})");
+            let message = format!("text line 1: '{word}' is no whole number ({why})");
             assert_eq!(bad(text), message);
         }
         let no_text = "column 1: the byte E9 is no text in UTF-8";
         assert_eq!(
             bad(b"\xE9"),
-            format!("line 1: '\\xE9' is no whole number ({no_text})")
+            format!("text line 1: '\\xE9' is no whole number ({no_text})")
         );
         // A word without an end is cut.
         assert!(bad("7".repeat(100_000)).len() < 400);

@@ -51,7 +51,7 @@ fn mark_of_a_folder() {
         format!("{refused}f.sheet: unreadable\nnotes: unreadable\nzeros.bin: unreadable\n");
     let words = [
         "zeros.bin is no plain file",
-        "f.sheet, line 1: 'x' is no whole number",
+        "f.sheet, text line 1: 'x' is no whole number",
         "notes: say --sheet-numbers",
     ];
     exam(&["mark", HEX, &folder.name(), "--budget", "3"]).told(&unreadable, 2, &words);

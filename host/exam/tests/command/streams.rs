@@ -26,7 +26,7 @@ fn input_that_cannot_be_read() {
     let folder = Folder::new();
     let sheet = |text: &str| folder.file("bad.sheet", text);
     let bad = |text: &str, piece: &str| {
-        exam(&["rate", HEX, &sheet(text)]).told("", 2, &["bad.sheet, line", piece]);
+        exam(&["rate", HEX, &sheet(text)]).told("", 2, &["bad.sheet, text line", piece]);
     };
     bad("0\nthree", "line 2: 'three' is no whole number");
     bad("0 3.5", "'3.5' is no whole number");
@@ -51,7 +51,7 @@ fn input_that_cannot_be_read() {
     let long_name = "x".repeat(300) + ".net";
     exam(&["best", &long_name]).told("", 2, &[".net: the name is too long\n"]);
     let odd = folder.file("odd.hex", "4C000F\n4C 014 45");
-    exam(&["best", &odd]).told("", 2, &["odd.hex, line 2: '014' isn't in pairs"]);
+    exam(&["best", &odd]).told("", 2, &["odd.hex, text line 2: '014' isn't in pairs"]);
     let long = folder.file("long.sheet", "0 ".repeat(600_000));
     exam(&["rate", HEX, &long]).told("", 2, &["longer than"]);
 }
@@ -106,7 +106,7 @@ fn text_from_any_editor() {
     exam(&["rate", &network, &sheet]).printed("gap 2 sum 2\n", 0);
     let wide = folder.file("wide.hex", "4C 000F\r\n4C ００14 45");
     let words =
-        "wide.hex, line 2: '００14' isn't hexadecimal (column 4: U+FF10 is full-width; type 0)\n";
+        "wide.hex, text line 2: '００14' isn't hexadecimal (column 4: U+FF10 is full-width; type 0)\n";
     exam(&["read", &wide]).told("", 2, &[words]);
     let utf16: Vec<u8> = "\u{FEFF}0 3"
         .encode_utf16()
@@ -115,7 +115,7 @@ fn text_from_any_editor() {
     let words = "(column 1: the text is UTF-16; save it as UTF-8)";
     exam(&["rate", HEX, &folder.file("wide.sheet", utf16)]).told("", 2, &[words]);
     let unseen = folder.file("unseen.sheet", "0\n3\u{200B}");
-    let words = "unseen.sheet, line 2: '3\\u{200b}' is no whole number (column 2: U+200B can't be seen; delete it)\n";
+    let words = "unseen.sheet, text line 2: '3\\u{200b}' is no whole number (column 2: U+200B can't be seen; delete it)\n";
     exam(&["rate", HEX, &unseen]).told("", 2, &[words]);
 }
 
