@@ -1,6 +1,7 @@
 //! The proved engine, safe to call from a program of the hall's own: one function
 //! for each export of docs/ABI.md, and [`typed`], the reader of networks as
-//! authors type them. Nothing is computed here; every number is the engine's.
+//! authors type them, over [`text`], which a reader of sheets can use too. Nothing
+//! is computed here; every number is the engine's.
 //!
 //! A network file is bytes. A [`Sheet`] has a start in minutes for each line of
 //! the network, in line order.

@@ -4,9 +4,8 @@
 //! only by the C library. This is the one file of the command with unsafe code.
 //!
 //! Why it is sound: the list `.init_array` is of functions that the C library
-//! calls once, on one thread, before `main`; the function there takes no
-//! argument that it uses, calls `fcntl`, which changes nothing with this command,
-//! and stores two numbers.
+//! calls once, on one thread, before `main`; the one here uses none of the
+//! arguments that they are handed and needs nothing that Rust sets up later.
 
 #![allow(unsafe_code)]
 
@@ -27,7 +26,8 @@ static ASK: extern "C" fn() = ask;
 
 extern "C" fn ask() {
     for (descriptor, closed) in (0..).zip(&CLOSED) {
-        // No descriptor and no flag changes by this command.
+        // SAFETY: declared as in fcntl.h; to ask for flags changes none, and a
+        // descriptor that isn't open is answered by -1.
         let flags = unsafe { fcntl(descriptor, FLAGS) };
         closed.store(flags == -1, Ordering::Relaxed);
     }
