@@ -229,12 +229,6 @@ impl Sign {
 mod tests {
     use super::{lines, shown, words};
 
-    fn odd(line: &[u8]) -> String {
-        let odd = words(line).find_map(|word| word.odd());
-        let (column, words) = odd.expect("an odd character");
-        format!("{column}: {words}")
-    }
-
     #[test]
     fn blanks_of_every_width() {
         let line = "0\u{A0}1\u{2007}2\u{202F}3\u{3000}4\t5\u{B}6\r";
@@ -253,44 +247,40 @@ mod tests {
 
     #[test]
     fn odd_characters_in_words() {
-        assert_eq!(odd("x \u{2212}3".as_bytes()), "3: U+2212 is a minus");
-        assert_eq!(
-            odd("\u{2013}3".as_bytes()),
-            "1: U+2013 is a dash; a minus is typed -"
-        );
-        assert_eq!(
-            odd("4\u{FF23}".as_bytes()),
-            "2: U+FF23 is full-width; type C"
-        );
-        assert_eq!(
-            odd("\u{FF5E}".as_bytes()),
-            "1: U+FF5E is full-width; type ~"
-        );
-        let mark = "2: U+FEFF is a byte order mark, which stands before a text only";
-        assert_eq!(odd("3\u{FEFF}".as_bytes()), mark);
-        assert_eq!(
-            odd("3\u{1B}".as_bytes()),
-            "2: U+001B is a control character"
-        );
-        assert_eq!(
-            odd("3\u{200B}".as_bytes()),
-            "2: U+200B can't be seen; delete it"
-        );
-        let digit = "1: U+0663 is a digit of another script; type 0 to 9";
-        assert_eq!(odd("\u{663}".as_bytes()), digit);
-        assert_eq!(
-            odd("4\u{421}".as_bytes()),
-            "2: U+0421 is no plain letter, digit or sign"
-        );
-        assert_eq!(odd(b"ab \xE9"), "4: the byte E9 is no text in UTF-8");
-        assert_eq!(
-            odd(b"\xFF\xFE0\0"),
-            "1: the text is UTF-16; save it as UTF-8"
-        );
-        assert_eq!(
-            odd(b"\xFE\xFF\x000"),
-            "1: the text is UTF-16; save it as UTF-8"
-        );
+        let cases: [(&[u8], usize, &str); 12] = [
+            ("x \u{2212}3".as_bytes(), 3, "U+2212 is a minus"),
+            (
+                "\u{2013}3".as_bytes(),
+                1,
+                "U+2013 is a dash; a minus is typed -",
+            ),
+            ("4\u{FF23}".as_bytes(), 2, "U+FF23 is full-width; type C"),
+            ("\u{FF5E}".as_bytes(), 1, "U+FF5E is full-width; type ~"),
+            (
+                "3\u{FEFF}".as_bytes(),
+                2,
+                "U+FEFF is a byte order mark, which stands before a text only",
+            ),
+            (b"3\x1B", 2, "U+001B is a control character"),
+            ("3\u{200B}".as_bytes(), 2, "U+200B can't be seen; delete it"),
+            (
+                "\u{663}".as_bytes(),
+                1,
+                "U+0663 is a digit of another script; type 0 to 9",
+            ),
+            (
+                "4\u{421}".as_bytes(),
+                2,
+                "U+0421 is no plain letter, digit or sign",
+            ),
+            (b"ab \xE9", 4, "the byte E9 is no text in UTF-8"),
+            (b"\xFF\xFE0\0", 1, "the text is UTF-16; save it as UTF-8"),
+            (b"\xFE\xFF\x000", 1, "the text is UTF-16; save it as UTF-8"),
+        ];
+        for (line, column, says) in cases {
+            let odd = words(line).find_map(|word| word.odd());
+            assert_eq!(odd, Some((column, says.to_string())));
+        }
         assert_eq!(words(b"3x, !~").find_map(|word| word.odd()), None);
     }
 

@@ -31,6 +31,7 @@ impl Source {
     pub fn name(&self) -> String {
         match self {
             Source::Input => "standard input".to_string(),
+            Source::File(path) if path.as_os_str().is_empty() => "''".to_string(),
             Source::File(path) => shown(path.as_os_str().as_encoded_bytes()),
         }
     }

@@ -48,6 +48,7 @@ fn input_that_cannot_be_read() {
     exam(&["rate", HEX, "samples"]).told("", 2, &["samples is a folder, not a file"]);
     let no_folder = "x.net: there is no such file: a part of its path is no folder\n";
     exam(&["best", "samples/one_line.hex/x.net"]).told("", 2, &[no_folder]);
+    exam(&["best", ""]).told("", 2, &["exam: '': there is no such file\n"]);
     let long_name = "x".repeat(300) + ".net";
     exam(&["best", &long_name]).told("", 2, &[".net: the name is too long\n"]);
     let odd = folder.file("odd.hex", "4C000F\n4C 014 45");
@@ -162,25 +163,23 @@ fn messages_do_nothing_to_a_terminal() {
         &["--version", odd],
     ];
     for words in cases {
-        let ran = exam(words);
-        assert!(ran.err.starts_with("exam: "), "{ran:?}");
-        assert!(
-            ran.err.contains(shown) || ran.err.contains("\\u{1b}"),
-            "{ran:?}"
-        );
-        let lines = ran.err.trim_end_matches('\n');
-        assert!(
-            !lines.replace('\n', "").contains(char::is_control),
-            "{ran:?}"
-        );
-        assert!(!lines.contains('\u{202E}'), "{ran:?}");
-        assert_eq!(lines.matches("\nexam: ").count(), 0, "{ran:?}");
+        does_nothing(&exam(words), shown);
     }
-    let line = "\n  line 1: 4C05A1 # \\u{1b}[2J \\u{202e}\\u{7}\n";
+    let line = "line 1: 4C05A1 # \\u{1b}[2J \\u{202e}\\u{7}\n";
     exam(&["best", &network]).told("refused 5 at 0\n", 1, &[line, shown]);
 }
 
-/// Nor is a line without an end.
+/// One message, with this piece, and nothing in it that can't be seen but its own
+/// line ends.
+fn does_nothing(ran: &Ran, shown: &str) {
+    assert!(ran.err.starts_with("exam: "), "{ran:?}");
+    assert!(ran.err.contains(shown), "{ran:?}");
+    let unseen = |sign: char| sign != '\n' && (sign.is_control() || sign == '\u{202E}');
+    assert!(!ran.err.contains(unseen), "{ran:?}");
+    assert_eq!(ran.err.matches("\nexam: ").count(), 0, "{ran:?}");
+}
+
+/// Nor has a message a line without an end.
 #[test]
 fn messages_have_an_end() {
     let folder = Folder::new();

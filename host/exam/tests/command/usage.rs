@@ -79,7 +79,7 @@ fn bad_operands() {
 }
 
 #[test]
-fn bad_options() {
+fn options_that_are_none() {
     all_are_told(&[
         (&["best", NET, "--fast"], "'best' has no option '--fast'\n"),
         (&["best", NET, "-q"], "no option '-q'"),
@@ -95,7 +95,13 @@ fn bad_options() {
             &["best", NET, "-quiet"],
             "'-quiet'; did you mean '--quiet'?",
         ),
-        // An option that the verb hasn't is none that was meant.
+    ]);
+}
+
+#[test]
+fn options_that_a_verb_has_not() {
+    all_are_told(&[
+        // What the verb hasn't isn't what was meant.
         (&["read", NET, "--qiet"], "'read' has no option '--qiet'\n"),
         (&["read", NET, "--quiet"], "no option '--quiet'\n"),
         (&["best", NET, "--rows"], "no option '--rows'"),
@@ -108,6 +114,12 @@ fn bad_options() {
             "'rate' searches nothing and has no budget",
         ),
         (&["archive", NET, "--budget=1"], "has no budget"),
+    ]);
+}
+
+#[test]
+fn options_that_cannot_be() {
+    all_are_told(&[
         (&["best", NET, "--typed=no"], "--typed takes no value"),
         (
             &["best", NET, "--typed", "--bytes"],
