@@ -179,6 +179,22 @@ fn does_nothing(ran: &Ran, shown: &str) {
     assert_eq!(ran.err.matches("\nexam: ").count(), 0, "{ran:?}");
 }
 
+/// Names that come from a folder, and not from the command line.
+#[test]
+fn folders_do_nothing_to_a_terminal() {
+    let folder = Folder::new();
+    let inner = folder.path().join("in\u{1B}[2J\u{202E}");
+    std::fs::create_dir(&inner).expect("a folder");
+    let name = inner.to_str().expect("a plain name");
+    let shown = "in\\u{1b}[2J\\u{202e}";
+    does_nothing(&exam(&["mark", HEX, name]), shown);
+    does_nothing(&exam(&["best", name]), shown);
+    std::fs::write(inner.join("a\u{1B}.sheet"), "x").expect("a file");
+    let ran = exam(&["mark", HEX, name]);
+    does_nothing(&ran, shown);
+    assert!(!ran.out.contains('\u{1B}'), "{ran:?}");
+}
+
 /// Nor has a message a line without an end.
 #[test]
 fn messages_have_an_end() {
