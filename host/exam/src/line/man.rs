@@ -69,3 +69,19 @@ fn plain(text: &str) -> String {
 fn bold(text: &str) -> String {
     format!("\\fB{}\\fR", plain(text))
 }
+
+#[cfg(test)]
+mod tests {
+    use super::{bold, paragraphs};
+
+    /// No line of help asks for anything, whatever it begins with.
+    #[test]
+    fn text_asks_for_nothing() {
+        let text = "one-way\n.sheet ends\n'NAME'\n\na\\b\n  shown\n  .as is\nbehind\n  last\n";
+        let page = "one\\-way\n\\&.sheet ends\n\\&'NAME'\n.PP\na\\eb\n\
+                    .RS\n.nf\nshown\n\\&.as is\n.fi\n.RE\nbehind\n\
+                    .RS\n.nf\nlast\n.fi\n.RE\n";
+        assert_eq!(paragraphs(text), page);
+        assert_eq!(bold("--raw"), "\\fB\\-\\-raw\\fR");
+    }
+}

@@ -23,5 +23,22 @@ pub fn put(answer: impl AsRef<[u8]>) -> Result<(), Trouble> {
 /// Writes a message. Where nobody listens to messages there is nothing left to
 /// say it to, so an error is passed over.
 pub fn say(message: &str) {
-    let _ = writeln!(io::stderr().lock(), "{}", escape::message(message));
+    say_to(io::stderr().lock(), message);
+}
+
+/// Every message goes through here.
+fn say_to(mut to: impl Write, message: &str) {
+    let _ = writeln!(to, "{}", escape::message(message));
+}
+
+#[cfg(test)]
+mod tests {
+    use super::say_to;
+
+    #[test]
+    fn messages_are_looked_at_before_they_go_out() {
+        let mut said = Vec::new();
+        say_to(&mut said, "exam: a\u{1B}[2J\n  b");
+        assert_eq!(said, b"exam: a\\u{1b}[2J\n  b\n");
+    }
 }

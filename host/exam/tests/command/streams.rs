@@ -179,20 +179,24 @@ fn does_nothing(ran: &Ran, shown: &str) {
     assert_eq!(ran.err.matches("\nexam: ").count(), 0, "{ran:?}");
 }
 
-/// Names that come from a folder, and not from the command line.
+/// Names that come from a folder, and not from the command line: neither message
+/// nor mark begins another line by them.
 #[test]
 fn folders_do_nothing_to_a_terminal() {
     let folder = Folder::new();
-    let inner = folder.path().join("in\u{1B}[2J\u{202E}");
+    let inner = folder.path().join("in\u{1B}[2J\u{202E}\nexam: x");
     std::fs::create_dir(&inner).expect("a folder");
     let name = inner.to_str().expect("a plain name");
-    let shown = "in\\u{1b}[2J\\u{202e}";
+    let shown = "in\\u{1b}[2J\\u{202e}\\u{a}exam: x";
     does_nothing(&exam(&["mark", HEX, name]), shown);
     does_nothing(&exam(&["best", name]), shown);
-    std::fs::write(inner.join("a\u{1B}.sheet"), "x").expect("a file");
+    std::fs::write(inner.join("a\u{1B}\nb.sheet"), "x").expect("a file");
+    symlink("/dev/zero", inner.join("c\u{202E}.bin")).expect("a link");
     let ran = exam(&["mark", HEX, name]);
-    does_nothing(&ran, shown);
-    assert!(!ran.out.contains('\u{1B}'), "{ran:?}");
+    let lines = "a\\u{1b}\\u{a}b.sheet: unreadable\nc\\u{202e}.bin: unreadable\n";
+    ran.told(lines, 2, &["c\\u{202e}.bin is no plain file\n"]);
+    assert_eq!(ran.err.lines().count(), 2, "{ran:?}");
+    assert_eq!(ran.err.matches(shown).count(), 2, "{ran:?}");
 }
 
 /// Nor has a message a line without an end.

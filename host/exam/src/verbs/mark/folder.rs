@@ -12,6 +12,8 @@ use crate::output::lines::mark_line;
 use crate::output::streams::{put, say};
 use crate::output::watch::Watch;
 use crate::status::{Status, Trouble};
+use crate::system;
+use engine::text::shown;
 use std::collections::BTreeMap;
 use std::path::{Path, PathBuf};
 use std::sync::atomic::{AtomicUsize, Ordering};
@@ -62,7 +64,8 @@ pub fn mark(folder: &Path, network: &Network, request: &Request) -> Result<Statu
 /// The files of a folder in name order. Every file is taken for a sheet, so
 /// that none is left out unseen, but for hidden ones and folders.
 fn sheets_of(folder: &Path) -> Result<Vec<PathBuf>, Trouble> {
-    let trouble = |error: std::io::Error| Trouble(format!("{}: {error}", folder.display()));
+    let name = shown(folder.as_os_str().as_encoded_bytes());
+    let trouble = |error: std::io::Error| Trouble(format!("{name}: {}", system::words(&error)));
     let mut sheets = Vec::new();
     for entry in std::fs::read_dir(folder).map_err(trouble)? {
         let entry = entry.map_err(trouble)?;
@@ -72,7 +75,7 @@ fn sheets_of(folder: &Path) -> Result<Vec<PathBuf>, Trouble> {
         }
     }
     if sheets.is_empty() {
-        let message = format!("{}: there is no sheet in this folder", folder.display());
+        let message = format!("{name}: there is no sheet in this folder");
         return Err(Trouble(message));
     }
     sheets.sort();
@@ -95,7 +98,10 @@ fn start_threads(job: &Arc<Job>) -> Result<Receiver<(usize, Marked)>, Trouble> {
     }
     match started {
         Ok(()) => Ok(receiver),
-        Err(error) => Err(Trouble(format!("no thread could be started: {error}"))),
+        Err(error) => {
+            let words = system::words(&error);
+            Err(Trouble(format!("no thread could be started: {words}")))
+        }
     }
 }
 
@@ -142,18 +148,19 @@ fn mark_sheet(job: &Job, path: &Path) -> Marked {
 
 /// A pipe in the folder would be waited for without end.
 fn load(job: &Job, path: &Path) -> Result<engine::Sheet, Trouble> {
+    let source = Source::File(path.to_path_buf());
     match path.metadata() {
         Ok(about) if !about.is_file() => {
-            Err(Trouble(format!("{} is no plain file", path.display())))
+            Err(Trouble(format!("{} is no plain file", source.name())))
         }
-        _ => sheet::load(&Source::File(path.to_path_buf()), job.form),
+        _ => sheet::load(&source, job.form),
     }
 }
 
-/// A file's name as part of a line.
+/// A file's name as part of a line, of which it can't begin another.
 fn name_of(path: &Path) -> String {
     let name = path.file_name().unwrap_or(path.as_os_str());
-    name.to_string_lossy().replace(char::is_control, "?")
+    shown(name.as_encoded_bytes())
 }
 
 /// Prints each line as soon as those before it are printed. The status is the
