@@ -19,6 +19,24 @@ fn main() {
         exit(1);
     }
     println!("cargo:rustc-link-search=native={}", folder.display());
+    let content = std::fs::read(&library).unwrap_or_default();
+    let (sum, length) = (cksum(&content), content.len());
+    println!("cargo:rustc-env=EXAMINATION_CKSUM={sum} {length}");
+}
+
+/// What the command `cksum` says of a file, so that anybody can compare: a
+/// remainder by a polynomial, of the content and then its length.
+fn cksum(content: &[u8]) -> u32 {
+    let bytes = content.len().to_le_bytes();
+    let used = bytes
+        .iter()
+        .rposition(|&byte| byte != 0)
+        .map_or(0, |at| at + 1);
+    let all = content.iter().chain(&bytes[..used]);
+    !all.fold(0, |sum, &byte| {
+        let next = |sum: u32, _| (sum << 1) ^ if sum >> 31 == 1 { 0x04C1_1DB7 } else { 0 };
+        (0..8).fold(sum ^ (u32::from(byte) << 24), next)
+    })
 }
 
 fn folder() -> PathBuf {

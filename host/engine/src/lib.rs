@@ -1,7 +1,8 @@
 //! The proved engine, safe to call from a program of the hall's own: one function
 //! for each export of docs/ABI.md, and the readers of networks as people write
-//! them: [`plan`], with names and decimal numbers, and [`typed`], in hexadecimal.
-//! Nothing is computed here; every number is the engine's.
+//! them: [`plan`], with names and decimal numbers, and [`typed`], in hexadecimal,
+//! over [`text`], which a reader of sheets can use too. Nothing is computed here;
+//! every number is the engine's.
 //!
 //! A network file is bytes. A [`Sheet`] has a start in minutes for each line of
 //! the network, in line order.
@@ -80,10 +81,23 @@ mod calls;
 mod contents;
 mod exports;
 mod ground;
+mod origin;
 pub mod plan;
 mod refusal;
 mod sheet;
+pub mod text;
 pub mod typed;
+
+/// The engine's library as it was linked, and what the command `cksum` says of
+/// it: a sum and a length in bytes.
+///
+/// ```
+/// assert!(engine::LIBRARY.contains("libexamination.a"));
+/// ```
+pub const LIBRARY: &str = concat!(
+    "libexamination.a, proved in Rattle, cksum ",
+    env!("EXAMINATION_CKSUM")
+);
 
 pub use answers::{
     Best, Better, Classes, Counts, Mark, Rating, RowSearched, Searched, SoFar, STOPS,

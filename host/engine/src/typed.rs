@@ -14,6 +14,8 @@
 //! # Ok::<(), typed::Mistyped>(())
 //! ```
 
+use crate::origin::Origin;
+use crate::text;
 use std::fmt;
 
 /// The byte that begins a line's command: its period follows.
@@ -46,9 +48,6 @@ pub const FOLLOW: u8 = 0x46;
 /// ```
 pub const END: u8 = 0x45;
 
-/// Some editors put these before a text.
-const MARK_OF_UTF8: [u8; 3] = [0xEF, 0xBB, 0xBF];
-
 /// A typed network: its bytes, and where in the text each of them stands.
 ///
 /// ```
@@ -58,10 +57,7 @@ const MARK_OF_UTF8: [u8; 3] = [0xEF, 0xBB, 0xBF];
 #[derive(Clone, Debug, PartialEq, Eq)]
 pub struct Typed {
     bytes: Vec<u8>,
-    /// The lines of the text.
-    lines: Vec<String>,
-    /// For each byte its line, the first line being 0.
-    line_of_byte: Vec<usize>,
+    origin: Origin,
 }
 
 impl Typed {
@@ -84,9 +80,7 @@ impl Typed {
     /// assert_eq!(typed.line(3), Some((3, "45")));
     /// ```
     pub fn line(&self, place: usize) -> Option<(usize, &str)> {
-        let at = place.min(self.line_of_byte.len().checked_sub(1)?);
-        let line = self.line_of_byte[at];
-        Some((line + 1, self.lines[line].as_str()))
+        self.origin.line(place)
     }
 }
 
@@ -96,17 +90,22 @@ impl Typed {
 /// use engine::typed::{self, Fault};
 ///
 /// let why = typed::read(b"4C000F\n4C 014").unwrap_err();
-/// assert_eq!((why.line, why.word.as_str(), why.fault), (2, "014", Fault::NotInPairs));
-/// assert_eq!(why.to_string(), "line 2: '014' isn't in pairs of digits");
+/// assert_eq!((why.line, why.column), (2, 4));
+/// assert_eq!((why.word.as_str(), why.fault), ("014", Fault::NotInPairs));
+/// assert_eq!(why.to_string(), "text line 2: '014' isn't in pairs of digits (column 4)");
 /// ```
 #[derive(Clone, Debug, PartialEq, Eq)]
 pub struct Mistyped {
-    /// The line at fault, the first being 1.
+    /// The text line at fault, the first being 1.
     pub line: usize,
-    /// The word at fault.
+    /// The column at fault, the first being 1, counted in characters.
+    pub column: usize,
+    /// The word at fault, as [`text::shown`] writes it.
     pub word: String,
     /// What is wrong with it.
     pub fault: Fault,
+    /// What the character at fault is, where it is none of a plain keyboard.
+    pub odd: Option<String>,
 }
 
 /// What is wrong with a word.
@@ -125,14 +124,21 @@ pub enum Fault {
     NotInPairs,
 }
 
-/// `line 2: '014' isn't in pairs of digits`.
+/// `text line 2: '014' isn't in pairs of digits (column 4)`.
 impl fmt::Display for Mistyped {
     fn fmt(&self, out: &mut fmt::Formatter<'_>) -> fmt::Result {
         let fault = match self.fault {
             Fault::NotHexadecimal => "isn't hexadecimal",
             Fault::NotInPairs => "isn't in pairs of digits",
         };
-        write!(out, "line {}: '{}' {fault}", self.line, self.word)
+        let (line, word, column) = (self.line, &self.word, self.column);
+        match &self.odd {
+            None => write!(out, "text line {line}: '{word}' {fault} (column {column})"),
+            Some(odd) => write!(
+                out,
+                "text line {line}: '{word}' {fault} (column {column}: {odd})"
+            ),
+        }
     }
 }
 
@@ -145,27 +151,35 @@ impl std::error::Error for Mistyped {}
 /// assert!(engine::read(typed.bytes()).is_ok());
 /// ```
 pub fn read(text: &[u8]) -> Result<Typed, Mistyped> {
-    let text = text.strip_prefix(&MARK_OF_UTF8).unwrap_or(text);
     let mut typed = Typed {
         bytes: Vec::new(),
-        lines: Vec::new(),
-        line_of_byte: Vec::new(),
+        origin: Origin::default(),
     };
-    for (before, line) in text.split(|&byte| byte == b'\n').enumerate() {
-        let pairs = line.split(|&byte| byte == b'#').next().unwrap_or(line);
-        for word in pairs.split(|byte| byte.is_ascii_whitespace()) {
-            let read = read_word(word).map_err(|fault| Mistyped {
-                line: before + 1,
-                word: String::from_utf8_lossy(word).into_owned(),
-                fault,
-            });
+    for (before, line) in text::lines(text).enumerate() {
+        for word in text::words(line) {
+            let read = read_word(word.bytes).map_err(|fault| mistyped(before + 1, word, fault));
             typed.bytes.extend(read?);
         }
-        typed.line_of_byte.resize(typed.bytes.len(), before);
-        let shown = String::from_utf8_lossy(line).trim().to_string();
-        typed.lines.push(shown);
+        typed.origin.add(line, typed.bytes.len());
     }
     Ok(typed)
+}
+
+/// A word at fault, at the first character that is.
+fn mistyped(line: usize, word: text::Word<'_>, fault: Fault) -> Mistyped {
+    let other = word.bytes.iter().position(|&byte| digit(byte).is_none());
+    let (column, odd) = match word.odd() {
+        // Before it stand plain characters, of a byte each.
+        Some((column, odd)) if column <= word.column + other.unwrap_or(0) => (column, Some(odd)),
+        _ => (word.column + other.unwrap_or(0), None),
+    };
+    Mistyped {
+        line,
+        column,
+        word: word.shown(),
+        fault,
+        odd,
+    }
 }
 
 /// The bytes of a word of hexadecimal pairs.
@@ -273,7 +287,7 @@ mod tests {
     fn pairs_blanks_and_comments() {
         let typed = read(b"\xEF\xBB\xBF# two\n4c00 0F\t# l\xFFne\r\n\n45").expect("pairs");
         assert_eq!(typed.bytes(), [0x4C, 0x00, 0x0F, 0x45]);
-        assert_eq!(typed.line(0), Some((2, "4c00 0F\t# l\u{FFFD}ne")));
+        assert_eq!(typed.line(0), Some((2, "4c00 0F # l\\xFFne")));
         assert_eq!(typed.line(2).map(|line| line.0), Some(2));
         assert_eq!(typed.line(3), Some((4, "45")));
         // Behind the last byte.
@@ -289,10 +303,50 @@ mod tests {
     #[test]
     fn bad_pairs() {
         let bad = |text: &str| read(text.as_bytes()).expect_err("bad pairs").to_string();
-        assert_eq!(bad("45\n4C 0 0F"), "line 2: '0' isn't in pairs of digits");
-        assert_eq!(bad("4C000"), "line 1: '4C000' isn't in pairs of digits");
-        assert_eq!(bad("0x4C"), "line 1: '0x4C' isn't hexadecimal");
-        assert_eq!(bad("4G"), "line 1: '4G' isn't hexadecimal");
+        let pairs = "isn't in pairs of digits";
+        assert_eq!(
+            bad("45\n4C 0 0F"),
+            format!("text line 2: \'0' {pairs} (column 4)")
+        );
+        assert_eq!(
+            bad("4C000"),
+            format!("text line 1: \'4C000' {pairs} (column 1)")
+        );
+        assert_eq!(
+            bad("0x4C"),
+            "text line 1: \'0x4C' isn't hexadecimal (column 2)"
+        );
+        assert_eq!(
+            bad("  4G"),
+            "text line 1: \'4G' isn't hexadecimal (column 4)"
+        );
+    }
+
+    #[test]
+    fn pairs_from_any_editor() {
+        let typed = read("\u{FEFF}4C\u{A0}000F\r\n\u{3000}45\r\n".as_bytes()).expect("pairs");
+        assert_eq!(typed.bytes(), [0x4C, 0x00, 0x0F, 0x45]);
+        let bad = |text: &str| read(text.as_bytes()).expect_err("bad pairs").to_string();
+        let full = "text line 2: \'4Ｃ' isn't hexadecimal (column 5: U+FF23 is full-width; type C)";
+        assert_eq!(bad("45\n00 4Ｃ"), full);
+        let minus = "text line 1: \'\u{2212}1' isn't hexadecimal (column 1: U+2212 is a minus)";
+        assert_eq!(bad("\u{2212}1"), minus);
+        // The first fault counts, be it a plain character or not.
+        assert_eq!(
+            bad("4x\u{200B}"),
+            "text line 1: \'4x\\u{200b}' isn't hexadecimal (column 2)"
+        );
+        let unseen = "(column 3: U+200B can't be seen; delete it)";
+        assert_eq!(
+            bad("4C\u{200B}x"),
+            format!("text line 1: \'4C\\u{{200b}}x' isn't hexadecimal {unseen}")
+        );
+        let bytes = read(b"4C \xE9").expect_err("bad pairs").to_string();
+        let no_text = "the byte E9 is no text in UTF-8";
+        assert_eq!(
+            bytes,
+            format!("text line 1: \'\\xE9' isn't hexadecimal (column 4: {no_text})")
+        );
     }
 
     #[test]

@@ -41,5 +41,8 @@ fn sheets_and_networks_that_are_none() {
     assert_eq!(lines[0], "two_lines.hex: invalid digit found in string");
     assert!(lines[1].starts_with("two_lines/no.sheet: "), "{}", lines[1]);
     let why = hall::marks(&format!("{SAMPLES}/two_lines.net"), &[]).unwrap_err();
-    assert!(why.to_string().contains("two_lines.net, line 1: "), "{why}");
+    assert!(
+        why.to_string().contains("two_lines.net, text line 1: "),
+        "{why}"
+    );
 }

@@ -13,6 +13,14 @@ pub enum Status {
     Undecided = 3,
 }
 
-/// Why the engine couldn't be asked or its answer not be written; in words.
+/// Why the engine couldn't be asked or its answer not be written; in words, or
+/// empty where nothing is to be said of it.
 #[derive(Clone, Debug, PartialEq, Eq)]
 pub struct Trouble(pub String);
+
+impl Trouble {
+    /// Nobody is left who wants to know.
+    pub fn unsaid() -> Trouble {
+        Trouble(String::new())
+    }
+}

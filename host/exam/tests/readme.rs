@@ -3,8 +3,10 @@
 
 mod common;
 
-use common::{exam, Folder, ROOT};
+use common::{ended, exam, Folder, Ran, ROOT};
 use papers::child::Limited;
+use std::fs::Permissions;
+use std::os::unix::fs::PermissionsExt;
 use std::os::unix::process::CommandExt;
 use std::process::{Command, Stdio};
 
@@ -147,4 +149,72 @@ fn two_lines_as_bytes() {
     assert_eq!(bytes.out, typed.out);
     // The README's first command says the same.
     assert!(readme().contains("It prints `gap 2 sum 2 tries 21 starts 0 3`"));
+}
+
+/// The first command, found as `.ci/run` finds it: the first indented line under
+/// its heading.
+fn first_command() -> String {
+    let readme = readme();
+    let under = readme.split("## Two commands\n").nth(1).expect("a heading");
+    let command = under.lines().find_map(|line| line.strip_prefix("    "));
+    command.expect("an indented line").to_string()
+}
+
+/// Runs the first command in an empty folder with other programs in place of the
+/// prover and of cargo.
+fn first_command_with(rt: &str) -> (Ran, Folder) {
+    let folder = Folder::new();
+    for (name, script) in [("rt", rt), ("cargo", "echo cargo \"$@\"")] {
+        let program = folder.file(name, format!("#!/bin/sh\n{script}\n"));
+        std::fs::set_permissions(&program, Permissions::from_mode(0o755)).expect("a mode");
+    }
+    let path = std::env::var("PATH").unwrap_or_default();
+    let mut shell = Command::new("bash");
+    shell.args(["-c", &first_command()]);
+    shell.current_dir(folder.path());
+    shell.env("PATH", format!("{}:{path}", folder.name()));
+    shell.stdin(Stdio::null());
+    shell.stdout(Stdio::piped()).stderr(Stdio::piped());
+    (ended(shell.spawn().expect("a shell")), folder)
+}
+
+/// The prover's notes don't stand in front of a clerk, but for a proof that
+/// fails; then nothing is built.
+#[test]
+fn the_first_command_keeps_the_notes() {
+    let (ran, folder) = first_command_with("echo \"rt $@\"; echo a note >&2");
+    assert_eq!((ran.status, ran.err.as_str()), (0, ""));
+    assert!(
+        ran.out.starts_with("cargo run -q --release --offline "),
+        "{ran:?}"
+    );
+    assert!(
+        ran.out.ends_with(" -- best samples/two_lines.hex\n"),
+        "{ran:?}"
+    );
+    assert_eq!(ran.out.lines().count(), 1);
+    let log = std::fs::read_to_string(folder.path().join("target/prove.log"));
+    assert_eq!(log.expect("a log"), "rt staticlib examination\na note\n");
+    let (ran, _folder) = first_command_with("echo a note; echo why it fails >&2; exit 3");
+    assert_eq!(ran.out, "a note\nwhy it fails\n");
+    assert_ne!(ran.status, 0);
+}
+
+/// What the hall's computer needs: the C library, and what comes with it.
+#[test]
+fn the_command_needs_what_is_said() {
+    let Ok(output) = Command::new("ldd").arg(env!("CARGO_BIN_EXE_exam")).output() else {
+        return println!("skipped, there is no ldd");
+    };
+    let text = String::from_utf8_lossy(&output.stdout).into_owned();
+    let known = [
+        "linux-vdso.so.1",
+        "libgcc_s.so.1",
+        "libc.so.6",
+        "ld-linux-x86-64.so.2",
+    ];
+    for line in text.lines() {
+        assert!(known.iter().any(|name| line.contains(name)), "{line}");
+    }
+    assert!(text.contains("libc.so.6"), "{text}");
 }

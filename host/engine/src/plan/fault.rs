@@ -1,6 +1,6 @@
 //! Why a text isn't a plan.
 
-use super::texts::printable;
+use crate::text::shown;
 use std::fmt;
 
 /// Why a text isn't a plan.
@@ -143,15 +143,15 @@ impl fmt::Display for Fault {
         match self {
             Fault::NotText => write!(out, "it isn't UTF-8 text"),
             Fault::Statement { found, expected } => {
-                let found = printable(found);
+                let found = shown(found.as_bytes());
                 write!(out, "'{found}' is no statement; expected {expected}")
             }
             Fault::Number { word, most } => {
-                let word = printable(word);
+                let word = shown(word.as_bytes());
                 write!(out, "'{word}' isn't a number of 0 to {most}, decimal and ")?;
                 write!(out, "without leading zeros")
             }
-            Fault::Name { name, why } => write!(out, "{}", why.words(&printable(name))),
+            Fault::Name { name, why } => write!(out, "{}", why.words(&shown(name.as_bytes()))),
             Fault::NumberTwice { number, name } => write!(out, "stop {number} is '{name}' already"),
             Fault::StopBehindCall => {
                 write!(out, "the number of a stop stands above the first call")
@@ -189,7 +189,7 @@ impl BadName {
             BadName::Missing => "a name is missing".to_string(),
             BadName::Word { word } => format!(
                 "'{}' can't be a word of a name (nor line, stop, every, at and what begins with +)",
-                printable(word)
+                shown(word.as_bytes())
             ),
             BadName::WithoutLetter => {
                 format!("the name '{name}' has no letter, and would be taken for a number")

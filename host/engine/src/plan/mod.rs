@@ -60,7 +60,6 @@ mod fault;
 mod names;
 mod reader;
 mod statement;
-mod texts;
 mod writer;
 
 pub use fault::{BadName, Fault, Misstated};

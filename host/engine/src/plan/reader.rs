@@ -3,7 +3,8 @@
 use super::fault::{BadName, Fault, Misstated};
 use super::names::Names;
 use super::statement::{statement, Minutes, Statement};
-use super::texts::{text_lines, without_comment, Origin};
+use crate::origin::Origin;
+use crate::text;
 use crate::typed::{CALL, END, LINE};
 use std::collections::BTreeMap;
 
@@ -67,9 +68,9 @@ impl Plan {
 /// ```
 pub fn read(text: &[u8]) -> Result<Plan, Misstated> {
     let mut reader = Reader::default();
-    for (before, text_line) in text_lines(text).enumerate() {
+    for (before, text_line) in text::lines(text).enumerate() {
         reader.at = before + 1;
-        let read = statement(without_comment(text_line));
+        let read = statement(text::without_comment(text_line));
         let added = read.and_then(|statement| statement.map_or(Ok(()), |some| reader.add(some)));
         added.map_err(|fault| Misstated {
             line: reader.at,

@@ -1,7 +1,7 @@
 //! One text line of a plan as a statement.
 
 use super::fault::{BadName, Fault};
-use super::texts::is_unseen;
+use crate::text::is_hidden;
 
 const LINE_FORM: &str = "line NAME every PERIOD";
 const STOP_FORM: &str = "stop NUMBER NAME";
@@ -116,7 +116,7 @@ fn bad_name(words: &[&str], name: &str) -> Option<BadName> {
         Some(BadName::Missing)
     } else if name.chars().count() > LONGEST_NAME {
         Some(BadName::TooLong)
-    } else if name.contains(is_unseen) {
+    } else if name.contains(is_hidden) {
         Some(BadName::Unseen)
     } else if !name.contains(char::is_alphabetic) {
         Some(BadName::WithoutLetter)

@@ -5,6 +5,7 @@ use crate::input::sheet;
 use crate::input::source::Source;
 use crate::output::names::shown;
 use crate::status::Trouble;
+use crate::system;
 use engine::Sheet;
 use std::ffi::{OsStr, OsString};
 use std::path::{Path, PathBuf};
@@ -64,7 +65,7 @@ impl Gathered {
         let found = match entries(folder) {
             Ok(found) => found,
             Err(error) => {
-                let message = format!("{}: {error}", shown(folder.as_os_str()));
+                let message = format!("{}: {}", shown(folder.as_os_str()), system::words(&error));
                 return self.troubles.push(Trouble(message));
             }
         };

@@ -1,9 +1,12 @@
 //! Files and standard input, read with a limit and with clear messages.
 
+use crate::closed;
 use crate::status::Trouble;
+use crate::system;
+use engine::text::shown;
 use std::ffi::OsString;
 use std::fs::File;
-use std::io::{self, ErrorKind, Read};
+use std::io::{self, Read};
 use std::path::{Path, PathBuf};
 
 /// Where a network or a sheet comes from.
@@ -22,11 +25,13 @@ impl Source {
         }
     }
 
-    /// The name for messages.
+    /// The name for messages, written out where it has what can't be seen: a line
+    /// end in it can't begin another message.
     pub fn name(&self) -> String {
         match self {
             Source::Input => "standard input".to_string(),
-            Source::File(path) => path.display().to_string(),
+            Source::File(path) if path.as_os_str().is_empty() => "''".to_string(),
+            Source::File(path) => shown(path.as_os_str().as_encoded_bytes()),
         }
     }
 
@@ -65,6 +70,9 @@ impl Source {
 
     /// The first bytes, at most so many.
     pub fn first_bytes(&self, most: u64) -> Result<Vec<u8>, Trouble> {
+        if *self == Source::Input && closed::input() {
+            return Err(Trouble(format!("{} is closed", self.name())));
+        }
         let read = match self {
             Source::Input => beginning(io::stdin().lock(), most),
             Source::File(path) => File::open(path).and_then(|file| beginning(file, most)),
@@ -73,12 +81,7 @@ impl Source {
     }
 
     fn trouble(&self, error: io::Error) -> Trouble {
-        let reason = match error.kind() {
-            ErrorKind::NotFound => "there is no such file".to_string(),
-            ErrorKind::PermissionDenied => "it may not be read".to_string(),
-            _ => error.to_string(),
-        };
-        Trouble(format!("{}: {reason}", self.name()))
+        Trouble(format!("{}: {}", self.name(), system::words(&error)))
     }
 
     /// All bytes; more than the limit is an error.

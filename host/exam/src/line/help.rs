@@ -7,6 +7,7 @@ pub fn overview(verbs: &[&Verb]) -> String {
     let of_verb = |verb: &&Verb| (usage(verb), verb.summary);
     let mut rows: Vec<(String, &str)> = verbs.iter().map(of_verb).collect();
     rows.push(("exam VERB --help".to_string(), "more about a verb"));
+    rows.push(("exam --version".to_string(), "this command and its engine"));
     let width = rows.iter().map(|(usage, _)| usage.len()).max().unwrap_or(0) + 4;
     let lines: String = rows
         .iter()
@@ -30,23 +31,23 @@ pub fn of_verb(verbs: &[&Verb], verb: &Verb) -> String {
 }
 
 /// A verb with its operands.
-fn usage(verb: &Verb) -> String {
+pub fn usage(verb: &Verb) -> String {
     format!("exam {} {}", verb.name, verb.operands)
 }
 
 /// An option with its value.
-fn written(option: &CommandOption) -> String {
+pub fn written(option: &CommandOption) -> String {
     match &option.value {
         None => option.name.to_string(),
         Some(value) => format!("{} {}", option.name, value.placeholder),
     }
 }
 
-const WHAT: &str = "\
+pub const WHAT: &str = "\
 exam: rates and marks timetables, and finds the best one.
 ";
 
-const INPUT: &str = "\
+pub const INPUT: &str = "\
 NETWORK: a name that ends in .plan is a plan, with names and decimal numbers (see
 exam plan --help); .hex or .txt is typed text, hexadecimal pairs with blanks, line
 ends and comments from # to the end of the text line; .net is bytes.
@@ -56,8 +57,8 @@ for each start. A flag (see a verb's help) stands above the ending. A file named
 - is standard input and needs a flag.
 ";
 
-const STATUSES: &str = "\
+pub const STATUSES: &str = "\
 Exit status: 0 done; 1 refused (the words are on standard error), neither sheet,
 or two networks; 2 bad usage, or a file that can't be read or written; 3 undecided,
-the budget was used up.
+the budget was used up; 130 ended by Ctrl-C.
 ";

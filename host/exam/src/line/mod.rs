@@ -6,11 +6,18 @@
 //! | `table.rs`    | what a verb, an option and a request are               |
 //! | `options.rs`  | every option, and what a request says by it            |
 //! | `operands.rs` | the networks and sheets of a request, loaded           |
-//! | `parser.rs`   | words as a request, by the table                       |
+//! | `near.rs`     | near misses of names                                   |
 //! | `help.rs`     | what `--help` prints, by the table                     |
+//! | `man.rs`, `completions.rs` | the manual page and what shells read, by it |
+//! | `pages.rs`    | which of them is printed                               |
+//! | `parser.rs`   | words as a request, by the table                       |
 
-pub mod help;
+mod completions;
+mod help;
+mod man;
+mod near;
 pub mod operands;
 pub mod options;
+pub mod pages;
 pub mod parser;
 pub mod table;

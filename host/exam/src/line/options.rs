@@ -3,6 +3,7 @@
 use super::table::{CommandOption, Request, Value};
 use crate::input::form::Form;
 use crate::input::network;
+use engine::text::shown;
 
 /// What `best` of document 01 has.
 const USUAL_BUDGET: u32 = 1_000_000;
@@ -106,7 +107,8 @@ fn budget_of(text: &str) -> Result<u32, String> {
     match text.parse() {
         Ok(budget) if digits => Ok(budget),
         _ => Err(format!(
-            "the budget '{text}' isn't a number of 0 to {}, or max",
+            "the budget '{}' isn't a number of 0 to {}, or max",
+            shown(text.as_bytes()),
             u32::MAX
         )),
     }

@@ -51,7 +51,7 @@ pub struct Value {
     pub placeholder: &'static str,
     /// What it is in words, for the message that it isn't there.
     pub words: &'static str,
-    /// Says what is wrong with a value.
+    /// Says what is wrong with a value, which it shows by `engine::text::shown`.
     pub check: fn(&str) -> Result<(), String>,
 }
 

@@ -3,7 +3,6 @@
 
 use super::named;
 use super::streams::{put, say};
-use super::text::shown;
 use crate::input::network::Network;
 use crate::status::{Status, Trouble};
 use engine::typed::{commands, pairs, CALL, END, FOLLOW, LINE};
@@ -47,7 +46,7 @@ pub fn explained(refusal: Refusal, network: &Network) -> String {
         place = stated;
     }
     if let Some((number, line)) = network.text_line(place) {
-        text += &format!("\n  text line {number}: {}", shown(line));
+        text += &format!("\n  text line {number}: {line}");
     }
     if let Some((from, to)) = run_over(refusal, network) {
         text += &format!(

@@ -1,11 +1,11 @@
 //! What a verb says: answers, messages and signs of life.
 
 pub mod csv;
+pub mod escape;
 pub mod fault;
 pub mod json;
 pub mod lines;
 pub mod named;
 pub mod names;
 pub mod streams;
-pub mod text;
 pub mod watch;

@@ -1,11 +1,12 @@
 //! Names of files, which may hold every byte but two, as parts of lines.
 
+use engine::text;
 use std::ffi::OsStr;
 
 /// A name as part of a line. What isn't text and what a terminal would obey is
-/// replaced.
+/// written out.
 pub fn shown(name: &OsStr) -> String {
-    name.to_string_lossy().replace(char::is_control, "?")
+    text::shown(name.as_encoded_bytes())
 }
 
 /// The bytes of a name that isn't plain text, in hexadecimal pairs.
@@ -31,7 +32,7 @@ mod tests {
         assert_eq!(shown(plain), "Zoë, \"b\".sheet");
         assert_eq!(bytes_where_no_text(plain), None);
         let odd = OsStr::from_bytes(b"a\x1B\n\xFFz");
-        assert_eq!(shown(odd), "a??\u{FFFD}z");
+        assert_eq!(shown(odd), "a\\u{1b}\\u{a}\\xFFz");
         assert_eq!(bytes_where_no_text(odd).as_deref(), Some("611b0aff7a"));
     }
 }

@@ -11,6 +11,7 @@ mod classes;
 mod forms;
 mod long;
 mod mark;
+mod pages;
 mod parsed;
 mod plan;
 mod rate;

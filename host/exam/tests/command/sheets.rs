@@ -274,9 +274,7 @@ fn names_with_control_characters() {
     let ran = exam(&["mark", HEX, &folder.name()]);
     assert!(ran.out.ends_with(".sheet: unreadable\n"), "{ran:?}");
     assert_eq!((ran.status, ran.out.lines().count()), (2, 1));
-    assert!(ran
-        .err
-        .contains("is no whole number\n1 sheet: 1 unreadable\n"));
+    assert!(ran.err.ends_with("\n1 sheet: 1 unreadable\n"));
     assert!(!ran.out.contains('\u{1B}') && !ran.err.contains('\u{1B}'));
     let path = folder.path().join(name);
     let mut both = command(&["rate", HEX, "samples/two_lines/perfect.sheet"]);

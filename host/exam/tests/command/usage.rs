@@ -1,60 +1,188 @@
 //! Bad usage, and help.
 
-use crate::common::{exam, NET};
+use crate::common::{command, ended, exam, exam_with, Folder, NET, P9};
+
+/// Each has its words, nothing on standard output, and the way to help.
+fn all_are_told(cases: &[(&[&str], &str)]) {
+    for (words, message) in cases {
+        exam(words).told("", 2, &[message, "\ntry: exam"]);
+    }
+}
 
 #[test]
-fn bad_usage() {
-    let cases: [(&[&str], &str); 22] = [
+fn bad_verbs() {
+    all_are_told(&[
         (&[], "say what to do"),
-        (&["rank"], "no verb 'rank'"),
-        (&[""], "no verb ''"),
-        (&["--typed"], "no verb '--typed'"),
-        (&["best"], "'best' wants NETWORK"),
-        (&["best", NET, NET], "'best' wants NETWORK"),
-        (&["rate", NET], "'rate' wants NETWORK SHEET"),
+        (&["rank"], "there is no verb 'rank'\n"),
+        (&[""], "there is no verb ''\n"),
+        (&["raet"], "no verb 'raet'; did you mean 'rate'?"),
+        (&["Mark", NET], "no verb 'Mark'; did you mean 'mark'?"),
+        (&["hlep"], "no verb 'hlep'; did you mean 'help'?"),
+        (&["help", "rank"], "there is no verb 'rank'\n"),
+        (&["--help", "arhive"], "did you mean 'archive'?"),
+        (&["help", "best", "rate"], "'rate' is one too many"),
+        (&["--version", "best"], "'best' is one too many"),
+        (&["help", "--man", "x"], "'x' is one too many"),
+        (
+            &["help", "--completions"],
+            "--completions wants a shell, bash or fish",
+        ),
+        (
+            &["help", "--completions", "sh"],
+            "--completions wants a shell, bash or fish",
+        ),
+    ]);
+}
+
+#[test]
+fn options_before_the_verb() {
+    let after = "stands before the verb; options come after it";
+    all_are_told(&[
+        (&["--typed"], &format!("'--typed' {after}")),
+        (
+            &["--budget", "5", "best", NET],
+            &format!("'--budget' {after}"),
+        ),
+        (&["--budget=5", "best", NET], &format!("'--budget' {after}")),
+        (
+            &["--verison"],
+            "no option '--verison'; did you mean '--version'?",
+        ),
+        (&["-x", "best", NET], "there is no option '-x'\n"),
+    ]);
+}
+
+#[test]
+fn bad_operands() {
+    all_are_told(&[
+        (&["best"], "'best' wants NETWORK; NETWORK is missing"),
+        (
+            &["best", NET, "b.net", "c"],
+            "'best' wants NETWORK; 'b.net' is one too many",
+        ),
+        (
+            &["rate", NET],
+            "'rate' wants NETWORK SHEET-OR-FOLDER..; SHEET-OR-FOLDER is missing",
+        ),
         (
             &["better", NET, "a.sheet"],
-            "'better' wants NETWORK SHEET SHEET",
+            "'better' wants NETWORK SHEET SHEET; SHEET is missing",
         ),
         (&["mark", NET], "'mark' wants NETWORK SHEET-OR-FOLDER"),
-        (&["best", NET, "--fast"], "no option '--fast'"),
+        (&["archive"], "'archive' wants NETWORK"),
+        (&["archive", NET, NET], "'archive' wants NETWORK"),
+        (&["same", NET], "'same' wants NETWORK NETWORK"),
+        (&["same", NET, NET, "c.net"], "'c.net' is one too many"),
+        (&["rate", "-", "-"], "one file only"),
+        (&["same", "-", "-", "--typed"], "one file only"),
+    ]);
+}
+
+#[test]
+fn options_that_are_none() {
+    all_are_told(&[
+        (&["best", NET, "--fast"], "'best' has no option '--fast'\n"),
         (&["best", NET, "-q"], "no option '-q'"),
-        (&["read", NET, "--quiet"], "no option '--quiet'"),
+        (
+            &["best", NET, "--budgte", "5"],
+            "'--budgte'; did you mean '--budget'?",
+        ),
+        (
+            &["best", NET, "--bugdet=5"],
+            "'--bugdet=5'; did you mean '--budget'?",
+        ),
+        (
+            &["best", NET, "-quiet"],
+            "'-quiet'; did you mean '--quiet'?",
+        ),
+    ]);
+}
+
+#[test]
+fn options_that_a_verb_has_not() {
+    all_are_told(&[
+        // What the verb hasn't isn't what was meant.
+        (&["read", NET, "--qiet"], "'read' has no option '--qiet'\n"),
+        (&["read", NET, "--quiet"], "no option '--quiet'\n"),
         (&["best", NET, "--rows"], "no option '--rows'"),
         (&["best", NET, "--sheet-bytes"], "no option '--sheet-bytes'"),
-        (&["rate", NET, "a.sheet", "--budget", "1"], "has no budget"),
+        (&["archive", NET, "--rows"], "no option '--rows'"),
+        (&["read", NET, "--raw"], "no option '--raw'"),
+        (&["same", NET, NET, "--raw"], "no option '--raw'"),
+        (
+            &["rate", NET, "a.sheet", "--budget", "1"],
+            "'rate' searches nothing and has no budget",
+        ),
+        (&["archive", NET, "--budget=1"], "has no budget"),
+    ]);
+}
+
+#[test]
+fn options_that_cannot_be() {
+    all_are_told(&[
+        (&["best", NET, "--typed=no"], "--typed takes no value"),
+        (
+            &["best", NET, "--typed", "--bytes"],
+            "--typed and --bytes contradict each other",
+        ),
+        (
+            &["best", NET, "--bytes", "--typed"],
+            "--bytes and --typed contradict each other",
+        ),
+        (
+            &["best", NET, "--quiet", "--quiet"],
+            "--quiet is given twice",
+        ),
+    ]);
+}
+
+#[test]
+fn bad_budgets() {
+    all_are_told(&[
         (&["best", NET, "--budget"], "--budget wants a number"),
-        (&["best", NET, "--budget", "-1"], "budget '-1'"),
+        (
+            &["best", NET, "--budget", "-1"],
+            "the budget '-1' isn't a number of 0 to 4294967295",
+        ),
         (
             &["best", NET, "--budget", "4294967296"],
             "budget '4294967296'",
         ),
         (&["best", NET, "--budget", "+5"], "budget '+5'"),
         (&["best", NET, "--budget="], "budget ''"),
-        (&["best", NET, "--typed", "--bytes"], "contradict"),
-        (&["rate", "-", "-"], "one file only"),
-    ];
-    for (words, message) in cases {
-        exam(words).told("", 2, &[message, "try: exam"]);
-    }
+        (&["best", NET, "--budget", "５"], "budget '５'"),
+        (
+            &["best", NET, "--budget=1", "--budget", "2"],
+            "--budget is given twice",
+        ),
+    ]);
 }
 
+/// Behind `--` a name may begin with a dash; `-` alone stays standard input.
 #[test]
-fn bad_usage_of_archive_and_same() {
-    let cases: [(&[&str], &str); 9] = [
-        (&["archive"], "'archive' wants NETWORK"),
-        (&["archive", NET, NET], "'archive' wants NETWORK"),
-        (&["archive", NET, "--budget=1"], "has no budget"),
-        (&["archive", NET, "--rows"], "no option '--rows'"),
-        (&["read", NET, "--raw"], "no option '--raw'"),
-        (&["same", NET], "'same' wants NETWORK NETWORK"),
-        (&["same", NET, NET, NET], "'same' wants NETWORK NETWORK"),
-        (&["same", NET, NET, "--raw"], "no option '--raw'"),
-        (&["same", "-", "-", "--typed"], "one file only"),
-    ];
-    for (words, message) in cases {
-        exam(words).told("", 2, &[message, "try: exam"]);
-    }
+fn names_that_begin_with_a_dash() {
+    let folder = Folder::new();
+    folder.file("--help", "4C000F 4300000008 45");
+    folder.file("-s.sheet", "5");
+    let there = |words: &[&str]| {
+        let mut command = command(words);
+        ended(
+            command
+                .current_dir(folder.path())
+                .spawn()
+                .expect("exam starts"),
+        )
+    };
+    let words = ["rate", "--typed", "--", "--help", "-s.sheet"];
+    there(&words).printed("gap 15 sum 15\n", 0);
+    there(&["rate", "--typed", "./--help", "-s.sheet"]).told("", 2, &["no option '-s.sheet'"]);
+    there(&["read", "--typed", "--", "--", "-x"]).told("", 2, &["'-x' is one too many"]);
+    there(&["read", "--", "--typed"]).told("", 2, &["--typed: there is no such file"]);
+    exam_with(&["read", "--typed", "--", "-"], P9.as_bytes()).told(
+        "lines 2 stops 3 calls 6 cycle 60\n",
+        0,
+        &[],
+    );
 }
 
 #[test]
@@ -122,6 +250,7 @@ fn help_in_columns() {
   exam plan NETWORK                      a network as a plan, with names and decimal numbers
   exam type NETWORK                      a plan in hexadecimal, or as bytes
   exam VERB --help                       more about a verb
+  exam --version                         this command and its engine
 
 NETWORK: a name";
     assert!(exam(&["--help"]).out.contains(overview));
