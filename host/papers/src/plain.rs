@@ -4,8 +4,8 @@
 //! length, so that a call takes nothing from the heap.
 
 use crate::sections::network::{
-    Refusal, CALL, END, FOLLOW, LINE, MAX_CALLS, MAX_CALLS_AT_STOP, MAX_CYCLE, MAX_LINES,
-    MAX_OFFSET, MAX_PERIOD, STOPS,
+    Refusal, CALL, END, FOLLOW, LINE, MAX_CALLS, MAX_CYCLE, MAX_LINES, MAX_OFFSET, MAX_PERIOD,
+    STOPS,
 };
 use crate::sections::rating::Rating;
 
@@ -26,17 +26,6 @@ pub fn rate(file: &[u8], sheet: &[u8]) -> Result<Rating, Refusal> {
     Ok(net.rating(&net.starts(sheet)))
 }
 
-/// The most calls that a stop can have.
-const MAX_AT_STOP: usize = MAX_LINES * MAX_CALLS_AT_STOP;
-
-/// A call, and the number of the call before it at its stop, counted from 1.
-#[derive(Clone, Copy)]
-struct Call {
-    line: u8,
-    offset: u16,
-    before: u16,
-}
-
 /// What has been read of a file.
 struct Network {
     lines: usize,
@@ -44,7 +33,11 @@ struct Network {
     /// The least common multiple of the periods.
     cycle: u32,
     count: usize,
-    calls: [Call; MAX_CALLS],
+    /// The calls, 65,536 × line + offset.
+    calls: [u32; MAX_CALLS],
+    /// For each call the number of the one before it at its stop, counted from 1,
+    /// 0 where there is none.
+    before: [u16; MAX_CALLS],
     /// The offset of each line's latest call.
     latest: [Option<u32>; MAX_LINES],
     /// For each stop the number of its latest call, 0 where there is none.
@@ -66,11 +59,8 @@ impl Network {
             periods: [0; MAX_LINES],
             cycle: 1,
             count: 0,
-            calls: [Call {
-                line: 0,
-                offset: 0,
-                before: 0,
-            }; MAX_CALLS],
+            calls: [0; MAX_CALLS],
+            before: [0; MAX_CALLS],
             latest: [None; MAX_LINES],
             last: [0; STOPS],
             lines_at: [0; STOPS],
@@ -148,11 +138,8 @@ impl Network {
         self.twice_at[stop] |= self.lines_at[stop] & (1 << line);
         self.lines_at[stop] |= 1 << line;
         self.latest[line] = Some(offset);
-        self.calls[self.count] = Call {
-            line: line as u8,
-            offset: offset as u16,
-            before: self.last[stop],
-        };
+        self.calls[self.count] = 65_536 * line as u32 + offset;
+        self.before[self.count] = self.last[stop];
         self.count += 1;
         self.last[stop] = self.count as u16;
         Ok(())
@@ -229,25 +216,29 @@ impl Network {
     /// calls. Of the difference of two arrivals the sign doesn't matter: it
     /// exchanges d and g-d.
     fn stop_gap(&self, stop: usize, starts: &LineRow, divisors: &[LineRow; MAX_LINES]) -> u32 {
-        let mut arrivals = [(0, 0); MAX_AT_STOP];
-        let mut count = 0;
+        let call = |number: u16| {
+            let at = usize::from(number) - 1;
+            let (line, offset) = (self.calls[at] / 65_536, self.calls[at] % 65_536);
+            let line = line as usize % MAX_LINES;
+            (line, starts[line] + offset, self.before[at])
+        };
+        let (line, _, before) = call(self.last[stop]);
+        if before == 0 {
+            return self.periods[line];
+        }
         let mut least = u32::MAX;
         let mut number = self.last[stop];
         while number != 0 {
-            let call = self.calls[usize::from(number) - 1];
-            let line = usize::from(call.line);
-            if count == 0 && call.before == 0 {
-                return self.periods[line];
-            }
-            let arrival = starts[line] + u32::from(call.offset);
-            for &(other, later) in &arrivals[..count] {
-                let g: u32 = divisors[line][other];
-                let d = u32::abs_diff(arrival, later) % g;
+            let (line, arrival, before) = call(number);
+            let mut other = before;
+            while other != 0 {
+                let (earlier, reached, next) = call(other);
+                let g = divisors[line][earlier];
+                let d = u32::abs_diff(arrival, reached) % g;
                 least = least.min(d).min(g - d);
+                other = next;
             }
-            arrivals[count] = (line, arrival);
-            count += 1;
-            number = call.before;
+            number = before;
         }
         least
     }
