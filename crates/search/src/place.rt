@@ -1,4 +1,4 @@
-// Placing a line: the upper values of its stops fall to the gaps of its pairs with lines placed before.
+// Placing a line: the upper values of its stops fall to the gaps of its calls with those placed before, its own among them.
 use crate::Cut;
 use crate::Ordered;
 use crate::Placed;
