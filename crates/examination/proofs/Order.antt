@@ -42,6 +42,8 @@ pub use Rattle.search.proofs.Cases.{P1-to-P9}
 -- tries it reports are at most 1 + T1 + T1×T2 + .. over the periods after the first. It finishes under every 32-bit budget of at least that sum,
 -- where one exists"
 pub use Rattle.search.proofs.Demands.{search-demand-3}
+-- "with whichever budget": a finished search has the same answer, tries and starts under every larger one
+pub use Rattle.search.proofs.Demands.{finished-with-more-tries}
 pub use Rattle.examination.proofs.ExportDemands.{search-export-demand-3}
 -- "Every choice of whole-number starts rates the same over the lowest stops alone, with their weights, as over all stops, lowest stops and weights
 -- being those in the rows that the class call fills by document 01"

@@ -3,7 +3,7 @@
 -- where they keep the contract in src/, which every call does. Assumes nothing.
 use Prim.Native.Nat.{ℕ, _+_, _≤_, _<_}
 use mathlib.Core.Path.{_≡_, sym, ap, ap₂, _∙_}
-use mathlib.Core.Bool.{Bool, true}
+use mathlib.Core.Bool.{Bool, true, false}
 use mathlib.Core.List.{List, _∷_}
 use mathlib.Core.Logic.{_⊎_}
 use borrow.Fn.World.{ArgsD, ResD}
@@ -21,11 +21,13 @@ use Rattle.network.specs.Valid.{IsBytes, Valid, noCall}
 use Rattle.network.specs.Rating.{IsStopGap, IsRating, gapOfCalls, callsOfStop, rating}
 use Rattle.network.proofs.Laws.Gaps.{accepted-valid, rating-is-rating, IsRating-range, IsStopGap-unique}
 use Rattle.search.specs.Caps.{cap}
+use Rattle.search.specs.Walk.{State}
 use Rattle.search.specs.Search.{SearchOutcome, finished, stopped, stoppedWithNone, refusal, searchAnswer, triesOf, productsFrom}
 use Rattle.search.specs.Search.{searched, outcomeOf, searchOutcome, startRowAfter}
 use Rattle.search.proofs.Laws.Caps.{cap-sound, cap-le-own-gap}
 use Rattle.search.proofs.Laws.Optimal.{searched-some, searched-length, searched-first, searched-below, searched-rating, searched-best, searched-stopped}
 use Rattle.search.proofs.Laws.Optimal.{triesBound-products}
+use Rattle.search.proofs.Laws.MoreTries.{searched-with-more}
 use Rattle.search.proofs.Laws.Outcome.{fit-outcome, fit-row, AnswerTells, told-of-finished, told-of-stopped, told-of-none}
 use Rattle.search.proofs.Laws.Outcome.{outcome-tries-le, outcome-tries-le-budget, outcome-finished}
 use Rattle.search.proofs.Laws.Reordered.{searchOutcome-same, startRowAfter-same}
@@ -238,6 +240,52 @@ module _ (κs : Lfts 2) (a : ArgsD search.signature κs) (r : ResD search.signat
             ∙ ap₂ (λ (row : List ℤ) (budget : ℕ). startRowAfter (accepted n) budget row) rows budgets
             ∙ ap (λ (k : Reading). startRowAfter k (a′ .1 .1 .0) (a′ .1 .0 .now)) (sym reads′)
             ∙ sym (kept′ .1 .0),
+      )
+
+-- ---- A finished search has the same answer, tries and starts under every larger budget
+
+module _ {file : List ℕ} {row row′ : List ℤ} {budget more : ℕ} {answer answer′ : SearchOutcome} {exit exit′ : List ℤ}
+    (call : Searches file row budget answer exit) (other : Searches file row′ more answer′ exit′) {n : Net} (reads : readFile file ≡ accepted n)
+    (rows : length row ≡ length row′) (larger : budget ≤ more) {least sum tries : ℕ} (ends : answer ≡ finished least sum tries) where
+  told : AnswerTells n (length row) budget least sum tries false
+  told = told-of-finished n (length row) budget (answer-is call reads ends)
+
+  walked-alike : searched n more ≡ searched n budget
+  walked-alike = searched-with-more n budget more larger (told .stops)
+
+  some-best : searched n budget .best .some ≡ true
+  some-best = searched-some (accepted-valid file n (call .bytes) reads) budget (told .stops)
+
+  answered-alike : answer′ ≡ finished least sum tries
+  answered-alike =
+      other .answered
+      ∙ ap (λ (k : Reading). searchOutcome k (length row′) more) reads
+      ∙ fit-outcome n row′ more (sym rows ∙ told .fits)
+      ∙ ap outcomeOf walked-alike
+      ∙ sym (fit-outcome n row budget (told .fits))
+      ∙ answer-is call reads ends
+
+  left-alike : exit′ ≡ exit
+  left-alike =
+      other .left
+      ∙ ap (λ (k : Reading). startRowAfter k more row′) reads
+      ∙ fit-row n row′ more (sym rows ∙ told .fits)
+      ∙ ap (λ (s : State). pick (s .best .some) (s .starts) row′) walked-alike
+      ∙ ap (λ (b : Bool). pick b (searched n budget .starts) row′) some-best
+      ∙ sym (written call reads told some-best)
+
+-- Of two calls on one file with rows of the same length
+module _ (κs : Lfts 2) (a : ArgsD search.signature κs) (r : ResD search.signature κs)
+    (s : AtExit (endedOf 2 search-kinds.ps search-kinds.r) κs) (kept : search-contract.Post κs a r s) (κs′ : Lfts 2) (a′ : ArgsD search.signature κs′)
+    (r′ : ResD search.signature κs′) (s′ : AtExit (endedOf 2 search-kinds.ps search-kinds.r) κs′) (kept′ : search-contract.Post κs′ a′ r′ s′) where
+  pub finished-with-more-tries : a .0 .now ≡ a′ .0 .now → {n : Net} → readFile (a .0 .now) ≡ accepted n
+      → length (a .1 .0 .now) ≡ length (a′ .1 .0 .now) → a .1 .1 .0 ≤ a′ .1 .1 .0 → {least sum tries : ℕ} → searchAnswer r ≡ finished least sum tries
+      → (searchAnswer r′ ≡ finished least sum tries) × (s′ .1 .0 .now ≡ s .1 .0 .now)
+  finished-with-more-tries file reads rows larger ends =
+      let call : Searches (a .0 .now) (a .1 .0 .now) (a .1 .1 .0) (searchAnswer r) (s .1 .0 .now) = searches κs a r s kept in
+      let other : Searches (a .0 .now) (a′ .1 .0 .now) (a′ .1 .1 .0) (searchAnswer r′) (s′ .1 .0 .now) = rw file (searches κs′ a′ r′ s′ kept′) in (
+        answered-alike call other reads rows larger ends,
+        left-alike call other reads rows larger ends,
       )
 
 -- ---- Caps, with loop routes (document 02, A.2), of every accepted file

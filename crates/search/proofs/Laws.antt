@@ -22,6 +22,7 @@ pub mod Placing
 pub mod Tries
 pub mod SearchCall
 pub mod Optimal
+pub mod MoreTries
 pub mod Outcome
 pub mod Reordered
 pub mod Answers

@@ -1,7 +1,7 @@
 //! Whether standard input and standard output were open when the command was
 //! started. Rust opens /dev/null in place of a closed one before `main`, so that
 //! an answer would vanish with status 0; it can only be asked before that, and
-//! only by the C library. This is the one file of the command with unsafe code.
+//! only by the C library. Only this file and `interrupt.rs` have unsafe code.
 //!
 //! Why it is sound: the list `.init_array` is of functions that the C library
 //! calls once, on one thread, before `main`; the one here uses none of the

@@ -2,7 +2,7 @@
 //! what is known by then can be said before the command ends.
 //!
 //! The standard library has no signals, so this file declares the two functions
-//! of the C library that it takes; `deny(unsafe_code)` holds for all others. The
+//! of the C library that it takes; only it and `closed.rs` have unsafe code. The
 //! handler does no more than note that the signal came. Who watches the search
 //! looks for the note.
 

@@ -3,10 +3,10 @@
 //!
 //! The engine says nothing until a call is done. So a large budget is asked for
 //! in stages, a thousandth, a hundredth, a tenth and then all of it, each a search
-//! from the beginning: together at most a ninth more tries than the budget. The
-//! walk is the same with every budget until it is used up. Where a stage finishes,
-//! its answer is that of the whole budget, and where the last one stops, that is
-//! the call with the whole budget itself.
+//! from the beginning: together at most a ninth more tries than the budget. Where
+//! a stage finishes, its answer is that of the whole budget: the engine is proved to
+//! answer alike then (`finished-with-more-tries` of the search's page). Where the
+//! last one stops, that is the call with the whole budget itself.
 
 use crate::output::lines::{search_line, shown};
 use crate::output::watch::{Watch, Watched};
