@@ -1,7 +1,7 @@
 -- A walk that isn't stopped by its budget is the same under every larger one, whatever its rule: it looks at the budget only to stop, and a try that
 -- is due below the one budget is due below the other. By induction over the lines and the starts of a line. Assumes nothing.
 use Prim.Native.Nat.{ℕ, zero, suc, _+_, _≤_}
-use mathlib.Core.Path.{_≡_, refl, ap, _∙_}
+use mathlib.Core.Path.{_≡_, refl, _∙_}
 use mathlib.Core.Bool.{true, false}
 use mathlib.Core.List.{List, [], _∷_, _++_}
 use mathlib.Core.Logic.{_⊎_, inl, inr}
