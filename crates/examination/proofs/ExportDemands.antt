@@ -5,7 +5,7 @@ use Prim.Native.Nat.{ℕ, _*_, _<_, _≤_}
 use mathlib.Core.Path.{_≡_, refl, sym, ap, ap₂, _∙_}
 use mathlib.Core.Bool.{Bool, true, false}
 use mathlib.Core.List.{List, [], _∷_}
-use mathlib.Core.Logic.{_⊎_, inl, inr}
+use mathlib.Core.Logic.{_⊎_, inl, inr, _↔_}
 use native.Mathlib.Omega.{arith}
 use borrow.Author.Tests.{eqb-true, eqb-false, eq-eqb, ne-eqb}
 use borrow.Fn.World.{ArgsD, ResD}
@@ -595,3 +595,21 @@ module _ (κs : Lfts 3) (a : ArgsD better.signature κs) (r : ResD better.signat
             → ((r ≡ 1) × ((least′ < least) ⊎ ((least′ ≡ least) × (sum′ ≤ sum)))) ⊎ ((r ≡ 2) × ((least < least′) ⊎ ((least ≡ least′) × (sum < sum′))))
         go first is (first-not-below c) = inl (is, c)
         go second is (second-above c) = inr (is, c)
+
+    -- Beside a key that the first sheet doesn't beat, such as the starts of a finished search (`finished-is-best` of `HallSearch`), the answer is the
+    -- first exactly where both have one rating: so a host marks many sheets by one search
+    pub better-export-beside-key : (one key : List ℤ) → All32 one → All32 key → length one ≡ length (n .periods) → length key ≡ length (n .periods)
+        → a .1 .0 .now ≡ bytesOf one → a .1 .1 .0 .now ≡ bytesOf key
+        → {least sum least′ sum′ : ℕ} → IsRating n one least sum → IsRating n key least′ sum′
+        → (least < least′) ⊎ ((least ≡ least′) × (sum ≤ sum′)) → (r ≡ 1) ↔ ((least ≡ least′) × (sum ≡ sum′))
+    better-export-beside-key one key in32 in32′ fit fit′ lent lent′ {least} {sum} {least′} {sum′} p q unbeaten =
+        go (better-export-both-fit one key in32 in32′ fit fit′ lent lent′ p q) unbeaten
+      where
+        go : ((r ≡ 1) × ((least′ < least) ⊎ ((least′ ≡ least) × (sum′ ≤ sum)))) ⊎ ((r ≡ 2) × ((least < least′) ⊎ ((least ≡ least′) × (sum < sum′))))
+            → (least < least′) ⊎ ((least ≡ least′) × (sum ≤ sum′)) → (r ≡ 1) ↔ ((least ≡ least′) × (sum ≡ sum′))
+        go (inl (e, inl c)) (inl d) = absurd (omega (arith, c, d))
+        go (inl (e, inl c)) (inr d) = absurd (omega (arith, c, d))
+        go (inl (e, inr c)) (inl d) = absurd (omega (arith, c, d))
+        go (inl (e, inr c)) (inr d) = (λ f. (d .0, omega (arith, c, d)), λ f. e)
+        go (inr (e, inl c)) d = (λ f. absurd (omega (arith, e, f)), λ f. absurd (omega (arith, c, f)))
+        go (inr (e, inr c)) d = (λ f. absurd (omega (arith, e, f)), λ f. absurd (omega (arith, c, f)))

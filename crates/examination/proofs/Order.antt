@@ -58,6 +58,8 @@ pub use Rattle.examination.proofs.ExportDemands.{weighted-export-as-rat
 -- budget was too small
 pub use Rattle.examination.proofs.Demands.{mark-means-what-it-says}
 pub use Rattle.examination.proofs.ExportDemands.{mark-export-means}
+-- Many sheets by one search: beside the key better-of-two answers the sheet exactly where both have one rating
+pub use Rattle.examination.proofs.ExportDemands.{better-export-beside-key}
 -- ---- Document 02, A.1
 
 -- "A writer is to produce the archive form of an accepted file into a lent row: lines in order, then calls by line and then stop, all as 43, then

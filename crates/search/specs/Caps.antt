@@ -1,5 +1,5 @@
--- Document 01, "Caps", and document 02, A.2: the cap of a stop, its upper value with only some lines placed, and the upper rating. (An upper value is an upper
--- bound of the stop's gap over all completions of a partial timetable, and the upper rating one of the rating.)
+-- Document 01, "Caps", and document 02, A.2: the cap of a stop, its upper value with only some lines placed, and the upper rating. (An upper value is
+-- an upper bound of the stop's gap over all completions of a partial timetable, and the upper rating one of the rating.)
 use Prim.Native.Nat.{ℕ, _/_, min}
 use mathlib.Core.List.{List, [], _∷_}
 use lib.Dec.{eqb, ltb}
