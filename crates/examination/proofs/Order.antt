@@ -8,21 +8,23 @@ pub use Rattle.network.proofs.Demands.{read-asks-nothing, rate-asks-nothing, we
 pub use Rattle.search.proofs.Demands.{search-asks-nothing}
 pub use Rattle.examination.proofs.Demands.{better-asks-nothing, mark-asks-nothing}
 pub use Rattle.examination.proofs.ExportDemands.{read-export-asks-nothing, rate-export-asks-nothing, weighted-export-asks-nothing}
-pub use Rattle.examination.proofs.ExportDemands.{classes-export-asks-nothing, archive-export-asks-nothing, search-export-asks-nothing}
-pub use Rattle.examination.proofs.ExportDemands.{better-export-asks-nothing, mark-export-asks-nothing}
+pub use Rattle.examination.proofs.ExportDemands.{classes-export-asks-nothing, archive-export-asks-nothing}
+pub use Rattle.examination.proofs.ExportSearch.{search-export-asks-nothing, mark-export-asks-nothing}
+pub use Rattle.examination.proofs.ExportBetter.{better-export-asks-nothing}
 -- "faulty input and no other gets the refusal number and place that document 01 sets ..., and a refused call leaves each lent row exactly as it
 -- found it"
 pub use Rattle.network.proofs.Demands.{read-demand-1, file-gives, file-gives-no-other, rate-demand-1, weighted-demand-1, classes-demand-1, archive-demand-1}
 pub use Rattle.search.proofs.Demands.{search-demand-1}
 pub use Rattle.examination.proofs.Demands.{mark-demand-1}
 pub use Rattle.examination.proofs.ExportDemands.{read-export-demand-1, rate-export-demand-1, weighted-export-demand-1}
-pub use Rattle.examination.proofs.ExportDemands.{classes-export-demand-1, archive-export-demand-1, search-export-demand-1, mark-export-demand-1}
+pub use Rattle.examination.proofs.ExportDemands.{classes-export-demand-1, archive-export-demand-1}
+pub use Rattle.examination.proofs.ExportSearch.{search-export-demand-1, mark-export-demand-1}
 -- "(better-of-two answers by its part alone)"
 pub use Rattle.examination.proofs.Demands.{better-file-refused, better-neither-fits, better-only-first-fits, better-only-second-fits}
 pub use Rattle.examination.proofs.Demands.{better-both-fit}
-pub use Rattle.examination.proofs.ExportDemands.{better-export-file-refused, better-export-neither-fits, better-export-only-first-fits}
-pub use Rattle.examination.proofs.ExportDemands.{better-export-only-second-fits, better-export-both-fit}
-pub use Rattle.examination.proofs.ExportDemands.{better-export-returns, better-export-names-the-part}
+pub use Rattle.examination.proofs.ExportBetter.{better-export-file-refused, better-export-neither-fits, better-export-only-first-fits}
+pub use Rattle.examination.proofs.ExportBetter.{better-export-only-second-fits, better-export-both-fit}
+pub use Rattle.examination.proofs.ExportBetter.{better-export-returns, better-export-names-the-part}
 -- Document 01, "The read call returns the numbers of lines, served stops and calls, and the common cycle"
 pub use Rattle.network.proofs.Demands.{read-answers}
 pub use Rattle.examination.proofs.ExportDemands.{read-export-answers}
@@ -44,7 +46,7 @@ pub use Rattle.search.proofs.Cases.{P1-to-P9}
 pub use Rattle.search.proofs.Demands.{search-demand-3}
 -- "with whichever budget": a finished search has the same answer, tries and starts under every larger one
 pub use Rattle.search.proofs.Demands.{finished-with-more-tries}
-pub use Rattle.examination.proofs.ExportDemands.{search-export-demand-3}
+pub use Rattle.examination.proofs.ExportSearch.{search-export-demand-3}
 -- "Every choice of whole-number starts rates the same over the lowest stops alone, with their weights, as over all stops, lowest stops and weights
 -- being those in the rows that the class call fills by document 01"
 pub use Rattle.network.proofs.Demands.{classes-demand-3}
@@ -57,9 +59,9 @@ pub use Rattle.examination.proofs.ExportDemands.{weighted-export-as-rat
 -- What a mark means: decided and equal, no whole-number starts rate above the sheet; decided and not equal, some do; undecided, only where the
 -- budget was too small
 pub use Rattle.examination.proofs.Demands.{mark-means-what-it-says}
-pub use Rattle.examination.proofs.ExportDemands.{mark-export-means}
+pub use Rattle.examination.proofs.ExportSearch.{mark-export-means}
 -- Many sheets by one search: beside the key better-of-two answers the sheet exactly where both have one rating
-pub use Rattle.examination.proofs.ExportDemands.{better-export-beside-key}
+pub use Rattle.examination.proofs.ExportBetter.{better-export-beside-key}
 -- ---- Document 02, A.1
 
 -- "A writer is to produce the archive form of an accepted file into a lent row: lines in order, then calls by line and then stop, all as 43, then
