@@ -1,5 +1,5 @@
--- The cases P1 to P9 of document 01, as one theorem over a list of cases: by the definitions, from the files' bytes. Each side computes.
--- Assumes nothing.
+-- The cases P1 to P9 of document 01, as one theorem over a list of cases, and with a wanted gap (document 02, A.3) as another: by the
+-- definitions, from the files' bytes. Each side computes. Assumes nothing.
 use Prim.Native.Nat.{ℕ}
 use mathlib.Core.Path.{_≡_, refl}
 use mathlib.Core.List.{List, [], _∷_}
@@ -19,11 +19,14 @@ use Rattle.network.specs.Classes.{ordered, remainder, sameLine, sameRemainder, 
 use Rattle.network.specs.Loops.{ownGap}
 use Rattle.search.specs.Caps.{halfOf, pairCap, pairCaps, evenSpacing, capOfCalls, cap, placedCalls, upperValue, upperRating}
 use Rattle.search.specs.Walk.{isOver, tryMade, stop, becomesBest, unless, stopIf, oneTry, eachStart, walk, mostTries}
-use Rattle.search.specs.Search.{SearchOutcome, finished, stopped, stoppedWithNone, startCounts, notAbove, aboveBest, searched, triesBound, walkOutcome, outcomeOf, searchOutcome, startRowAfter}
+use Rattle.search.specs.Search.{SearchOutcome, finished, stopped, stoppedWithNone, startCounts, notAbove, aboveBest, walked, triesBound, walkOutcome, outcomeOf}
+use Rattle.search.specs.Search.{onStartRow, rowAfterWalk, searchOutcome, startRowAfter}
+use Rattle.search.specs.Wanted.{WantedOutcome, atLeast, reachedBy, reachedOf, wantedOutcome, wantedRowAfter}
+use Rattle.search.specs.Wanted as wanted
 
 -- Opens every definition
 opened : ℕ
-unfolding any keep allBelow countBelow below sumOf leastOf gcd gcdWithin lcm commonCycle cycleFrom cycle callsAt howOftenAt callsAnywhere isServed servedStops latestOffset word command operandBytes lineOperand stopOperand statedOffset rideOffset withLine withCall callOf extend first cutOff periodOutOfRange someLineSilent callGrounds grounds proceed readFrom readFile readOutcome residue fold gapOf arrivalOf periodOf gapOfCalls pairGaps gapOfStop callsOfStop stopGap eachOnce counted ratingBy servedList ratingOver rating isAbove ratingValues onSheet rateOutcome insertBy sortBy notAfter tidy ordered remainder sameLine sameRemainder isAlike firstBelow lowestAlike isLowest table classRow weightRow classCount leastFrom halfOf ownGap pairCap pairCaps evenSpacing capOfCalls cap placedCalls upperValue upperRating isOver tryMade stop becomesBest unless stopIf oneTry eachStart walk mostTries startCounts notAbove aboveBest searched triesBound walkOutcome outcomeOf searchOutcome startRowAfter pairsOf
+unfolding any keep allBelow countBelow below sumOf leastOf gcd gcdWithin lcm commonCycle cycleFrom cycle callsAt howOftenAt callsAnywhere isServed servedStops latestOffset word command operandBytes lineOperand stopOperand statedOffset rideOffset withLine withCall callOf extend first cutOff periodOutOfRange someLineSilent callGrounds grounds proceed readFrom readFile readOutcome residue fold gapOf arrivalOf periodOf gapOfCalls pairGaps gapOfStop callsOfStop stopGap eachOnce counted ratingBy servedList ratingOver rating isAbove ratingValues onSheet rateOutcome insertBy sortBy notAfter tidy ordered remainder sameLine sameRemainder isAlike firstBelow lowestAlike isLowest table classRow weightRow classCount leastFrom halfOf ownGap pairCap pairCaps evenSpacing capOfCalls cap placedCalls upperValue upperRating isOver tryMade stop becomesBest unless stopIf oneTry eachStart walk mostTries startCounts notAbove aboveBest walked triesBound walkOutcome outcomeOf onStartRow rowAfterWalk searchOutcome startRowAfter atLeast reachedBy reachedOf wantedOutcome wantedRowAfter pairsOf
 opened = 0
 
 -- The files
@@ -39,10 +42,15 @@ p8 = 0x4C ∷ 0 ∷ 60 ∷ 0x4C ∷ 0 ∷ 60 ∷ 0x4C ∷ 0 ∷ 12 ∷ 0x43 ∷ 
 pub p9 : List ℕ
 p9 = 0x4C ∷ 0 ∷ 20 ∷ 0x4C ∷ 0 ∷ 30 ∷ 0x43 ∷ 0 ∷ 0 ∷ 0 ∷ 0 ∷ 0x43 ∷ 1 ∷ 0 ∷ 0 ∷ 0 ∷ 0x43 ∷ 0 ∷ 1 ∷ 0 ∷ 7 ∷ 0x43 ∷ 1 ∷ 1 ∷ 0 ∷ 17 ∷ 0x43 ∷ 0 ∷ 2 ∷ 0 ∷ 5 ∷ 0x43 ∷ 1 ∷ 2 ∷ 0 ∷ 8 ∷ 0x45 ∷ []
 
--- A case: a sheet that is rated, a search with its budget, and the classes and weights of the first stops
+-- Two lines of 4, at stop 0 with offsets 0 and 0, at stop 1 with 0 and 1
+pub twoStops : List ℕ
+twoStops = 0x4C ∷ 0 ∷ 4 ∷ 0x4C ∷ 0 ∷ 4 ∷ 0x43 ∷ 0 ∷ 0 ∷ 0 ∷ 0 ∷ 0x43 ∷ 1 ∷ 0 ∷ 0 ∷ 0 ∷ 0x43 ∷ 0 ∷ 1 ∷ 0 ∷ 0 ∷ 0x43 ∷ 1 ∷ 1 ∷ 0 ∷ 1 ∷ 0x45 ∷ []
+
+-- A case: a sheet that is rated, a search with its budget, a wanted gap with its budget, and the classes and weights of the first stops
 pub data Case : Type 0 where
   rates : List ℕ → List ℤ → ℕ → ℕ → Case
   searches : List ℕ → ℕ → SearchOutcome → List ℤ → Case
+  wants : List ℕ → ℕ → ℕ → WantedOutcome → List ℤ → Case
   classes : List ℕ → List ℕ → List ℕ → ℕ → Case
 
 pub rowsOf : Reading → ℕ → List ℕ × (List ℕ × ℕ)
@@ -53,6 +61,8 @@ pub Holds : Case → Type 0
 Holds (rates file sheet least sum) = rateOutcome (readFile file) sheet ≡ values (least ∷ sum ∷ [])
 Holds (searches file budget outcome starts) =
     (searchOutcome (readFile file) (length starts) budget ≡ outcome) × (startRowAfter (readFile file) budget (replicate (length starts) (pos 77)) ≡ starts)
+Holds (wants file gap budget outcome starts) =
+    (wantedOutcome (readFile file) (length starts) gap budget ≡ outcome) × (wantedRowAfter (readFile file) gap budget (replicate (length starts) (pos 77)) ≡ starts)
 Holds (classes file cs ws count) = rowsOf (readFile file) (length cs) ≡ (cs, (ws, count))
 
 pub Every : List Case → Type 0
@@ -77,3 +87,29 @@ pub P1-to-P9 : Every cases
 unfolding opened p1 p7 p8 p9 rowsOf Holds Every cases
 P1-to-P9 =
     (refl, (refl, ((refl, refl), ((refl, refl), ((refl, refl), ((refl, refl), ((refl, refl), ((refl, refl), (refl, ((refl, refl), tt))))))))))
+
+-- With a wanted gap: found, none and stopped, and budgets just at and below what they take
+pub wantedCases : List Case
+wantedCases =
+    wants p1 2 5 (wanted.found 5) (pos 0 ∷ pos 3 ∷ []) ∷
+    wants p1 2 4 (wanted.stopped 4) (pos 77 ∷ pos 77 ∷ []) ∷
+    wants p1 1 1000000 (wanted.found 2) (pos 0 ∷ pos 0 ∷ []) ∷
+    wants p1 3 1 (wanted.none 1) (pos 77 ∷ pos 77 ∷ []) ∷
+    wants p1 3 0 (wanted.stopped 0) (pos 77 ∷ pos 77 ∷ []) ∷
+    wants p1 0 1 (wanted.stopped 1) (pos 77 ∷ pos 77 ∷ []) ∷
+    wants p1 0 2 (wanted.found 2) (pos 0 ∷ pos 0 ∷ []) ∷
+    wants p1 65535 1 (wanted.none 1) (pos 77 ∷ pos 77 ∷ []) ∷
+    wants p9 3 1000000 (wanted.found 5) (pos 0 ∷ pos 3 ∷ []) ∷
+    wants p9 4 1000000 (wanted.none 31) (pos 77 ∷ pos 77 ∷ []) ∷
+    wants p8 13 1000000 (wanted.none 1) (pos 77 ∷ pos 77 ∷ pos 77 ∷ []) ∷
+    wants p8 12 1000000 (wanted.found 15) (pos 0 ∷ pos 12 ∷ pos 0 ∷ []) ∷
+    wants twoStops 2 1000000 (wanted.none 5) (pos 77 ∷ pos 77 ∷ []) ∷
+    wants twoStops 2 5 (wanted.none 5) (pos 77 ∷ pos 77 ∷ []) ∷
+    wants twoStops 2 4 (wanted.stopped 4) (pos 77 ∷ pos 77 ∷ []) ∷
+    wants p1 2 1000000 (wanted.refusal 16 0) (pos 77 ∷ []) ∷
+    []
+
+pub wanted-on-P1-to-P9 : Every wantedCases
+unfolding opened p1 p8 p9 twoStops rowsOf Holds Every wantedCases
+wanted-on-P1-to-P9 =
+    ((refl, refl), ((refl, refl), ((refl, refl), ((refl, refl), ((refl, refl), ((refl, refl), ((refl, refl), ((refl, refl), ((refl, refl), ((refl, refl), ((refl, refl), ((refl, refl), ((refl, refl), ((refl, refl), ((refl, refl), ((refl, refl), tt))))))))))))))))

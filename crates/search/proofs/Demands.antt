@@ -23,15 +23,14 @@ use Rattle.network.proofs.Laws.Gaps.{accepted-valid, rating-is-rating, IsRating
 use Rattle.search.specs.Caps.{cap}
 use Rattle.search.specs.Walk.{State}
 use Rattle.search.specs.Search.{SearchOutcome, finished, stopped, stoppedWithNone, refusal, searchAnswer, triesOf, productsFrom}
-use Rattle.search.specs.Search.{searched, outcomeOf, searchOutcome, startRowAfter}
+use Rattle.search.specs.Search.{aboveBest, searched, outcomeOf, searchOutcome, startRowAfter}
 use Rattle.search.proofs.Laws.Caps.{cap-sound, cap-le-own-gap}
-use Rattle.search.proofs.Laws.Optimal.{searched-some, searched-length, searched-first, searched-below, searched-rating, searched-best, searched-stopped}
-use Rattle.search.proofs.Laws.Optimal.{triesBound-products}
-use Rattle.search.proofs.Laws.MoreTries.{searched-with-more}
+use Rattle.search.proofs.Laws.MoreTries.{walked-with-more}
+use Rattle.search.proofs.Laws.OnNetwork.{triesBound-products, walked-length, walked-first, walked-below, walked-rating, walked-stopped}
+use Rattle.search.proofs.Laws.Optimal.{searched-some, searched-best}
 use Rattle.search.proofs.Laws.Outcome.{fit-outcome, fit-row, AnswerTells, told-of-finished, told-of-stopped, told-of-none}
 use Rattle.search.proofs.Laws.Outcome.{outcome-tries-le, outcome-tries-le-budget, outcome-finished}
-use Rattle.search.proofs.Laws.Reordered.{searchOutcome-same, startRowAfter-same}
-use Rattle.search.proofs.Laws.Outcome.{search-refuses, search-refuses-only, row-as-found}
+use Rattle.search.proofs.Laws.Outcome.{searchOutcome-same, startRowAfter-same, search-refuses, search-refuses-only, row-as-found}
 use Rattle.search.proofs.entry.search as search
 use Rattle.search.proofs.entry.search.Kinds as search-kinds
 use Rattle.search.proofs.entry.search.Reads as search-contract
@@ -128,15 +127,15 @@ module _ {file : List ℕ} {row : List ℤ} {budget : ℕ} {answer : SearchOutco
       are-walked : WalkedStarts n exit
       are-walked =
           record {
-            one-for-each-line = rw written (searched-length valid budget some);
-            first-at-0 = rw written (searched-first valid budget some);
+            one-for-each-line = rw written (walked-length valid aboveBest budget some);
+            first-at-0 = rw written (walked-first valid aboveBest budget some);
             below-period = λ i h.
-                let (x, e, l) = searched-below valid budget some i h in
+                let (x, e, l) = walked-below valid aboveBest budget some i h in
                 (x, ap (λ (starts : List ℤ). getD starts i (pos 0)) written ∙ e, l, valid .period i h);
           }
 
       has-its-rating : IsRating n exit least sum
-      has-its-rating = rw (written, ← t .its-least, ← t .its-sum) (searched-rating valid budget some)
+      has-its-rating = rw (written, ← t .its-least, ← t .its-sum) (walked-rating valid aboveBest budget some)
 
     finished-rated : {least sum tries : ℕ} → answer ≡ finished least sum tries → WalkedStarts n exit × IsRating n exit least sum
     finished-rated e =
@@ -174,10 +173,10 @@ module _ {file : List ℕ} {row : List ℤ} {budget : ℕ} {answer : SearchOutco
         record {
           stopped-at-budget = λ e.
               let t = told-of-stopped n (length row) budget (answer-is e) .0 in
-              sym (t .its-tries) ∙ searched-stopped n budget (t .stops);
+              sym (t .its-tries) ∙ walked-stopped n aboveBest budget (t .stops);
           none-at-budget = λ e.
               let (fits, stops, none, tries) = told-of-none n (length row) budget (answer-is e) in (
-                sym tries ∙ searched-stopped n budget stops,
+                sym tries ∙ walked-stopped n aboveBest budget stops,
                 call .left
                     ∙ ap (λ (k : Reading). startRowAfter k budget row) reads
                     ∙ fit-row n row budget fits
@@ -199,7 +198,7 @@ search-asks-nothing κs a = tt
 
 module _ (κs : Lfts 2) (a : ArgsD search.signature κs) (r : ResD search.signature κs)
     (s : AtExit (endedOf 2 search-kinds.ps search-kinds.r) κs) (kept : search-contract.Post κs a r s) where
-  searches : Searches (a .0 .now) (a .1 .0 .now) (a .1 .1 .0) (searchAnswer r) (s .1 .0 .now)
+  pub searches : Searches (a .0 .now) (a .1 .0 .now) (a .1 .1 .0) (searchAnswer r) (s .1 .0 .now)
   searches = record { bytes = kept .1 .1; answered = kept .0; left = kept .1 .0 }
 
   pub search-demand-1 : Demand1 (λ number place. searchAnswer r ≡ refusal number place) (Refuses (a .0 .now) 16 (Unfit (a .1 .0 .now)))
@@ -251,7 +250,7 @@ module _ {file : List ℕ} {row row′ : List ℤ} {budget more : ℕ} {answer a
   told = told-of-finished n (length row) budget (answer-is call reads ends)
 
   walked-alike : searched n more ≡ searched n budget
-  walked-alike = searched-with-more n budget more larger (told .stops)
+  walked-alike = walked-with-more n aboveBest budget more larger (told .stops)
 
   some-best : searched n budget .best .some ≡ true
   some-best = searched-some (accepted-valid file n (call .bytes) reads) budget (told .stops)

@@ -20,9 +20,13 @@ pub mod Codes
 pub mod CallRows
 pub mod Placing
 pub mod Tries
-pub mod SearchCall
+pub mod StartRow
+pub mod WalkOnFile
+pub mod OnNetwork
 pub mod Optimal
+pub mod Reaches
 pub mod MoreTries
-pub mod Outcome
 pub mod Reordered
+pub mod Outcome
+pub mod Reached
 pub mod Answers

@@ -1,5 +1,5 @@
--- Document 01, "The walk": the search of a network, and what the search call answers and leaves in the start row. Beside its rule stand
--- those by which requests A.3 and A.11 of document 02 walk.
+-- Document 01, "The walk": the walk on a network, the search, and what the search call answers and leaves in the start row. Beside its rule
+-- stands that by which request A.11 of document 02 walks; A.3's stands in Wanted.antt.
 use Prim.Native.Nat.{ℕ, _+_, _*_}
 use mathlib.Core.Bool.{Bool, true, false, not, _&&_, _||_}
 use mathlib.Core.List.{List, [], _∷_}
@@ -29,10 +29,6 @@ notAbove upper best = not (isAbove upper best)
 unfoldable pub aboveBest : Rule
 aboveBest = record { drops = notAbove; endsAtFirst = false }
 
--- The rule of request A.3: a try whose upper least gap is below the wanted one is dropped, and the first full timetable ends the walk
-unfoldable pub atLeast : ℕ → Rule
-atLeast wanted = record { drops = λ (upper best : Rating). ltb (upper .least) wanted; endsAtFirst = true }
-
 -- The rule of request A.11's second pass: a try whose upper least gap is below the floor is dropped and, once there is a best, one whose
 -- upper sum isn't above the best sum; it goes on to the end
 unfoldable pub bySum : ℕ → Rule
@@ -42,9 +38,13 @@ bySum floor =
       endsAtFirst = false;
     }
 
--- The walk on a network
-unfoldable pub searched : Net → ℕ → State
-searched n budget = walk (upperRating n (cap n)) aboveBest budget (startCounts (n .periods)) [] atFirst
+-- The walk on a network by a rule
+unfoldable pub walked : Net → Rule → ℕ → State
+walked n rule budget = walk (upperRating n (cap n)) rule budget (startCounts (n .periods)) [] atFirst
+
+-- The search: by document 01's rule
+abbrev pub searched : Net → ℕ → State
+searched n budget = walked n aboveBest budget
 
 -- k×T1 + k×T1×T2 + ..
 abbrev pub productsFrom : ℕ → List ℕ → ℕ
@@ -52,7 +52,7 @@ productsFrom k [] = 0
 productsFrom k (t ∷ rest) = k * t + productsFrom (k * t) rest
 
 -- How many tries the walk can make; it is 1 + T1 + T1×T2 + .. over the periods after the first, `triesBound-products` of
--- proofs/Laws/Optimal.antt
+-- proofs/Laws/OnNetwork.antt
 unfoldable pub triesBound : Net → ℕ
 triesBound n = mostTries (startCounts (n .periods))
 
@@ -87,13 +87,21 @@ walkOutcome true false s = stoppedWithNone (s .tries)
 unfoldable pub outcomeOf : State → SearchOutcome
 outcomeOf s = walkOutcome (s .stopped) (s .best .some) s
 
--- What the search call has to answer on a file, a start row of this length and a budget: the file's ground, then ground 16, then the walk's
-unfoldable pub searchOutcome : Reading → ℕ → ℕ → SearchOutcome
-searchOutcome (refused number place) row budget = refusal number place
-searchOutcome (accepted n) row budget = pick (eqb row (length (n .periods))) (outcomeOf (searched n budget)) (refusal 16 0)
+-- A call that is lent a start row, of this length: the file's ground, then ground 16 where the row hasn't one place for each line, then what
+-- the call gives on the network
+unfoldable pub onStartRow : {A : Type 0} → (Net → A) → (ℕ → ℕ → A) → Reading → ℕ → A
+onStartRow call refuses (refused number place) row = refuses number place
+onStartRow call refuses (accepted n) row = pick (eqb row (length (n .periods))) (call n) (refuses 16 0)
 
--- What the start row holds afterwards: the best starts, or where there are none what it held
+-- What a walk leaves in a row: the starts of its best, or where there is none what it held
+unfoldable pub rowAfterWalk : State → List ℤ → List ℤ
+rowAfterWalk s row = pick (s .best .some) (s .starts) row
+
+-- What the search call has to answer on a file, a start row of this length and a budget
+unfoldable pub searchOutcome : Reading → ℕ → ℕ → SearchOutcome
+searchOutcome read row budget = onStartRow (λ (n : Net). outcomeOf (searched n budget)) refusal read row
+
+-- What the start row holds afterwards; a refusal leaves it as it was
 unfoldable pub startRowAfter : Reading → ℕ → List ℤ → List ℤ
-startRowAfter (refused number place) budget row = row
-startRowAfter (accepted n) budget row =
-    pick (eqb (length row) (length (n .periods)) && searched n budget .best .some) (searched n budget .starts) row
+startRowAfter read budget row =
+    onStartRow (λ (n : Net). rowAfterWalk (searched n budget) row) (λ (number place : ℕ). row) read (length row)

@@ -1,10 +1,13 @@
-// The search for the best timetable: caps, the walk, and the search call.
+// The search for the best timetable, or for one with a wanted gap: caps, the walk by a rule, and the two calls.
 mod caps;
 pub mod entry;
 mod layout;
 mod place;
 mod tries;
+mod walking;
+pub mod wanted;
 
+use network::Check;
 use network::Network;
 use network::Rating;
 
@@ -13,6 +16,14 @@ pub enum SearchAnswer {
     Finished { least: u32, sum: u32, tries: u32 },
     Stopped { least: u32, sum: u32, tries: u32 },
     StoppedWithNone { tries: u32 },
+    Refused { number: u8, place: usize },
+}
+
+// What the call with a wanted gap answers.
+pub enum WantedAnswer {
+    Found { tries: u32 },
+    None { tries: u32 },
+    Stopped { tries: u32 },
     Refused { number: u8, place: usize },
 }
 
@@ -87,4 +98,20 @@ struct Walk {
     pub stopped: bool,
     pub best: Rating,
     pub starts: [u16; Network::MAX_LINES],
+}
+
+impl Walk {
+    // Before the first try.
+    pub const FIRST: Walk = Walk {
+        tries: 0,
+        stopped: false,
+        best: Rating::NONE,
+        starts: [0u16; Network::MAX_LINES],
+    };
+}
+
+// How a walk on a file ends: what the file or the row is refused for, if anything, and if nothing the walk at its end.
+struct Ended {
+    pub check: Check,
+    pub walk: Walk,
 }

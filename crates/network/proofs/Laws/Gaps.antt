@@ -21,7 +21,7 @@ pub use Rattle.network.proofs.Laws.Scan.{Scanned, scanned-none, scanned
 -- an accepted network and its common cycle
 pub use Rattle.network.proofs.Laws.Valid.{accepted-valid, cycle-pos}
 -- the served stops, and the rating by any values of them, gaps or upper values
-pub use Rattle.network.proofs.Laws.Rating.{servedList-member, sumOf-served-other, ratingBy-counted, ratingBy-some, ratingBy-numbers}
+pub use Rattle.network.proofs.Laws.Rating.{servedList-member, servedList-some, sumOf-served-other, ratingBy-counted, ratingBy-some, ratingBy-numbers}
 pub use Rattle.network.proofs.Laws.Rating.{ratingBy-least-mono, ratingBy-sum-mono}
 pub use Rattle.network.proofs.Laws.Rate.{ratingBy-same, counted-of-member, counted-served}
 -- the rating, and over all trips

@@ -14,8 +14,8 @@ use Rattle.network.specs.declared.Rating.{Rating}
 use Rattle.network.specs.Rating.{noRating}
 use Rattle.network.proofs.Laws.Lists.{zero-ne-one}
 use Rattle.network.proofs.Laws.Members.{All}
-use Rattle.search.specs.Walk.{State, Rule, atFirst, tryMade, stop, becomesBest, walk}
-use Rattle.search.proofs.Laws.Walk.{ChosenBelow, none-left, next, eachStart-holds, oneTry-cases, walk-keeps}
+use Rattle.search.specs.Walk.{State, Rule, atFirst, tryMade, stop, becomesBest, oneTry, walk}
+use Rattle.search.proofs.Laws.Walk.{ChosenBelow, none-left, next, eachStart-holds, oneTry-cases, oneTry-over, over-of-ended, walk-keeps}
 
 -- ---- what a rule keeps
 
@@ -166,42 +166,53 @@ pub record BestIsChosen (upper : List ℤ → Rating) (counts : List ℕ) (best 
   pub chosen : best .some ≡ true → ChosenBelow counts starts
   pub none : best .some ≡ false → starts ≡ []
 
--- While there is no best, the walk is at a line's first start, and has tries for this line and those behind it
-abbrev Descending : ℕ → ℕ → ℕ → State → Type 0
-Descending budget lines x t = t .best .some ≡ false → (x ≡ 0) × (t .stopped ≡ false) × (t .tries + lines ≤ budget)
-
-some-of-descending : (budget lines count : ℕ) (t : State) → 0 < count → Descending budget lines count t → t .best .some ≡ true
-some-of-descending budget lines count t h f = go (t .best .some) (λ n. f n .0)
-  where
-    go : (b : Bool) → (b ≡ false → count ≡ 0) → b ≡ true
-    go true g = refl
-    go false g = absurd (omega (arith, g refl))
-
 module _ (upper : List ℤ → Rating) (rule : Rule) (budget : ℕ) (rates : (starts : List ℤ) → upper starts .some ≡ true) where
-  walk-descends : ((starts : List ℤ) (b : Rating) → b .some ≡ false → rule .drops (upper starts) b ≡ false)
-      → (counts : List ℕ) → All 0 (λ count. 0 < count) counts → (placed : List ℤ) (s : State)
-      → Descending budget (length counts) 0 s → walk upper rule budget counts placed s .best .some ≡ true
-  unfolding walk becomesBest stop tryMade
-  walk-descends free [] positive placed s w = rates placed
-  walk-descends free (count ∷ rest) positive placed s w =
-      some-of-descending budget _ count (walk upper rule budget (count ∷ rest) placed s) (positive 0 (zero-lt-suc _))
-      (eachStart-holds _ (Descending budget (length (count ∷ rest))) count s w
-      (λ x l t v. oneTry-cases rule budget (Descending budget (length (count ∷ rest)) (suc x)) _ _ t
-      (λ e n. absurd (zero-ne-one (cc (v n .1))))
-      (λ e f n. absurd (zero-ne-one (cc)))
-      (λ e f n. absurd (omega (arith, v n .2)))
-      (λ e f d n. absurd (zero-ne-one (cc (free (placed ++ (pos x ∷ [])) (t .best) n))))
-      (λ e f d n.
-      let placed′ : List ℤ = placed ++ (pos x ∷ []) in
-      let below : All 0 (λ c. 0 < c) rest = λ i h. positive (suc i) (omega arith) in
-      absurd (zero-ne-one (cc (walk-descends free rest below placed′ (tryMade t) (λ n′. (refl, e .unstopped, omega (arith, v n′ .2)))))))))
+  -- By a rule that ends at its first full timetable and drops nothing before it, one try for each line that is left is all
+  module _ (ends : rule .endsAtFirst ≡ true) (free : (starts : List ℤ) (b : Rating) → b .some ≡ false → rule .drops (upper starts) b ≡ false) where
+    -- a line's first start is yet to be tried, or the walk has come to its end
+    unfoldable Descended : State → ℕ → ℕ → State → Type 0
+    Descended s lines x t = ((x ≡ 0) × (t ≡ s)) ⊎ ((t .best .some ≡ true) × (t .tries ≡ s .tries + lines))
+
+    descended-end : (s t : State) (lines count : ℕ) → 0 < count → Descended s lines count t → (t .best .some ≡ true) × (t .tries ≡ s .tries + lines)
+    unfolding Descended
+    descended-end s t lines count h (inl (e, f)) = absurd (omega (arith, e))
+    descended-end s t lines count h (inr d) = d
+
+    descended-next : (placed : List ℤ) (lines : ℕ) (onward : State → State)
+        → ((u : State) → u .stopped ≡ false → u .best .some ≡ false → u .tries + lines ≤ budget → (onward u .best .some ≡ true) × (onward u .tries ≡ u .tries + lines))
+        → (s : State) → s .stopped ≡ false → s .best .some ≡ false → s .tries + suc lines ≤ budget
+        → (x : ℕ) (t : State) → Descended s (suc lines) x t → Descended s (suc lines) (suc x) (oneTry rule budget (upper placed) onward t)
+    unfolding Descended tryMade
+    descended-next placed lines onward rest s unstopped none enough x t (inl (z, e)) =
+        rw e
+        (oneTry-cases rule budget (Descended s (suc lines) (suc x)) (upper placed) onward s
+        (λ f. absurd (zero-ne-one (cc)))
+        (λ f g. absurd (zero-ne-one (cc)))
+        (λ f g. absurd (omega arith))
+        (λ f g d. absurd (zero-ne-one (cc (free placed (s .best) none))))
+        (λ f g d. let (some, tries) = rest (tryMade s) unstopped none (omega arith) in inr (some, omega (arith, tries))))
+    descended-next placed lines onward rest s unstopped none enough x t (inr d) =
+        rw (oneTry-over rule budget (upper placed) onward t (over-of-ended rule t ends (d .0))) (inr d)
+
+    walk-descends-once : (counts : List ℕ) → All 0 (λ count. 0 < count) counts → (placed : List ℤ) (s : State) → s .stopped ≡ false
+        → s .best .some ≡ false → s .tries + length counts ≤ budget
+        → (walk upper rule budget counts placed s .best .some ≡ true) × (walk upper rule budget counts placed s .tries ≡ s .tries + length counts)
+    unfolding walk becomesBest Descended
+    walk-descends-once [] positive placed s unstopped none enough = (rates placed, omega arith)
+    walk-descends-once (count ∷ rest) positive placed s unstopped none enough =
+        let below : All 0 (λ c. 0 < c) rest = λ i h. positive (suc i) (omega arith) in
+        descended-end s (walk upper rule budget (count ∷ rest) placed s) (length (count ∷ rest)) count (positive 0 (zero-lt-suc _))
+        (eachStart-holds _ (Descended s (length (count ∷ rest))) count s (inl (refl, refl))
+        (λ x l. descended-next (placed ++ (pos x ∷ [])) (length rest) (walk upper rule budget rest (placed ++ (pos x ∷ [])))
+        (walk-descends-once rest below (placed ++ (pos x ∷ []))) s unstopped none enough x))
+
+    -- on the whole
+    pub first-descent-is-all : (counts : List ℕ) → All 0 (λ count. 0 < count) counts → length counts ≤ budget
+        → (walk upper rule budget counts [] atFirst .best .some ≡ true) × (walk upper rule budget counts [] atFirst .tries ≡ length counts)
+    first-descent-is-all counts positive enough =
+        let (some, tries) = walk-descends-once counts positive [] atFirst refl refl (omega arith) in (some, omega (arith, tries))
 
   module _ (counts : List ℕ) where
-    -- The first tries reach a full timetable, by a rule that drops nothing while there is no best
-    pub first-descent : ((starts : List ℤ) (b : Rating) → b .some ≡ false → rule .drops (upper starts) b ≡ false)
-        → All 0 (λ count. 0 < count) counts → length counts ≤ budget → walk upper rule budget counts [] atFirst .best .some ≡ true
-    first-descent free positive h = walk-descends free counts positive [] atFirst (λ n. (refl, refl, omega arith))
-
     -- Whether the walk stopped or not, and whatever its rule, its best is a choice ..
     pub best-is-chosen : BestIsChosen upper counts (walk upper rule budget counts [] atFirst .best) (walk upper rule budget counts [] atFirst .starts)
     unfolding becomesBest stop tryMade

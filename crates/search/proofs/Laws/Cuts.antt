@@ -15,7 +15,8 @@ use Rattle.network.proofs.Laws.Gaps.{above-none}
 use Rattle.search.specs.declared.Cut.{Cut}
 use Rattle.search.specs.declared.Rule.the-variants as rules
 use Rattle.search.specs.Engine.Representation.{ruleOf, rated, isShort, IsCut}
-use Rattle.search.specs.Search.{notAbove, aboveBest, atLeast, bySum}
+use Rattle.search.specs.Search.{notAbove, aboveBest, bySum}
+use Rattle.search.specs.Wanted.{atLeast}
 
 -- ---- what is no larger
 

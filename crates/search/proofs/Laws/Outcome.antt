@@ -1,33 +1,49 @@
 -- What each answer of the search tells of the walk that it comes from, and of the start row. Assumes nothing.
 use Prim.Native.Nat.{ℕ, _≤_}
 use mathlib.Core.Path.{_≡_, refl, ap, ap₂, _∙_}
-use mathlib.Core.Bool.{Bool, true, false, _&&_}
+use mathlib.Core.Bool.{Bool, true, false}
 use mathlib.Core.List.{List}
 use native.Mathlib.Omega.{arith}
-use borrow.Author.Tests.{eqb-true, eqb-false, eq-eqb, ne-eqb}
-use lib.Dec.{eqb}
 use lib.IntN.{ℤ}
 use lib.ListN.{length}
+use Rattle.network.specs.Archive.{SameNetwork}
 use Rattle.network.specs.Lists.{pick}
 use Rattle.network.specs.Network.{Net}
-use Rattle.network.specs.Reading.{Reading, accepted, refused, readFile}
-use Rattle.network.specs.Refusals.{Refuses, by-file, after-file, Unfit}
+use Rattle.network.specs.Reading.{accepted, refused, readFile}
+use Rattle.network.specs.Refusals.{Refuses, Unfit}
+use Rattle.network.specs.Valid.{Valid}
 use Rattle.network.proofs.Laws.Lists.{zero-ne-one}
 use Rattle.search.specs.Walk.{State}
-use Rattle.search.specs.Search.{searched, triesBound, walkOutcome, outcomeOf, searchOutcome, startRowAfter}
+use Rattle.search.specs.Search.{aboveBest, searched, triesBound, walkOutcome, outcomeOf, rowAfterWalk, searchOutcome, startRowAfter}
 use Rattle.search.specs.Search.{SearchOutcome, finished, stopped, stoppedWithNone, refusal, triesOf}
-use Rattle.search.proofs.Laws.Optimal.{searched-tries-le, searched-tries-le-budget, searched-finishes}
+use Rattle.search.proofs.Laws.OnNetwork.{walked-tries-le, walked-tries-le-budget, walked-finishes}
+use Rattle.search.proofs.Laws.Reordered.{walked-same}
+use Rattle.search.proofs.Laws.StartRow.{onStartRow-fit, onStartRow-cases, onStartRow-same, onStartRow-refuses, onStartRow-refuses-only}
 
 -- ---- a row that fits
 
 module _ (n : Net) (row : List ℤ) (budget : ℕ) (fits : length row ≡ length (n .periods)) where
   pub fit-outcome : searchOutcome (accepted n) (length row) budget ≡ outcomeOf (searched n budget)
   unfolding searchOutcome
-  fit-outcome = ap (λ (b : Bool). pick b (outcomeOf (searched n budget)) (refusal 16 0)) (eq-eqb _ _ fits)
+  fit-outcome = onStartRow-fit (λ (m : Net). outcomeOf (searched m budget)) refusal n (length row) fits
 
   pub fit-row : startRowAfter (accepted n) budget row ≡ pick (searched n budget .best .some) (searched n budget .starts) row
+  unfolding startRowAfter rowAfterWalk
+  fit-row = onStartRow-fit (λ (m : Net). rowAfterWalk (searched m budget) row) (λ number place. row) n (length row) fits
+
+-- ---- two files of one network
+
+module _ {m n : Net} (v : Valid m) (w : Valid n) (same : SameNetwork m n) where
+  pub searchOutcome-same : (row budget : ℕ) → searchOutcome (accepted m) row budget ≡ searchOutcome (accepted n) row budget
+  unfolding searchOutcome
+  searchOutcome-same row budget =
+      onStartRow-same (λ (k : Net). outcomeOf (searched k budget)) refusal same (ap outcomeOf (walked-same v w same aboveBest budget)) row
+
+  pub startRowAfter-same : (budget : ℕ) (row : List ℤ) → startRowAfter (accepted m) budget row ≡ startRowAfter (accepted n) budget row
   unfolding startRowAfter
-  fit-row = ap (λ (b : Bool). pick (b && searched n budget .best .some) (searched n budget .starts) row) (eq-eqb _ _ fits)
+  startRowAfter-same budget row =
+      onStartRow-same (λ (k : Net). rowAfterWalk (searched k budget) row) (λ number place. row) same
+      (ap (λ (s : State). rowAfterWalk s row) (walked-same v w same aboveBest budget)) (length row)
 
 -- ---- what an answer with a best tells
 
@@ -45,11 +61,7 @@ module _ (n : Net) (row budget : ℕ) where
       → ((a b : Bool) → row ≡ length (n .periods) → searched n budget .stopped ≡ a → searched n budget .best .some ≡ b → P (walkOutcome a b (searched n budget)))
       → P (searchOutcome (accepted n) row budget)
   unfolding searchOutcome outcomeOf
-  outcome-cases P f g = go (eqb row (length (n .periods))) refl
-    where
-      go : (t : Bool) → eqb row (length (n .periods)) ≡ t → P (pick t (walkOutcome (searched n budget .stopped) (searched n budget .best .some) (searched n budget)) (refusal 16 0))
-      go false e = f (eqb-false _ _ e)
-      go true e = g _ _ (eqb-true _ _ e) refl refl
+  outcome-cases P f g = onStartRow-cases (λ (m : Net). outcomeOf (searched m budget)) refusal n row P f (λ e. g _ _ e refl refl)
 
   pub told-of-finished : {least sum tries : ℕ} → searchOutcome (accepted n) row budget ≡ finished least sum tries
       → AnswerTells n row budget least sum tries false
@@ -106,56 +118,47 @@ module _ (n : Net) (row budget : ℕ) where
       go false b f x y = some
 
   pub outcome-tries-le : triesOf (searchOutcome (accepted n) row budget) ≤ triesBound n
-  outcome-tries-le = reported (λ k. k ≤ triesBound n) (omega arith) (searched-tries-le n budget)
+  outcome-tries-le = reported (λ k. k ≤ triesBound n) (omega arith) (walked-tries-le n aboveBest budget)
 
   pub outcome-tries-le-budget : triesOf (searchOutcome (accepted n) row budget) ≤ budget
-  outcome-tries-le-budget = reported (λ k. k ≤ budget) (omega arith) (searched-tries-le-budget n budget)
+  outcome-tries-le-budget = reported (λ k. k ≤ budget) (omega arith) (walked-tries-le-budget n aboveBest budget)
 
   pub outcome-finished : row ≡ length (n .periods) → triesBound n ≤ budget
       → (least : ℕ) × (sum : ℕ) × (tries : ℕ) × (searchOutcome (accepted n) row budget ≡ finished least sum tries)
   unfolding searchOutcome outcomeOf walkOutcome
-  outcome-finished e h =
-      (searched n budget .best .least, searched n budget .best .sum, searched n budget .tries, rw (eq-eqb _ _ e, searched-finishes n budget h) refl)
+  outcome-finished e h = (
+    searched n budget .best .least,
+    searched n budget .best .sum,
+    searched n budget .tries,
+    onStartRow-fit (λ (m : Net). outcomeOf (searched m budget)) refusal n row e
+        ∙ ap (λ (stops : Bool). walkOutcome stops (searched n budget .best .some) (searched n budget)) (walked-finishes n aboveBest budget h),
+  )
 
 -- ---- when it refuses
 
-walk-answers : (a b : Bool) (s : State) {number place : ℕ} → walkOutcome a b s ≡ refusal number place → ⊥
+walk-answers : (a b : Bool) (s : State) (number place : ℕ) → walkOutcome a b s ≡ refusal number place → ⊥
 unfolding walkOutcome
-walk-answers true true s e = zero-ne-one (cc)
-walk-answers true false s e = zero-ne-one (cc)
-walk-answers false b s e = zero-ne-one (cc)
+walk-answers true true s number place e = zero-ne-one (cc)
+walk-answers true false s number place e = zero-ne-one (cc)
+walk-answers false b s number place e = zero-ne-one (cc)
 
-refused-of-refusal : {number place number′ place′ : ℕ} → refusal number place ≡ refusal number′ place′ → refused number place ≡ refused number′ place′
-refused-of-refusal e = ap₂ refused (cc) (cc)
+refused-of-refusal : (number place number′ place′ : ℕ) → refusal number place ≡ refusal number′ place′ → refused number place ≡ refused number′ place′
+refused-of-refusal number place number′ place′ e = ap₂ refused (cc) (cc)
 
 module _ (file : List ℕ) (row : List ℤ) (budget : ℕ) where
   pub search-refuses : {number place : ℕ} → Refuses file 16 (Unfit row) number place
       → searchOutcome (readFile file) (length row) budget ≡ refusal number place
   unfolding searchOutcome
-  search-refuses (by-file e) = ap (λ (k : Reading). searchOutcome k (length row) budget) e
-  search-refuses (after-file {n = n} e differ) =
-      ap (λ (k : Reading). searchOutcome k (length row) budget) e
-      ∙ ap (λ (b : Bool). pick b (outcomeOf (searched n budget)) (refusal 16 0)) (ne-eqb _ _ differ)
-
-  search-refused : {number place : ℕ} (read : Reading) → readFile file ≡ read → searchOutcome read (length row) budget ≡ refusal number place
-      → Refuses file 16 (Unfit row) number place × (startRowAfter read budget row ≡ row)
-  unfolding searchOutcome outcomeOf startRowAfter
-  search-refused (refused number′ place′) e h = (by-file (e ∙ refused-of-refusal h), refl)
-  search-refused {number} {place} (accepted n) e h = go (eqb (length row) (length (n .periods))) refl h
-    where
-      go : (t : Bool) → eqb (length row) (length (n .periods)) ≡ t
-          → pick t (walkOutcome (searched n budget .stopped) (searched n budget .best .some) (searched n budget)) (refusal 16 0) ≡ refusal number place
-          → Refuses file 16 (Unfit row) number place × (pick (t && searched n budget .best .some) (searched n budget .starts) row ≡ row)
-      go true f h = absurd (walk-answers (searched n budget .stopped) (searched n budget .best .some) (searched n budget) h)
-      go false f h =
-          let number-is : 16 ≡ number = cc in
-          let place-is : 0 ≡ place = cc in
-          (rw (← number-is, ← place-is) (after-file e (eqb-false _ _ f)), refl)
+  search-refuses = onStartRow-refuses (λ (n : Net). outcomeOf (searched n budget)) refusal file row
 
   pub search-refuses-only : {number place : ℕ} → searchOutcome (readFile file) (length row) budget ≡ refusal number place
       → Refuses file 16 (Unfit row) number place
-  search-refuses-only h = search-refused (readFile file) refl h .0
+  unfolding searchOutcome outcomeOf
+  search-refuses-only =
+      onStartRow-refuses-only (λ (n : Net). outcomeOf (searched n budget)) refusal file row (λ n. walk-answers _ _ (searched n budget)) refused-of-refusal
 
   pub row-as-found : {number place : ℕ} → searchOutcome (readFile file) (length row) budget ≡ refusal number place
       → startRowAfter (readFile file) budget row ≡ row
-  row-as-found h = search-refused (readFile file) refl h .1
+  unfolding startRowAfter
+  row-as-found h =
+      onStartRow-refuses (λ (n : Net). rowAfterWalk (searched n budget) row) (λ number place. row) file row (search-refuses-only h)

@@ -2,7 +2,6 @@
 -- what a pair caps its stop at and gaps are those of a pair whichever comes first, and a sum is that of its terms. Assumes nothing.
 use Prim.Native.Nat.{ℕ, zero, suc, _/_, _<_, min}
 use mathlib.Core.Path.{_≡_, refl, sym, ap, ap₂, fun-ext, _∙_}
-use mathlib.Core.Bool.{_&&_}
 use mathlib.Core.List.{List, [], _∷_, List·Permᴰ}
 use native.Mathlib.Decide.{decLt, ℕ-discrete}
 use native.Mathlib.Omega.{arith}
@@ -18,7 +17,6 @@ use Rattle.network.specs.Divisor.{gcd}
 use Rattle.network.specs.Loops.{ownGap}
 use Rattle.network.specs.Network.{Net, cycle}
 use Rattle.network.specs.Rating.{periodOf, pairGaps, callsOfStop, ratingBy}
-use Rattle.network.specs.Reading.{accepted}
 use Rattle.network.specs.Valid.{noCall, Valid}
 use Rattle.network.proofs.Laws.Divisor.{gcd-comm}
 use Rattle.network.proofs.Laws.Gaps.{gapOfStop-permuted, leastFrom-pairGaps-few, leastFrom-pairGaps-more, callsOfStop-period-pos, ownGap-is-fold, ownGap-symmetric}
@@ -28,8 +26,8 @@ use Rattle.network.proofs.Laws.Members.{All, keep-all}
 use Rattle.network.proofs.Laws.Permutations.{length-permuted, keep-permuted, sumOf-permuted, pairsOf-permuted}
 use Rattle.network.proofs.Laws.Sums.{sumOf-nil, sumOf-snoc}
 use Rattle.search.specs.Caps.{halfOf, pairCap, pairCaps, evenSpacing, capOfCalls, cap, placedCalls, upperValue, upperRating}
-use Rattle.search.specs.Search.{aboveBest, startCounts, searched, outcomeOf, refusal, searchOutcome, startRowAfter}
-use Rattle.search.specs.Walk.{State, atFirst, walk}
+use Rattle.search.specs.Search.{startCounts, walked}
+use Rattle.search.specs.Walk.{Rule, atFirst, walk}
 
 -- ---- caps
 
@@ -131,22 +129,12 @@ module _ {n : Net} (valid : Valid n) where
   unfolding upperRating
   upperRating-tidied = fun-ext (λ starts. ap₂ ratingBy (fun-ext (upperValue-tidied starts)) (counted-tidied valid))
 
-  searched-tidied : (budget : ℕ) → searched (tidied n) budget ≡ searched n budget
-  unfolding searched
-  searched-tidied budget =
-      ap₂ (λ (upper : List ℤ → Rating) (periods : List ℕ). walk upper aboveBest budget (startCounts periods) [] atFirst) upperRating-tidied (periods-tidied n)
+  walked-tidied : (rule : Rule) (budget : ℕ) → walked (tidied n) rule budget ≡ walked n rule budget
+  unfolding walked
+  walked-tidied rule budget =
+      ap₂ (λ (upper : List ℤ → Rating) (periods : List ℕ). walk upper rule budget (startCounts periods) [] atFirst) upperRating-tidied (periods-tidied n)
 
--- Two files of one network: answer, tries and start row
-module _ {m n : Net} (v : Valid m) (w : Valid n) (same : SameNetwork m n) where
-  searched-same : (budget : ℕ) → searched m budget ≡ searched n budget
-  searched-same budget = sym (searched-tidied v budget) ∙ ap (λ (k : Net). searched k budget) (tidied-same same) ∙ searched-tidied w budget
-
-  pub searchOutcome-same : (row budget : ℕ) → searchOutcome (accepted m) row budget ≡ searchOutcome (accepted n) row budget
-  unfolding searchOutcome
-  searchOutcome-same row budget =
-      ap₂ (λ (lines : ℕ) (s : State). pick (eqb row lines) (outcomeOf s) (refusal 16 0)) (ap length (same .same-periods)) (searched-same budget)
-
-  pub startRowAfter-same : (budget : ℕ) (row : List ℤ) → startRowAfter (accepted m) budget row ≡ startRowAfter (accepted n) budget row
-  unfolding startRowAfter
-  startRowAfter-same budget row =
-      ap₂ (λ (lines : ℕ) (s : State). pick (eqb (length row) lines && s .best .some) (s .starts) row) (ap length (same .same-periods)) (searched-same budget)
+-- Two files of one network
+pub walked-same : {m n : Net} → Valid m → Valid n → SameNetwork m n → (rule : Rule) (budget : ℕ) → walked m rule budget ≡ walked n rule budget
+walked-same v w same rule budget =
+    sym (walked-tidied v rule budget) ∙ ap (λ (k : Net). walked k rule budget) (tidied-same same) ∙ walked-tidied w rule budget

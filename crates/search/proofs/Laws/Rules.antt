@@ -16,11 +16,12 @@ use Rattle.network.proofs.Laws.Lists.{zero-ne-one}
 use Rattle.network.proofs.Laws.Members.{All}
 use Rattle.network.proofs.Laws.Gaps.{isAbove-none, isAbove-irreflexive, not-above-of-above, not-above-transitive}
 use Rattle.search.specs.Walk.{State, atFirst, walk}
-use Rattle.search.specs.Search.{notAbove, aboveBest, atLeast, bySum}
+use Rattle.search.specs.Search.{notAbove, aboveBest, bySum}
+use Rattle.search.specs.Wanted.{atLeast}
 use Rattle.search.proofs.Laws.Walk.{ChosenBelow}
 use Rattle.search.proofs.Laws.Bounds.{IsUpper, BoundsEach}
 use Rattle.search.proofs.Laws.Best.{DropsCompletions, Cuts, finished-none-stands, finished-has-best, finished-drops-all}
-use Rattle.search.proofs.Laws.Best.{first-descent, best-stood, ended-unstopped}
+use Rattle.search.proofs.Laws.Best.{first-descent-is-all, best-stood, ended-unstopped}
 
 -- ---- document 01's rule
 
@@ -81,10 +82,12 @@ module _ (upper : List ℤ → Rating) (wanted budget : ℕ) (counts : List ℕ)
       ltb-true _ _
       (finished-none-stands upper (atLeast wanted) budget counts rates (atLeast-drops-completions upper wanted counts bounds) finished none starts c)
 
-  -- Where 0 is wanted, the first tries reach a best
-  pub atLeast-0-has-best : wanted ≡ 0 → All 0 (λ count. 0 < count) counts → length counts ≤ budget → found .best .some ≡ true
+  -- Where 0 is wanted, the first tries, one for each line, reach a best
+  pub atLeast-0-first-descent : wanted ≡ 0 → All 0 (λ count. 0 < count) counts → length counts ≤ budget
+      → (found .best .some ≡ true) × (found .tries ≡ length counts)
   unfolding atLeast
-  atLeast-0-has-best e = first-descent upper (atLeast wanted) budget rates counts (λ starts b n. le-ltb (upper starts .least) wanted (omega arith))
+  atLeast-0-first-descent e =
+      first-descent-is-all upper (atLeast wanted) budget rates refl (λ starts b n. le-ltb (upper starts .least) wanted (omega arith)) counts
 
 -- ---- the rule of request A.11's second pass
 

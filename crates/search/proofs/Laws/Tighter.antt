@@ -14,7 +14,8 @@ use Rattle.network.specs.Rating.{isAbove}
 use Rattle.network.proofs.Laws.Lists.{zero-ne-one}
 use Rattle.network.proofs.Laws.Gaps.{not-above-transitive}
 use Rattle.search.specs.Walk.{State, Rule, atFirst, tryMade, stop, becomesBest, oneTry, eachStart, walk}
-use Rattle.search.specs.Search.{notAbove, aboveBest, atLeast, bySum}
+use Rattle.search.specs.Search.{notAbove, aboveBest, bySum}
+use Rattle.search.specs.Wanted.{atLeast}
 use Rattle.search.proofs.Laws.Walk.{ChosenBelow, none-left, next, Due, eachStart-holds, over-of-ended, oneTry-cases, oneTry-over, walk-tries-le-budget}
 use Rattle.search.proofs.Laws.Bounds.{IsUpper, BoundsEach}
 use Rattle.search.proofs.Laws.Best.{DropsCompletions}

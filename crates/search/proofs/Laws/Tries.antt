@@ -19,7 +19,7 @@ use Rattle.search.specs.declared.Walk as code
 use Rattle.search.specs.Caps.{cap, upperRating}
 use Rattle.search.specs.Walk.{State, Rule, isOver, tryMade, stop, becomesBest, unless, stopIf, oneTry, eachStart, walk}
 use Rattle.search.specs.Search.{startCounts}
-use Rattle.search.specs.Engine.Representation.{ruleOf, rated, isShort, IsCut, startsOf, withStart, stateOf, withBest, walkFrom, tryAt, CanTry, CanPlace, PlacedMore, GivenUp}
+use Rattle.search.specs.Engine.Representation.{ruleOf, rated, isShort, IsCut, startsOf, withStart, stateBy, stateOf, withBest, walkFrom, tryAt, CanTry, CanPlace, PlacedMore, GivenUp}
 use Rattle.search.specs.declared.Cut.{Cut}
 use Rattle.search.specs.declared.Placed.{Placed}
 use Rattle.search.specs.declared.Task.{Task}
@@ -78,20 +78,20 @@ module _ (n : Net) (rule : Rule) (budget : ℕ) where
     upper = upperRating n (cap n) (placed ++ (pos x ∷ []))
 
     pub try-stopped : w .stopped ≡ true → stateOf n w ≡ tryAt n rule budget k placed x (stateOf n w)
-    unfolding tryAt oneTry isOver stateOf unless
+    unfolding tryAt oneTry isOver stateOf stateBy unless
     try-stopped e = rw e refl
 
     -- a walk that hasn't stopped
     module _ (e : w .stopped ≡ false) where
       pub try-ended : (rule .endsAtFirst && w .best .some) ≡ true → stateOf n w ≡ tryAt n rule budget k placed x (stateOf n w)
-      unfolding tryAt oneTry isOver stateOf unless
+      unfolding tryAt oneTry isOver stateOf stateBy unless
       try-ended o = rw (e, o) refl
 
       -- and hasn't ended
       module _ (o : (rule .endsAtFirst && w .best .some) ≡ false) where
         pub try-at-budget : w .tries ≡ budget
             → stateOf n (record { tries = w .tries; stopped = true; best = w .best; starts = w .starts }) ≡ tryAt n rule budget k placed x (stateOf n w)
-        unfolding tryAt oneTry isOver stateOf unless stopIf stop
+        unfolding tryAt oneTry isOver stateOf stateBy unless stopIf stop
         try-at-budget b = rw (e, o, eq-eqb (w .tries) budget b) refl
 
         -- a try that is made
@@ -100,19 +100,19 @@ module _ (n : Net) (rule : Rule) (budget : ℕ) where
           more = record { tries = w .tries + 1; stopped = w .stopped; best = w .best; starts = w .starts }
 
           pub try-dropped : rule .drops upper (w .best) ≡ true → stateOf n more ≡ tryAt n rule budget k placed x (stateOf n w)
-          unfolding tryAt oneTry isOver stateOf unless stopIf tryMade
+          unfolding tryAt oneTry isOver stateOf stateBy unless stopIf tryMade
           try-dropped f = rw (e, o, ne-eqb (w .tries) budget b, f) refl
 
           pub try-onward : rule .drops upper (w .best) ≡ false
               → walkFrom n rule budget (suc k) (placed ++ (pos x ∷ [])) (stateOf n more) ≡ tryAt n rule budget k placed x (stateOf n w)
-          unfolding tryAt oneTry isOver stateOf unless stopIf tryMade
+          unfolding tryAt oneTry isOver stateOf stateBy unless stopIf tryMade
           try-onward f = rw (e, o, ne-eqb (w .tries) budget b, f) refl
 
           -- on the last line
           best-state : suc k ≡ length (n .periods) → (starts : List ℕ) → startsOf (suc k) starts ≡ placed ++ (pos x ∷ []) → upper .some ≡ true
               → stateOf n (record { tries = w .tries + 1; stopped = w .stopped; best = upper; starts = starts })
               ≡ becomesBest upper (placed ++ (pos x ∷ [])) (stateOf n more)
-          unfolding stateOf becomesBest
+          unfolding stateOf stateBy becomesBest
           best-state last starts given some = rw (← last, some, given) refl
 
           pub try-best : rule .drops upper (w .best) ≡ false → suc k ≡ length (n .periods)

@@ -11,16 +11,18 @@ use lib.Dec.{ltb}
 use lib.IntN.{ℤ, pos}
 use lib.ListN.{length, length-append, List·getD-append}
 use Rattle.network.specs.declared.Call.{Call}
-use Rattle.network.specs.Network.{Net}
+use Rattle.network.specs.declared.Rating.{Rating}
+use Rattle.network.specs.Network.{Net, isServed}
 use Rattle.network.specs.Valid.{noCall, Valid}
 use Rattle.network.specs.Rating.{gapOfCalls, pairGaps, gapOfStop, callsOfStop, stopGap}
-use Rattle.network.specs.Rating.{counted, ratingBy, rating}
+use Rattle.network.specs.Rating.{servedList, counted, ratingBy, rating}
 use Rattle.network.specs.Lists.{leastFrom}
 use Rattle.network.proofs.Laws.Members.{AllPairs, keep-pairs, keep-has-pair, keep-every, of-all}
-use Rattle.network.proofs.Laws.Least.{leastFrom-le}
+use Rattle.network.proofs.Laws.Least.{leastFrom-le, leastOf-map-member, leastOf-map-le}
 use Rattle.network.proofs.Laws.Gaps.{gapOfStop-le-pair, gapOfStop-attained, callsOfStop-stated, gapOfCalls-local, gapOfStop-none}
 use Rattle.network.proofs.Laws.Gaps.{gapOfStop-single, leastFrom-pairGaps-few, leastFrom-pairGaps-more, rating-is-ratingBy}
-use Rattle.network.proofs.Laws.Gaps.{ratingBy-least-mono, ratingBy-numbers, ratingBy-some, ratingBy-sum-mono, stopGap-is}
+use Rattle.network.proofs.Laws.Gaps.{ratingBy-counted, ratingBy-least-mono, ratingBy-numbers, ratingBy-some, ratingBy-sum-mono, stopGap-is}
+use Rattle.network.proofs.Laws.Gaps.{servedList-member, servedList-some}
 use Rattle.search.specs.Caps.{capOfCalls, cap, placedCalls, upperValue, upperRating}
 use Rattle.search.proofs.Laws.Caps.{cap-sound}
 use Rattle.search.proofs.Laws.Bounds.{IsUpper, BoundsEach, upper-of-bounds-each}
@@ -99,6 +101,33 @@ upper-bounds-each n caps counts =
 pub upper-is-upper : (n : Net) (caps : ℕ → ℕ) (counts : List ℕ) → IsUpper (upperRating n caps) counts
 upper-is-upper n caps counts =
     upper-of-bounds-each (upperRating n caps) counts (upperRating-some n caps) (upper-bounds-each n caps counts)
+
+-- ---- caps
+
+module _ {n : Net} (valid : Valid n) (caps : ℕ → ℕ) (starts : List ℤ) where
+  -- An upper least gap is no larger than a served stop's cap ..
+  pub upper-least-le-cap : (stop : ℕ) → isServed stop (n .calls) ≡ true → upperRating n caps starts .least ≤ caps stop
+  unfolding upperRating upperValue
+  upper-least-le-cap stop served =
+      omega (
+        arith,
+        ap (λ (r : Rating). r .least) (ratingBy-counted (upperValue n caps starts) n),
+        leastOf-map-le (upperValue n caps starts) (servedList n) (servedList-member valid stop served),
+        leastFrom-le (caps stop) (pairGaps n starts (placedCalls starts (callsOfStop n stop))),
+      )
+
+  -- .. and so no larger than all of them
+  pub upper-least-le : (most : ℕ) → ((stop : ℕ) → caps stop ≤ most) → upperRating n caps starts .least ≤ most
+  unfolding upperRating upperValue
+  upper-least-le most h =
+      let (stop, m, e) = leastOf-map-member (upperValue n caps starts) (servedList n) (servedList-some valid) in
+      omega (
+        arith,
+        ap (λ (r : Rating). r .least) (ratingBy-counted (upperValue n caps starts) n),
+        e,
+        leastFrom-le (caps stop) (pairGaps n starts (placedCalls starts (callsOfStop n stop))),
+        h stop,
+      )
 
 -- ---- all lines placed
 

@@ -90,6 +90,10 @@ module _ (rule : Rule) (s : State) where
       go false true false e f g h = record { unstopped = e; unended = λ x. g }
       go false false c e f g h = record { unstopped = e; unended = λ x. absurd (zero-ne-one (cc)) }
 
+  pub over-of-stopped : s .stopped ≡ true → isOver rule s ≡ true
+  unfolding isOver
+  over-of-stopped e = ap (λ (a : Bool). a || (rule .endsAtFirst && s .best .some)) e
+
   pub over-of-ended : rule .endsAtFirst ≡ true → s .best .some ≡ true → isOver rule s ≡ true
   unfolding isOver
   over-of-ended e f = go (s .stopped)
@@ -204,6 +208,13 @@ module _ (upper : List ℤ → Rating) (rule : Rule) (budget : ℕ) where
   walk-tries-le-budget counts placed s =
       walk-keeps (λ s. s .tries ≤ budget) (λ p s. Unit {0}) (λ s e f h. h) (λ s e f h. omega arith) (λ p s e d. tt) counts placed
       (λ tail c s b h. h) s (λ z. tt)
+
+  -- Tries are made and never taken back
+  pub walk-tries-rise : (counts : List ℕ) (placed : List ℤ) (s : State) → s .tries ≤ walk upper rule budget counts placed s .tries
+  unfolding becomesBest stop tryMade
+  walk-tries-rise counts placed s =
+      walk-keeps (λ t. s .tries ≤ t .tries) (λ p t. Unit {0}) (λ t e f h. h) (λ t e f h. omega arith) (λ p t e d. tt) counts placed
+      (λ tail c t b h. h) s (λ z. tt) (le-refl (s .tries))
 
   -- A walk that ends stopped has made all its tries
   pub walk-stopped-at-budget : (counts : List ℕ) (placed : List ℤ) (s : State) → s .stopped ≡ false

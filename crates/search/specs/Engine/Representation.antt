@@ -8,6 +8,8 @@ use lib.Dec.{ltb, leb}
 use lib.IntN.{ℤ, pos}
 use lib.ListN.{length, getD, take, drop}
 use Rattle.network.specs.declared.Call.{Call}
+use Rattle.network.specs.declared.Check.{Check}
+use Rattle.network.specs.declared.Check.the-variants as checks
 use Rattle.network.specs.declared.Rating.{Rating}
 use Rattle.network.specs.Lists.{pick, leastFrom}
 use Rattle.network.specs.Divisor.{gcd}
@@ -17,6 +19,7 @@ use Rattle.network.specs.Engine.Scan.{LeadsBack, callsBefore}
 use Rattle.network.specs.Engine.Stored.{packed}
 use Rattle.network.specs.Valid.{Valid, noCall}
 use Rattle.search.specs.declared.Cut.{Cut}
+use Rattle.search.specs.declared.Ended.{Ended}
 use Rattle.search.specs.declared.Placed.{Placed}
 use Rattle.search.specs.declared.Rule as declared-rule
 use Rattle.search.specs.declared.Rule.the-variants as rules
@@ -26,7 +29,8 @@ use Rattle.search.specs.declared.Try.{Try}
 use Rattle.search.specs.declared.Walk as declared-walk
 use Rattle.search.specs.Caps.{cap, upperValue, upperRating}
 use Rattle.search.specs.Walk.{State, Rule, oneTry, eachStart, walk}
-use Rattle.search.specs.Search.{startCounts, aboveBest, atLeast, bySum}
+use Rattle.search.specs.Search.{startCounts, aboveBest, bySum}
+use Rattle.search.specs.Wanted.{atLeast}
 use Rattle.search.specs.Engine.Layout.{byLine}
 
 -- More than any arrival of the walk: a start below 1,440 and an offset below 65,536
@@ -154,15 +158,18 @@ PlacedOr codes previous divisors lines cut due p r =
 
 -- ---- the walk
 
--- The walk that a walk of the code stands for; where it has no best, it has no starts
-unfoldable pub stateOf : Net → declared-walk.Walk → State
-stateOf n w =
+-- The walk that a walk of the code over so many lines stands for; where it has no best, it has no starts
+unfoldable pub stateBy : ℕ → declared-walk.Walk → State
+stateBy lines w =
     record {
       tries = w .tries;
       stopped = w .stopped;
       best = w .best;
-      starts = pick (w .best .some) (startsOf (length (n .periods)) (w .starts)) [];
+      starts = pick (w .best .some) (startsOf lines (w .starts)) [];
     }
+
+unfoldable pub stateOf : Net → declared-walk.Walk → State
+stateOf n w = stateBy (length (n .periods)) w
 
 -- A full timetable become the best
 abbrev pub withBest : declared-walk.Walk → Placed → declared-walk.Walk
@@ -203,3 +210,23 @@ Tried codes previous divisors lines task line p steps w r =
     (l : NetworkRows codes previous divisors lines)
     → CanTry (l .call-rows .net) task line p
     → stateOf (l .call-rows .net) r ≡ steps (l .call-rows .net) (stateOf (l .call-rows .net) w)
+
+-- ---- a walk on a file
+
+-- How it ends: the walk at its end, or a refusal
+pub data Ending : Type 0 where
+  ended : State → Ending
+  refusal : (number place : ℕ) → Ending
+
+unfoldable pub endingBy : Check → State → Ending
+endingBy checks.Passes s = ended s
+endingBy (checks.Refused number place) s = refusal number place
+
+-- The ending that an ending of the code stands for, with a start row of so many places
+unfoldable pub endingOf : ℕ → Ended → Ending
+endingOf lines e = endingBy (e .check) (stateBy lines (e .walk))
+
+-- What a call makes of it
+unfoldable pub fromEnding : {A : Type 0} → (State → A) → (ℕ → ℕ → A) → Ending → A
+fromEnding answers refuses (ended s) = answers s
+fromEnding answers refuses (refusal number place) = refuses number place

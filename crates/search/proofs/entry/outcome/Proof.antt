@@ -1,20 +1,20 @@
 -- `search::entry::outcome` meets its contract, by the three cases of a walk at its end. Assumes nothing.
 use mathlib.Core.Path.{refl}
 use Rattle.search.specs.Search.{searchAnswer, walkOutcome, outcomeOf}
-use Rattle.search.specs.Engine.Representation.{stateOf}
+use Rattle.search.specs.Engine.Representation.{stateBy}
 use Rattle.search.proofs.entry.outcome.Statement.{statement}
 use Rattle.search.proofs.entry.outcome.Tie as tie
 
 returns : tie.Need-returns
-unfolding searchAnswer walkOutcome outcomeOf stateOf
+unfolding searchAnswer walkOutcome outcomeOf stateBy
 returns c n = rw (c .before .if1 .taken, c .if2 .taken) refl
 
 returns-2 : tie.Need-returns-2
-unfolding searchAnswer walkOutcome outcomeOf stateOf
+unfolding searchAnswer walkOutcome outcomeOf stateBy
 returns-2 c n = rw (c .before .if1 .taken, c .if2 .left) refl
 
 returns-3 : tie.Need-returns-3
-unfolding searchAnswer walkOutcome outcomeOf stateOf
+unfolding searchAnswer walkOutcome outcomeOf stateBy
 returns-3 c n = rw (c .if1 .left) refl
 
 pub outcome-spec : {M : Type 1} → statement M

@@ -3,7 +3,8 @@ use mathlib.Core.Path.{sym, ap}
 use mathlib.Core.Bool.{_&&_}
 use borrow.Author.Needs.{needs}
 use Rattle.search.specs.Engine.Representation.{ruleOf}
-use Rattle.search.specs.Search.{aboveBest, atLeast, bySum}
+use Rattle.search.specs.Search.{aboveBest, bySum}
+use Rattle.search.specs.Wanted.{atLeast}
 use Rattle.search.proofs.tries.has_ended.Statement.{statement}
 use Rattle.search.proofs.tries.has_ended.Tie as tie
 

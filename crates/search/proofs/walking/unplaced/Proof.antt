@@ -1,4 +1,4 @@
--- `search::entry::unplaced` meets its contract: with no line placed each stop's upper value is its cap, and the rows of caps and of served
+-- `search::walking::unplaced` meets its contract: with no line placed each stop's upper value is its cap, and the rows of caps and of served
 -- stops give the upper rating. Assumes nothing.
 use Prim.Native.Nat.{ℕ, _<_}
 use mathlib.Core.Path.{_≡_, _∙_}
@@ -8,9 +8,9 @@ use lib.ListN.{getD, replicate, getD-replicate}
 use Rattle.network.specs.Engine.Stored.{netOf}
 use Rattle.search.specs.Caps.{cap}
 use Rattle.search.proofs.Laws.CapScan.{cap-le}
-use Rattle.search.proofs.Laws.SearchCall.{caps-rating, unplaced-represents}
-use Rattle.search.proofs.entry.unplaced.Statement.{statement}
-use Rattle.search.proofs.entry.unplaced.Tie as tie
+use Rattle.search.proofs.Laws.WalkOnFile.{caps-rating, unplaced-represents}
+use Rattle.search.proofs.walking.unplaced.Statement.{statement}
+use Rattle.search.proofs.walking.unplaced.Tie as tie
 
 ones-are : (stop : ℕ) → stop < 64 → _≡_ {A = ℕ} (getD (replicate 64 1) stop 0) 1
 ones-are stop h = getD-replicate 64 stop 1 0 h

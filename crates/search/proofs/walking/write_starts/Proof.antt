@@ -1,4 +1,4 @@
--- `search::entry::write_starts` meets its contract. The loop's invariant: the row is as long as it was, and its places passed hold the
+-- `search::walking::write_starts` meets its contract. The loop's invariant: the row is as long as it was, and its places passed hold the
 -- starts. Assumes nothing.
 use Prim.Native.Nat.{ℕ, _-_, _<_, _≤_}
 use mathlib.Core.Path.{_≡_, refl, sym, ap, _∙_}
@@ -11,8 +11,8 @@ use mir.Facts.{toZ-pos}
 use lib.IntN.{ℤ, pos}
 use lib.ListN.{length, getD, take, set, length-set, length-map, List·getD-map}
 use lib.Seq.{getD-set-same, getD-set-other, getD-take, length-take-le, ext-getD}
-use Rattle.search.proofs.entry.write_starts.Statement.{statement}
-use Rattle.search.proofs.entry.write_starts.Tie as tie
+use Rattle.search.proofs.walking.write_starts.Statement.{statement}
+use Rattle.search.proofs.walking.write_starts.Tie as tie
 
 abbrev Inv-loop : tie.InvT-loop
 Inv-loop row₀ starts from count i₀ row i =

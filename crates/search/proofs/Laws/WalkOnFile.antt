@@ -1,22 +1,25 @@
--- Laws of the search call: before the first try each stop's upper value is its cap, the rows in line order hold the network, and the walk
--- over a network is the tries of its first line. Assumes nothing.
+-- Laws of the walk on a file: before the first try each stop's upper value is its cap, the rows in line order hold the network, the walk over
+-- a network is the tries of its first line, and what a call makes of its ending. Assumes nothing.
 use Prim.Native.Nat.{ℕ, _+_, _*_, _<_, _≤_}
 use mathlib.Core.Path.{_≡_, refl, sym, ap, ap₂, fun-ext, _∙_}
-use mathlib.Core.Bool.{Bool, true, false, _&&_}
+use mathlib.Core.Bool.{Bool, true, false}
 use mathlib.Core.List.{List, [], _∷_, map}
 use native.Mathlib.Omega.{arith}
-use borrow.Author.Tests.{le-ltb, eq-eqb, ne-eqb}
+use borrow.Author.Tests.{le-ltb}
 use lib.Dec.{ltb}
 use lib.IntN.{ℤ}
 use lib.ListN.{length, getD, replicate, length-replicate}
 use Rattle.network.specs.declared.Call.{Call}
+use Rattle.network.specs.declared.Check.{Check}
+use Rattle.network.specs.declared.Check.the-variants as checks
 use Rattle.network.specs.declared.Network.{Network}
 use Rattle.network.specs.declared.Rating.{Rating}
 use Rattle.network.specs.Divisor.{gcd}
 use Rattle.network.specs.Lists.{pick, sumOf, leastOf, leastFrom}
 use Rattle.network.specs.Network.{Net, isServed, maxStop, maxPeriod}
 use Rattle.network.specs.Rating.{pairGaps, callsOfStop, servedList, counted, ratingBy, noRating}
-use Rattle.network.specs.Reading.{accepted}
+use Rattle.network.specs.Reading.{Reading, accepted, readFile}
+use Rattle.network.specs.Refusals.{Refuses, Unfit}
 use Rattle.network.specs.Engine.Scan.{LeadsBack, countedStops}
 use Rattle.network.specs.Engine.Stored.{netOf, callsIn, Sound, packed}
 use Rattle.network.specs.Valid.{Valid, noCall}
@@ -26,15 +29,18 @@ use Rattle.network.proofs.Laws.Packed.{call-in-row}
 use Rattle.network.proofs.Laws.Stored.{held-lines, held-calls, held-period, held-call}
 use Rattle.network.proofs.Laws.Gaps.{ratingBy-same, counted-of-member, counted-served, ratingBy-counted, leadsBack-fewer, leadsBack-same}
 use Rattle.network.proofs.Laws.Gaps.{leastFrom-pairGaps-few, sumOf-served-le}
+use Rattle.search.specs.declared.Ended as code-ended
 use Rattle.search.specs.declared.Walk as code
 use Rattle.search.specs.Caps.{cap, placedCalls, upperValue, upperRating}
-use Rattle.search.specs.Engine.Representation.{Represents, NetworkRows, firstIn, countIn, startsOf, stateOf, walkFrom, tryAt, withReciprocal}
+use Rattle.search.specs.Engine.Representation.{Represents, NetworkRows, firstIn, countIn, startsOf, walkFrom, tryAt, withReciprocal}
+use Rattle.search.specs.Engine.Representation.{stateBy, stateOf, ended, refusal, endingBy, endingOf, fromEnding}
 use Rattle.search.specs.Engine.Layout.{byLine, inLineOrder}
-use Rattle.search.specs.Search.{startCounts, aboveBest, searched, refusal, outcomeOf, searchOutcome, startRowAfter}
-use Rattle.search.specs.Walk.{State, atFirst, eachStart}
+use Rattle.search.specs.Search.{startCounts, walked, onStartRow, rowAfterWalk}
+use Rattle.search.specs.Walk.{State, Rule, atFirst, eachStart}
 use Rattle.search.proofs.Laws.CapScan.{cap-le}
 use Rattle.search.proofs.Laws.Layout.{length-byLine-all}
 use Rattle.search.proofs.Laws.CallRows.{byLine-all}
+use Rattle.search.proofs.Laws.StartRow.{onStartRow-fit, onStartRow-refuses, onStartRow-made}
 use Rattle.search.proofs.Laws.Tries.{walkFrom-next}
 
 -- ---- no line placed
@@ -170,45 +176,78 @@ startCounts-first [] h = absurd (omega (arith, h))
 startCounts-first (p ∷ ps) h = refl
 
 -- The walk over a network is the one try of its first line at 0
-pub searched-by-tries :
+pub walked-by-tries :
     (n : Net)
     → Valid n
-    → (budget : ℕ) (starts : List ℕ) (r : code.Walk)
-    → stateOf n r ≡ eachStart (tryAt n aboveBest budget 0 []) 0 1 (stateOf n (record { tries = 0; stopped = false; best = noRating; starts = starts }))
-    → stateOf n r ≡ searched n budget
-unfolding searched walkFrom stateOf
-searched-by-tries n valid budget starts r e =
+    → (rule : Rule) (budget : ℕ) (starts : List ℕ) (r : code.Walk)
+    → stateOf n r ≡ eachStart (tryAt n rule budget 0 []) 0 1 (stateOf n (record { tries = 0; stopped = false; best = noRating; starts = starts }))
+    → stateOf n r ≡ walked n rule budget
+unfolding walked walkFrom stateOf stateBy
+walked-by-tries n valid rule budget starts r e =
     e
     ∙ sym
-    (walkFrom-next n aboveBest budget 0 [] atFirst (valid .some-line)
-    ∙ ap (λ (k : ℕ). eachStart (tryAt n aboveBest budget 0 []) 0 k atFirst) (startCounts-first (n .periods) (valid .some-line)))
+    (walkFrom-next n rule budget 0 [] atFirst (valid .some-line)
+    ∙ ap (λ (k : ℕ). eachStart (tryAt n rule budget 0 []) 0 k atFirst) (startCounts-first (n .periods) (valid .some-line)))
 
--- ---- what the call answers and leaves
+-- ---- the walk on a file
 
 pick-twice : (b : Bool) (x y z : List ℤ) → pick b (pick b x y) z ≡ pick b x z
 pick-twice true x y z = refl
 pick-twice false x y z = refl
 
--- A row with one place for each line
-module _ (n : Net) (budget : ℕ) (row : List ℤ) (fits : length row ≡ length (n .periods)) (w : code.Walk) (walked : stateOf n w ≡ searched n budget) where
-  pub outcome-fit : searchOutcome (accepted n) (length row) budget ≡ outcomeOf (stateOf n w)
-  unfolding searchOutcome
-  outcome-fit = ap (λ b. pick b (outcomeOf (searched n budget)) (refusal 16 0)) (eq-eqb _ _ fits) ∙ ap outcomeOf (sym walked)
+-- How it ends, and what it leaves in the row
+module _ (file : List ℕ) (row : List ℤ) (rule : Rule) (budget : ℕ) where
+  abbrev Ends : code-ended.Ended → Type 0
+  Ends e = endingOf (length row) e ≡ onStartRow (λ (n : Net). ended (walked n rule budget)) refusal (readFile file) (length row)
 
-  pub row-fit : startRowAfter (accepted n) budget row ≡ pick (w .best .some) (startsOf (length row) (w .starts)) row
-  unfolding startRowAfter stateOf
-  row-fit =
-      ap (λ b. pick (b && searched n budget .best .some) (searched n budget .starts) row) (eq-eqb _ _ fits)
-      ∙ ap (λ (s : State). pick (s .best .some) (s .starts) row) (sym walked)
-      ∙ pick-twice (w .best .some) (startsOf (length (n .periods)) (w .starts)) [] row
-      ∙ ap (λ (k : ℕ). pick (w .best .some) (startsOf k (w .starts)) row) (sym fits)
+  abbrev Leaves : List ℤ → Type 0
+  Leaves exit =
+      exit ≡ onStartRow (λ (n : Net). rowAfterWalk (walked n rule budget) row) (λ (number place : ℕ). row) (readFile file) (length row)
 
--- Any other row
-module _ (n : Net) (budget : ℕ) (row : List ℤ) (unfit : length row ≡ length (n .periods) → ⊥) where
-  pub outcome-unfit : searchOutcome (accepted n) (length row) budget ≡ refusal 16 0
-  unfolding searchOutcome
-  outcome-unfit = ap (λ b. pick b (outcomeOf (searched n budget)) (refusal 16 0)) (ne-eqb _ _ unfit)
+  -- A refused file, or a row that hasn't one place for each line
+  module _ {number place : ℕ} (refuses : Refuses file 16 (Unfit row) number place) where
+    pub ends-refused : (w : code.Walk) → Ends (record { check = checks.Refused number place; walk = w })
+    unfolding endingOf endingBy
+    ends-refused w = sym (onStartRow-refuses (λ (n : Net). ended (walked n rule budget)) refusal file row refuses)
 
-  pub row-unfit : startRowAfter (accepted n) budget row ≡ row
-  unfolding startRowAfter
-  row-unfit = ap (λ b. pick (b && searched n budget .best .some) (searched n budget .starts) row) (ne-eqb _ _ unfit)
+    pub leaves-refused : Leaves row
+    leaves-refused = sym (onStartRow-refuses (λ (n : Net). rowAfterWalk (walked n rule budget) row) (λ number place. row) file row refuses)
+
+  -- The walk
+  module _ {n : Net} (reads : readFile file ≡ accepted n) (fits : length row ≡ length (n .periods)) (w : code.Walk)
+      (is-walk : stateOf n w ≡ walked n rule budget) where
+    state-fit : stateBy (length row) w ≡ walked n rule budget
+    unfolding stateOf
+    state-fit = ap (λ (k : ℕ). stateBy k w) fits ∙ is-walk
+
+    pub ends-walked : Ends (record { check = checks.Passes; walk = w })
+    unfolding endingOf endingBy
+    ends-walked =
+        ap ended state-fit
+        ∙ sym (onStartRow-fit (λ (m : Net). ended (walked m rule budget)) refusal n (length row) fits)
+        ∙ ap (λ (k : Reading). onStartRow (λ (m : Net). ended (walked m rule budget)) refusal k (length row)) (sym reads)
+
+    pub leaves-walked : Leaves (pick (w .best .some) (startsOf (length row) (w .starts)) row)
+    unfolding rowAfterWalk stateBy
+    leaves-walked =
+        sym (pick-twice (w .best .some) (startsOf (length row) (w .starts)) [] row)
+        ∙ ap (λ (s : State). rowAfterWalk s row) state-fit
+        ∙ sym (onStartRow-fit (λ (m : Net). rowAfterWalk (walked m rule budget) row) (λ number place. row) n (length row) fits)
+        ∙ ap (λ (k : Reading). onStartRow (λ (m : Net). rowAfterWalk (walked m rule budget) row) (λ number place. row) k (length row)) (sym reads)
+
+-- What a call makes of its ending
+module _ {A : Type 0} (answers : State → A) (refuses : ℕ → ℕ → A) (walks : Net → State) (read : Reading) (row : ℕ) (e : code-ended.Ended)
+    (ends : endingOf row e ≡ onStartRow (λ (n : Net). ended (walks n)) refusal read row) where
+  made-of : fromEnding answers refuses (endingOf row e) ≡ onStartRow (λ (n : Net). answers (walks n)) refuses read row
+  unfolding fromEnding
+  made-of =
+      ap (fromEnding answers refuses) ends ∙ onStartRow-made (fromEnding answers refuses) (λ (n : Net). ended (walks n)) refusal read row
+
+  pub made-of-walk : e .check ≡ checks.Passes → answers (stateBy row (e .walk)) ≡ onStartRow (λ (n : Net). answers (walks n)) refuses read row
+  unfolding fromEnding endingOf endingBy
+  made-of-walk passes = sym (ap (λ (c : Check). fromEnding answers refuses (endingBy c (stateBy row (e .walk)))) passes) ∙ made-of
+
+  pub made-of-refusal : {number place : ℕ} → e .check ≡ checks.Refused number place
+      → refuses number place ≡ onStartRow (λ (n : Net). answers (walks n)) refuses read row
+  unfolding fromEnding endingOf endingBy
+  made-of-refusal is-refused = sym (ap (λ (c : Check). fromEnding answers refuses (endingBy c (stateBy row (e .walk)))) is-refused) ∙ made-of

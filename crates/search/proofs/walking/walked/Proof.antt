@@ -1,5 +1,5 @@
--- `search::entry::searched` meets its contract: the rows in line order hold the network, no line is placed, and the tries of the first line
--- by document 01's rule are the walk. Assumes nothing.
+-- `search::walking::walked` meets its contract: the rows in line order hold the network, no line is placed, and the tries of the first line
+-- by the rule are the walk. Assumes nothing.
 use Prim.Native.Nat.{_-_}
 use mathlib.Core.Path.{_∙_}
 use native.Mathlib.Omega.{arith}
@@ -9,14 +9,13 @@ use Rattle.network.specs.declared.Network.{Network}
 use Rattle.network.specs.Engine.Stored.{netOf, Sound}
 use Rattle.network.specs.Valid.{Valid}
 use Rattle.network.proofs.Laws.Stored.{held-lines}
-use Rattle.search.specs.declared.Rule.the-variants as rules
 use Rattle.search.specs.declared.Task.{Task}
 use Rattle.search.specs.Engine.Representation.{NetworkRows, CanTry, ruleOf}
 use Rattle.search.proofs.Laws.Layout.{length-byLine-le}
 use Rattle.search.proofs.Laws.Tries.{startCounts-low}
-use Rattle.search.proofs.Laws.SearchCall.{stops-low, network-rows, searched-by-tries}
-use Rattle.search.proofs.entry.searched.Statement.{statement}
-use Rattle.search.proofs.entry.searched.Tie as tie
+use Rattle.search.proofs.Laws.WalkOnFile.{stops-low, network-rows, walked-by-tries}
+use Rattle.search.proofs.walking.walked.Statement.{statement}
+use Rattle.search.proofs.walking.walked.Tie as tie
 
 -- Before the tries: the network, the rows that hold it, and the first line that can be tried
 module _ (c : tie.After-lines) where
@@ -62,7 +61,7 @@ module _ (c : tie.After-lines) where
       (λ k h. with-lines .line-row .ensures .1 k (omega (arith, h, held-lines network sound)) ∙ with-counts .start-count-row .ensures k h)
 
   abbrev task : Task
-  task = record { rule = rules.AboveBest; budget = start .args .budget; last = network .lines - 1 }
+  task = record { rule = start .args .rule; budget = start .args .budget; last = network .lines - 1 }
 
   can : CanTry (netOf network) task 0 (with-placed .unplaced .result)
   can =
@@ -112,8 +111,8 @@ line-row-requires c κs =
 unplaced-requires : tie.Need-unplaced-requires
 unplaced-requires c κs = search needs
 
-sub-t23 : tie.Need-sub-t23
-sub-t23 c =
+sub-t21 : tie.Need-sub-t21
+sub-t21 c =
     let s = c .before .before .before .before .before .before .before .before .before .before .before .before in
     omega (arith, s .pre .1 .some-line, held-lines (s .args .network) (s .pre .0))
 
@@ -121,13 +120,12 @@ try-starts-requires : tie.Need-try-starts-requires
 try-starts-requires c κs = ((rows c, can c), (omega arith, omega arith))
 
 returns : tie.Need-returns
-unfolding ruleOf
 returns c =
     let k = c .before in
-    searched-by-tries (netOf (network k)) (valid k) (start k .args .budget) (replicate 16 0) (c .try-starts .result) (c .try-starts .ensures .1 (rows k) (can k))
+    walked-by-tries (netOf (network k)) (valid k) (ruleOf (start k .args .rule)) (start k .args .budget) (replicate 16 0) (c .try-starts .result) (c .try-starts .ensures .1 (rows k) (can k))
 
-pub searched-spec : {M : Type 1} → statement M
-searched-spec =
+pub walked-spec : {M : Type 1} → statement M
+walked-spec =
     tie.close
     (tie.spec
     by-line-requires
@@ -136,6 +134,6 @@ searched-spec =
     start-count-row-requires
     line-row-requires
     unplaced-requires
-    sub-t23
+    sub-t21
     try-starts-requires
     returns)

@@ -1,11 +1,11 @@
--- `search::entry::widened` meets its contract. The loop's invariant: the row holds the caps of the stops passed. Assumes nothing.
+-- `search::walking::widened` meets its contract. The loop's invariant: the row holds the caps of the stops passed. Assumes nothing.
 use Prim.Native.Nat.{_-_, _≤_}
 use mathlib.Core.Path.{refl}
 use native.Mathlib.Omega.{arith}
 use lib.ListN.{getD}
 use Rattle.network.proofs.Laws.Filled.{Filled, filled-none, filled-next}
-use Rattle.search.proofs.entry.widened.Statement.{statement}
-use Rattle.search.proofs.entry.widened.Tie as tie
+use Rattle.search.proofs.walking.widened.Statement.{statement}
+use Rattle.search.proofs.walking.widened.Tie as tie
 
 abbrev Inv-loop : tie.InvT-loop
 Inv-loop row caps wide₀ stop₀ wide stop = (stop ≤ 64) × Filled (λ j. getD row j 0) 64 wide stop
