@@ -12,7 +12,7 @@
 //! | `damaged.rs`  | accepted files with some damage                         |
 //! | `large.rs`    | full files, files at the limits, very long files        |
 //! | `any.rs`      | files of every kind                                     |
-//! | `sheets.rs`   | sheets and budgets                                      |
+//! | `sheets.rs`   | sheets, budgets and wanted gaps                         |
 
 mod any;
 mod bytes;
@@ -33,5 +33,5 @@ pub use dice::Dice;
 pub use faulty::{faulty_file, Faulty};
 pub use large::{dense_file, limit_file, longest_file, very_long_file};
 pub use retyped::retyped;
-pub use sheets::{any_budget, any_sheet, any_sheet_bytes, any_start, sheet, sheet_bytes};
+pub use sheets::{any_budget, any_gap, any_sheet, any_sheet_bytes, any_start, sheet, sheet_bytes};
 pub use valid::{any_size, valid_commands, valid_commands_of, valid_file, Size, CYCLES};

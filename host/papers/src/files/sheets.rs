@@ -1,4 +1,4 @@
-//! Sheets and budgets.
+//! Sheets, budgets and wanted gaps.
 
 use super::dice::Dice;
 
@@ -62,5 +62,15 @@ pub fn any_budget(dice: &mut Dice) -> u32 {
         1 => dice.below(20_000) as u32,
         2 => 20_000,
         _ => dice.below(400) as u32,
+    }
+}
+
+/// A wanted gap: mostly one up to a minute more than this, now and then any of 16
+/// bits.
+pub fn any_gap(dice: &mut Dice, most: u32) -> u16 {
+    match dice.below(8) {
+        0 => dice.pick(&[0, 1_439, 1_440, 1_441, u16::MAX - 1, u16::MAX]),
+        1 => dice.bits() as u16,
+        _ => dice.within(0, most as usize + 1) as u16,
     }
 }

@@ -10,6 +10,7 @@
 //! | `sheets.rs`   | Sheets; ground 15                                   |
 //! | `best.rs`     | Edges and cases: what the program `best` prints     |
 //! | `archive.rs`  | document 02, A.1: the archive form; ground 18       |
+//! | `wanted.rs`   | document 02, A.3: a wanted gap; ground 16           |
 
 pub mod archive;
 pub mod best;
@@ -19,3 +20,4 @@ pub mod network;
 pub mod rating;
 pub mod sheets;
 pub mod walk;
+pub mod wanted;

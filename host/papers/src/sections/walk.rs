@@ -1,4 +1,5 @@
-//! Document 01, "The walk"; ground 16.
+//! Document 01, "The walk"; ground 16. Document 02, A.3, has another rule for the
+//! same walk; what it answers by that stands in `wanted.rs`.
 //!
 //! The upper values are brought forward: a try looks only at the pairs that
 //! the newly placed line forms with earlier lines. A line's own pairs are
@@ -27,13 +28,7 @@ pub struct Walked {
 /// stopped with none leaves it untouched." Ground 16, after the file's own:
 /// "start row's length isn't the number of lines".
 pub fn search(file: &[u8], start_row: &mut [i32], budget: u32) -> Result<Answer, Refusal> {
-    let net = read(file)?;
-    if start_row.len() != net.lines() {
-        return Err(Refusal {
-            number: 16,
-            place: 0,
-        });
-    }
+    let net = read_with_row(file, start_row)?;
     let walked = walk(&net, budget);
     if let Some(starts) = &walked.starts {
         start_row.copy_from_slice(starts);
@@ -41,21 +36,40 @@ pub fn search(file: &[u8], start_row: &mut [i32], budget: u32) -> Result<Answer,
     Ok(walked.answer)
 }
 
+/// Reads the file, then tests the start row's length.
+pub(super) fn read_with_row(file: &[u8], start_row: &[i32]) -> Result<Network, Refusal> {
+    let net = read(file)?;
+    match start_row.len() == net.lines() {
+        true => Ok(net),
+        false => Err(Refusal {
+            number: 16,
+            place: 0,
+        }),
+    }
+}
+
 /// The walk over an accepted network.
 pub fn walk(net: &Network, budget: u32) -> Walked {
-    let mut walker = Walker::new(net, budget);
-    let end = walker.line(0);
+    let (end, walker) = walk_by(Rule::Best, net, budget);
     let tries = walker.tries;
     let answer = match (end, walker.best) {
         (End::Walked, Some(best)) => Answer::Finished { best, tries },
-        (End::Walked, None) => unreachable!("the first descent reaches a full timetable"),
         (End::Stopped, Some(best)) => Answer::Stopped { best, tries },
         (End::Stopped, None) => Answer::StoppedWithNone { tries },
+        (End::Walked, None) => unreachable!("the first descent reaches a full timetable"),
+        (End::Found, _) => unreachable!("no timetable ends a walk for the best one"),
     };
     Walked {
         answer,
         starts: walker.best.map(|_| walker.best_starts),
     }
+}
+
+/// The walk by a rule: how it ended, and what it left.
+pub(super) fn walk_by(rule: Rule, net: &Network, budget: u32) -> (End, Walker<'_>) {
+    let mut walker = Walker::new(rule, net, budget);
+    let end = walker.line(0);
+    (end, walker)
 }
 
 /// "1 + T1 + T1×T2 + .. over the periods after the first" (demand 3); the
@@ -91,14 +105,30 @@ struct Meeting {
     pairs: Vec<Pair>,
 }
 
-/// How the walk below a line ended.
-#[derive(Clone, Copy, PartialEq, Eq)]
-enum End {
-    Walked,
-    Stopped,
+/// What a walk is for: by what it drops a try, and whether a full timetable ends
+/// it.
+#[derive(Clone, Copy)]
+pub(super) enum Rule {
+    /// "A try whose upper rating isn't above the best so far is dropped"
+    Best,
+    /// Document 02, A.3: "a try is dropped if its upper least gap is below the
+    /// wanted one, and the first full timetable ends it"
+    Wanted(u32),
 }
 
-struct Walker<'a> {
+/// How the walk below a line ended.
+#[derive(Clone, Copy, PartialEq, Eq)]
+pub(super) enum End {
+    /// No try is left.
+    Walked,
+    /// A try was due, and the budget was used up.
+    Stopped,
+    /// A full timetable ended it.
+    Found,
+}
+
+pub(super) struct Walker<'a> {
+    rule: Rule,
     net: &'a Network,
     /// For each line the stops where it meets earlier lines.
     meetings: Vec<Vec<Meeting>>,
@@ -108,18 +138,20 @@ struct Walker<'a> {
     ratings: Vec<Rating>,
     /// The starts of the placed lines.
     starts: Vec<i32>,
+    /// The rating of the full timetable that was kept last.
     best: Option<Rating>,
-    best_starts: Vec<i32>,
-    tries: u32,
+    pub(super) best_starts: Vec<i32>,
+    pub(super) tries: u32,
     budget: u32,
 }
 
 impl Walker<'_> {
-    fn new(net: &Network, budget: u32) -> Walker<'_> {
+    fn new(rule: Rule, net: &Network, budget: u32) -> Walker<'_> {
         let lines = net.lines();
         let caps = caps(net);
         let served: Vec<u32> = net.served_stops().iter().map(|&stop| caps[stop]).collect();
         Walker {
+            rule,
             net,
             meetings: (0..lines).map(|line| meetings(net, line)).collect(),
             uppers: vec![caps; lines + 1],
@@ -142,8 +174,9 @@ impl Walker<'_> {
                 return End::Stopped;
             }
             self.tries += 1;
-            if self.judge(line, start) == End::Stopped {
-                return End::Stopped;
+            match self.judge(line, start) {
+                End::Walked => {}
+                end => return end,
             }
         }
         End::Walked
@@ -162,9 +195,7 @@ impl Walker<'_> {
     fn judge(&mut self, line: usize, start: u32) -> End {
         self.starts[line] = start as i32;
         let upper = self.place(line);
-        // "before the first full timetable every rating is above": None is
-        // below every Some.
-        if Some(upper) <= self.best {
+        if self.drops(upper) {
             return End::Walked;
         }
         if line + 1 < self.net.lines() {
@@ -172,7 +203,20 @@ impl Walker<'_> {
         }
         self.best = Some(upper);
         self.best_starts.copy_from_slice(&self.starts);
-        End::Walked
+        match self.rule {
+            Rule::Best => End::Walked,
+            Rule::Wanted(_) => End::Found,
+        }
+    }
+
+    /// Whether a try of this upper rating is dropped.
+    fn drops(&self, upper: Rating) -> bool {
+        match self.rule {
+            // "before the first full timetable every rating is above": None is
+            // below every Some.
+            Rule::Best => Some(upper) <= self.best,
+            Rule::Wanted(gap) => upper.least < gap,
+        }
     }
 
     /// Makes ready to try a line from start 0 on, all earlier lines being

@@ -12,3 +12,4 @@ mod rows;
 mod sheets;
 mod source;
 mod walk;
+mod wanted;

@@ -7,3 +7,4 @@ mod files;
 mod ratings;
 mod search;
 mod sheets;
+mod wanted;
