@@ -35,6 +35,11 @@ extern "C" {
 #define EXAMINATION_STOPPED 1u
 #define EXAMINATION_STOPPED_WITH_NONE 2u
 
+/* What examination_wanted returns where it doesn't refuse. */
+#define EXAMINATION_WANTED_FOUND 0u
+#define EXAMINATION_WANTED_NONE 1u
+#define EXAMINATION_WANTED_STOPPED 2u
+
 /* What examination_mark returns where it doesn't refuse. */
 #define EXAMINATION_DECIDED 0u
 #define EXAMINATION_UNDECIDED 1u
@@ -49,6 +54,7 @@ extern "C" {
 #define EXAMINATION_RATE_PLACES 2
 #define EXAMINATION_CLASSES_PLACES 1
 #define EXAMINATION_SEARCH_PLACES 3
+#define EXAMINATION_WANTED_PLACES 1
 #define EXAMINATION_MARK_PLACES 6
 
 /* Limits: lines of a network, places of the class row and of the weight row, an
@@ -106,6 +112,18 @@ uint32_t examination_classes(const uint8_t *file, size_t file_len,
 uint32_t examination_search(const uint8_t *file, size_t file_len,
                             int32_t *start_row, size_t start_len, uint32_t budget,
                             uint32_t answer[EXAMINATION_SEARCH_PLACES]);
+
+/* Seeks a timetable whose least gap is at least the wanted one, any number of 16
+ * bits. Only the budget ends it early.
+ * Returns 0 found: the starts of one in the row, line 0's 0 and each other's 0 up to
+ * its period less 1; in the answer the tries, at most the budget. 1 none: no
+ * whole-number starts have such a gap; the row as it was; the tries, at most the
+ * budget. 2 stopped: the row as it was; the budget. Or a refusal, grounds 1 to 14,
+ * and 16 where the row hasn't one place for each line. */
+uint32_t examination_wanted(const uint8_t *file, size_t file_len,
+                            int32_t *start_row, size_t start_len, uint16_t wanted,
+                            uint32_t budget,
+                            uint32_t answer[EXAMINATION_WANTED_PLACES]);
 
 /* The better of two sheets. Never refuses.
  * Returns 1 the first: it fits, and the second doesn't fit or isn't above it; 2

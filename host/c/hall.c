@@ -122,6 +122,14 @@ static void classify(const struct network *file)
     printf("\n");
 }
 
+static void say_starts(const int32_t *starts, size_t lines)
+{
+    printf(", starts");
+    for (size_t line = 0; line < lines; line++) {
+        printf(" %" PRId32, starts[line]);
+    }
+}
+
 static void search_it(const struct network *file, size_t lines, uint32_t budget)
 {
     int32_t starts[EXAMINATION_MOST_LINES];
@@ -140,10 +148,32 @@ static void search_it(const struct network *file, size_t lines, uint32_t budget)
     }
     printf(returned == EXAMINATION_FINISHED ? "finished, " : "stopped, ");
     say_rating("", answer);
-    printf(", tries %" PRIu32 ", starts", answer[2]);
-    for (size_t line = 0; line < lines; line++) {
-        printf(" %" PRId32, starts[line]);
+    printf(", tries %" PRIu32, answer[2]);
+    say_starts(starts, lines);
+    printf("\n");
+}
+
+/* The row is shown whatever the answer is: only a timetable that is found is written. */
+static void seek(const struct network *file, size_t lines, uint16_t wanted, uint32_t budget)
+{
+    int32_t starts[EXAMINATION_MOST_LINES];
+    uint32_t answer[EXAMINATION_WANTED_PLACES];
+    for (size_t line = 0; line < EXAMINATION_MOST_LINES; line++) {
+        starts[line] = -1;
     }
+    const uint32_t returned = examination_wanted(file->bytes, file->count, starts, lines,
+                                                 wanted, budget, answer);
+    printf("wanted gap %u with a budget of %" PRIu32 ": ", (unsigned)wanted, budget);
+    if (examination_is_refused(returned)) {
+        say_refusal(returned);
+    } else {
+        printf("%s, tries %" PRIu32,
+               returned == EXAMINATION_WANTED_FOUND  ? "found"
+               : returned == EXAMINATION_WANTED_NONE ? "none"
+                                                     : "stopped",
+               answer[0]);
+    }
+    say_starts(starts, lines);
     printf("\n");
 }
 
@@ -223,6 +253,12 @@ static void run(const struct network *file, const struct sheet *sheets, size_t c
     search_it(file, lines, 0);
     search_it(file, lines, (uint32_t)lines);
     search_it(file, lines, BUDGET);
+    seek(file, lines, 0, BUDGET);
+    seek(file, lines, 2, 4);
+    seek(file, lines, 2, BUDGET);
+    seek(file, lines, 3, BUDGET);
+    seek(file, lines, UINT16_MAX, BUDGET);
+    seek(file, lines + 1 < EXAMINATION_MOST_LINES ? lines + 1 : 0, 2, BUDGET);
     for (size_t i = 0; i < count; i++) {
         compare(file, sheets, i, i + 1 < count ? i + 1 : i);
     }

@@ -1,5 +1,5 @@
 /*
- * The eight exports over the real ones, which .ci/faults has renamed, with the
+ * The nine exports over the real ones, which .ci/faults has renamed, with the
  * faults of faults.h. The variable EXAMINATION_FAULT has the number of the one that
  * this process is to have; unset or 0 is none. It is linked by the tests of the
  * tests alone.
@@ -18,6 +18,7 @@ extern __typeof__(examination_rate) real_rate;
 extern __typeof__(examination_weighted) real_weighted;
 extern __typeof__(examination_classes) real_classes;
 extern __typeof__(examination_search) real_search;
+extern __typeof__(examination_wanted) real_wanted;
 extern __typeof__(examination_better) real_better;
 extern __typeof__(examination_mark) real_mark;
 extern __typeof__(examination_archive) real_archive;
@@ -225,6 +226,75 @@ uint32_t examination_search(const uint8_t *file, size_t file_len, int32_t *start
     if (is(EXACT_BUDGET) && returned == EXAMINATION_FINISHED && answer[2] == budget)
         return EXAMINATION_STOPPED;
     return returns(returned, file_len);
+}
+
+/* The gap that is taken for the wanted one. */
+static uint16_t taken_gap(uint16_t wanted)
+{
+    if (is(GAP_MORE) && wanted < UINT16_MAX) return wanted + 1;
+    if (is(GAP_LESS) && wanted > 0) return wanted - 1;
+    if (is(GAP_OF_10_BITS)) return wanted & 1023;
+    return is(GAP_SIGNED) && wanted > INT16_MAX ? 0 : wanted;
+}
+
+/* The starts of a finished search. */
+static void put_best(const uint8_t *file, size_t file_len, int32_t *start_row, size_t start_len)
+{
+    int32_t best[EXAMINATION_MOST_LINES];
+    uint32_t answer[EXAMINATION_SEARCH_PLACES];
+    const uint32_t returned = real_search(file, file_len, best, start_len, 20000, answer);
+    if (returned == EXAMINATION_FINISHED) memcpy(start_row, best, start_len * sizeof best[0]);
+}
+
+/* What stands in the rows behind a wanted gap. */
+static void fault_wanted(uint32_t returned, int32_t *start_row, size_t start_len,
+                         uint32_t answer[1])
+{
+    static atomic_uint calls;
+    if (examination_is_refused(returned)) {
+        if (is(WANTED_ROW_ON_REFUSAL) && start_len > 0) start_row[0] = 0;
+        if (is(WANTED_CLEARED_ON_REFUSAL)) answer[0] = 0;
+        return;
+    }
+    if (is(WRITTEN_ON_NONE) && returned == EXAMINATION_WANTED_NONE) start_row[0] = 0;
+    if (is(WRITTEN_ON_STOPPED) && returned == EXAMINATION_WANTED_STOPPED) start_row[0] = 0;
+    if (is(WANTED_TRIES) && returned == EXAMINATION_WANTED_FOUND) answer[0]--;
+    if (is(WANTED_TRIES_OF_16_BITS)) answer[0] &= 65535;
+    if (is(EVERY_3000TH_WANTED) && is_3000th(&calls)) answer[0]++;
+}
+
+/* What is returned in place of found, none or stopped. */
+static uint32_t returned_for(uint32_t returned, int exactly)
+{
+    if (is(FOUND_AS_NONE) && returned == EXAMINATION_WANTED_FOUND) return EXAMINATION_WANTED_NONE;
+    if (is(NONE_AS_FOUND) && returned == EXAMINATION_WANTED_NONE) return EXAMINATION_WANTED_FOUND;
+    if (is(STOPPED_AS_NONE) && returned == EXAMINATION_WANTED_STOPPED)
+        return EXAMINATION_WANTED_NONE;
+    if (is(NONE_AS_STOPPED) && returned == EXAMINATION_WANTED_NONE)
+        return EXAMINATION_WANTED_STOPPED;
+    return is(EXACT_WANTED_BUDGET) && exactly ? EXAMINATION_WANTED_STOPPED : returned;
+}
+
+uint32_t examination_wanted(const uint8_t *file, size_t file_len, int32_t *start_row,
+                            size_t start_len, uint16_t wanted, uint32_t budget,
+                            uint32_t answer[1])
+{
+    uint32_t taken = budget;
+    if (is(WANTED_BUDGET_MORE) && budget < UINT32_MAX) taken++;
+    if (is(WANTED_BUDGET_SIGNED) && budget > 1u << 31) taken = 0;
+    if (is(WANTED_ROW_FIRST) && start_len > 16) return 16 * EXAMINATION_REFUSED;
+    if (is(WANTED_LONG_ROW) && start_len > 4096) start_len = lines_of(file, file_len);
+    const uint32_t returned =
+        real_wanted(file, file_len, start_row, start_len, taken_gap(wanted), taken, answer);
+    /* The tries are those that were asked for, so that only the fault shows. */
+    if (taken != budget && returned == EXAMINATION_WANTED_STOPPED) answer[0] = budget;
+    fault_wanted(returned, start_row, start_len, answer);
+    if (is(BEST_FOR_FIRST) && returned == EXAMINATION_WANTED_FOUND)
+        put_best(file, file_len, start_row, start_len);
+    if (is(LAST_PLACE_OF_WANTED) && returned == 14 * EXAMINATION_REFUSED + 1329)
+        return returned - 1;
+    if (examination_is_refused(returned)) return returns(returned, file_len);
+    return returns(returned_for(returned, answer[0] == budget), file_len);
 }
 
 uint32_t examination_better(const uint8_t *file, size_t file_len, const uint8_t *first,

@@ -9,7 +9,9 @@ use Rattle.network.specs.Reading.{Outcome, values, refusal}
 use Rattle.network.specs.Refusals.{Demand1}
 use Rattle.search.specs.Search.{SearchOutcome, finished, stopped, stoppedWithNone}
 use Rattle.search.specs.Search as search
-use Rattle.examination.specs.Exports.{placeLimit, refusalCode, TellsRefusal, status, archiveStatus, searchStatus, markStatus}
+use Rattle.search.specs.Wanted.{WantedOutcome}
+use Rattle.search.specs.Wanted as wanted
+use Rattle.examination.specs.Exports.{placeLimit, refusalCode, TellsRefusal, status, archiveStatus, searchStatus, wantedStatus, markStatus}
 use Rattle.examination.specs.Sheets.{MarkOutcome, decided, undecided}
 use Rattle.examination.specs.Sheets as sheets
 
@@ -79,6 +81,19 @@ pub search-status-code : {o : SearchOutcome} {returned : ℕ} → returned ≡ s
     → returned ≡ refusalCode number place
 unfolding searchStatus
 search-status-code e number place f = e ∙ rw f refl
+
+pub wanted-status-tells : (o : WantedOutcome) {returned : ℕ} → returned ≡ wantedStatus o
+    → ((number : ℕ) × (place : ℕ) × (o ≡ wanted.refusal number place)) ⊎ (returned < placeLimit)
+unfolding wantedStatus
+wanted-status-tells (wanted.found t) e = inr (omega (arith, e))
+wanted-status-tells (wanted.none t) e = inr (omega (arith, e))
+wanted-status-tells (wanted.stopped t) e = inr (omega (arith, e))
+wanted-status-tells (wanted.refusal number place) e = inl (number, place, refl)
+
+pub wanted-status-code : {o : WantedOutcome} {returned : ℕ} → returned ≡ wantedStatus o → (number place : ℕ) → o ≡ wanted.refusal number place
+    → returned ≡ refusalCode number place
+unfolding wantedStatus
+wanted-status-code e number place f = e ∙ rw f refl
 
 pub mark-status-tells : (o : MarkOutcome) {returned : ℕ} → returned ≡ markStatus o
     → ((number : ℕ) × (place : ℕ) × (o ≡ sheets.refusal number place)) ⊎ (returned < placeLimit)

@@ -126,7 +126,7 @@ module _ {n : Net} {row : List ℤ} {budget : ℕ} {exit : List ℤ} (fit : leng
   hall-search (search.refusal number place) before answers d b = absurd (answers number place refl)
 
 -- A start row that fits is no ground
-fit-answers : {file : List ℕ} (row : List ℤ) {n : Net} {number place : ℕ} → readFile file ≡ accepted n → length row ≡ length (n .periods) → {ground : ℕ}
+pub fit-answers : {file : List ℕ} (row : List ℤ) {n : Net} {number place : ℕ} → readFile file ≡ accepted n → length row ≡ length (n .periods) → {ground : ℕ}
     → Refuses file ground (Unfit row) number place → ⊥
 fit-answers row reads fit (by-file is) = zero-ne-one (cc)
 fit-answers row {n = n} reads fit (after-file {n = m} is differ) = let same : n ≡ m = cc in differ (fit ∙ ap (λ (k : Net). length (k .periods)) same)

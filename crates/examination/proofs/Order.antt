@@ -6,19 +6,23 @@
 -- "Every file, sheet and row lent to a call may hold any content and have any length: the call returns"
 pub use Rattle.network.proofs.Demands.{read-asks-nothing, rate-asks-nothing, weighted-asks-nothing, classes-asks-nothing, archive-asks-nothing}
 pub use Rattle.search.proofs.Demands.{search-asks-nothing}
+pub use Rattle.search.proofs.WantedGap.{wanted-asks-nothing}
 pub use Rattle.examination.proofs.Demands.{better-asks-nothing, mark-asks-nothing}
 pub use Rattle.examination.proofs.ExportDemands.{read-export-asks-nothing, rate-export-asks-nothing, weighted-export-asks-nothing}
 pub use Rattle.examination.proofs.ExportDemands.{classes-export-asks-nothing, archive-export-asks-nothing}
 pub use Rattle.examination.proofs.ExportSearch.{search-export-asks-nothing, mark-export-asks-nothing}
+pub use Rattle.examination.proofs.ExportWanted.{wanted-export-asks-nothing}
 pub use Rattle.examination.proofs.ExportBetter.{better-export-asks-nothing}
 -- "faulty input and no other gets the refusal number and place that document 01 sets ..., and a refused call leaves each lent row exactly as it
 -- found it"
 pub use Rattle.network.proofs.Demands.{read-demand-1, file-gives, file-gives-no-other, rate-demand-1, weighted-demand-1, classes-demand-1, archive-demand-1}
 pub use Rattle.search.proofs.Demands.{search-demand-1}
+pub use Rattle.search.proofs.WantedGap.{wanted-demand-1}
 pub use Rattle.examination.proofs.Demands.{mark-demand-1}
 pub use Rattle.examination.proofs.ExportDemands.{read-export-demand-1, rate-export-demand-1, weighted-export-demand-1}
 pub use Rattle.examination.proofs.ExportDemands.{classes-export-demand-1, archive-export-demand-1}
 pub use Rattle.examination.proofs.ExportSearch.{search-export-demand-1, mark-export-demand-1}
+pub use Rattle.examination.proofs.ExportWanted.{wanted-export-demand-1}
 -- "(better-of-two answers by its part alone)"
 pub use Rattle.examination.proofs.Demands.{better-file-refused, better-neither-fits, better-only-first-fits, better-only-second-fits}
 pub use Rattle.examination.proofs.Demands.{better-both-fit}
@@ -74,6 +78,7 @@ pub use Rattle.network.proofs.Demands.{equal-archives}
 -- Two files of one network, a file and its archive form among them, are answered alike
 pub use Rattle.network.proofs.Demands.{same-network-read-alike, same-network-rated-alike, same-network-weighted-alike, same-network-classified-alike}
 pub use Rattle.search.proofs.Demands.{same-network-searched-alike}
+pub use Rattle.search.proofs.WantedGap.{same-network-wanted-alike}
 -- ---- Document 02, A.2
 
 -- "A line may now call twice at a stop; .. A gap is taken over pairs of different calls, also of one line, whose g is its period. .. Alike stops have
@@ -82,3 +87,18 @@ pub use Rattle.search.proofs.Demands.{same-network-searched-alike}
 pub use Rattle.network.proofs.LoopRoutes.{loop-routes}
 -- "A line's own pair caps its stop at its exact gap, and the cap's sum has one term per call"
 pub use Rattle.search.proofs.Demands.{caps-bound}
+-- ---- Document 02, A.3
+
+-- "Given a wanted gap (16 bits) and a budget, return a timetable with at least that gap, or none, or stopped, each with the tries. .. None is
+-- answered only if no whole-number starts reach the gap. A wanted gap of 0 yields a timetable whenever the budget is at least the number of lines.
+-- None and stopped leave the row untouched; its length is tested as in the search"
+pub use Rattle.search.proofs.WantedGap.{wanted-means}
+pub use Rattle.examination.proofs.ExportWanted.{wanted-export-means}
+-- "The walk is the usual one with another cut: a try is dropped if its upper least gap is below the wanted one, and the first full timetable ends it"
+pub use Rattle.search.proofs.WantedGap.{wanted-walks}
+pub use Rattle.search.proofs.Cases.{wanted-on-P1-to-P9}
+-- Beside a finished search: a wanted gap up to the best least gap is never answered none, a larger one never found
+pub use Rattle.search.proofs.WantedGap.{wanted-beside-search}
+pub use Rattle.examination.proofs.ExportWanted.{wanted-export-beside-search}
+-- Found and none are the same under every larger budget
+pub use Rattle.search.proofs.WantedGap.{wanted-with-more-tries}

@@ -6,6 +6,8 @@ use mathlib.Core.List.{List, [], _∷_}
 use Rattle.network.specs.Reading.{Outcome, values, refusal}
 use Rattle.search.specs.Search.{SearchOutcome}
 use Rattle.search.specs.Search as search
+use Rattle.search.specs.Wanted.{WantedOutcome}
+use Rattle.search.specs.Wanted as wanted
 use Rattle.examination.specs.Sheets.{Better, first, second, neither, MarkOutcome, decided, undecided}
 use Rattle.examination.specs.Sheets as sheets
 
@@ -48,6 +50,19 @@ searchRow (search.finished least sum tries) row = least ∷ sum ∷ tries ∷ []
 searchRow (search.stopped least sum tries) row = least ∷ sum ∷ tries ∷ []
 searchRow (search.stoppedWithNone tries) row = 0 ∷ 0 ∷ tries ∷ []
 searchRow (search.refusal number place) row = row
+
+-- From a wanted gap to a timetable: 0 found, 1 none, 2 stopped; the tries
+unfoldable pub wantedStatus : WantedOutcome → ℕ
+wantedStatus (wanted.found tries) = 0
+wantedStatus (wanted.none tries) = 1
+wantedStatus (wanted.stopped tries) = 2
+wantedStatus (wanted.refusal number place) = refusalCode number place
+
+unfoldable pub wantedRow : WantedOutcome → List ℕ → List ℕ
+wantedRow (wanted.found tries) row = tries ∷ []
+wantedRow (wanted.none tries) row = tries ∷ []
+wantedRow (wanted.stopped tries) row = tries ∷ []
+wantedRow (wanted.refusal number place) row = row
 
 -- Better-of-two: 1 the first, 2 the second, 0 neither
 unfoldable pub betterStatus : Better → ℕ

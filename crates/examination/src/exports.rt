@@ -14,7 +14,9 @@ use network::classes::weighted;
 use network::rate::rate;
 use network::reader::read;
 use search::SearchAnswer;
+use search::WantedAnswer;
 use search::entry::search;
+use search::wanted::wanted;
 ghost use mathlib.Core.Path.{_≡_};
 ghost use mathlib.Core.List.{List};
 ghost use Prim.Native.Nat.{ℕ, _<_};
@@ -26,6 +28,7 @@ ghost use Rattle.network.specs.Rate.{rateAnswer, rateOutcome};
 ghost use Rattle.network.specs.Reading.{Reading, readFile, readOutcome, refusal};
 ghost use Rattle.network.specs.Valid.{IsBytes};
 ghost use Rattle.search.specs.Search.{searchOutcome, startRowAfter};
+ghost use Rattle.search.specs.Wanted.{wantedOutcome, wantedRowAfter};
 ghost use Rattle.examination.specs.Bytes as bytes;
 ghost use Rattle.examination.specs.Exports as export;
 ghost use Rattle.examination.specs.Sheets as sheets;
@@ -177,6 +180,38 @@ pub extern "C" fn examination_search(
         }
         SearchAnswer::StoppedWithNone { tries } => {
             *answer = [0, 0, tries];
+            2
+        }
+    }
+}
+
+// From a wanted gap to a timetable.
+#[no_mangle]
+pub extern "C" fn examination_wanted(
+    file: &[u8],
+    start_row: &mut [i32],
+    gap: u16,
+    budget: u32,
+    answer: &mut [u32; 1],
+) -> u32
+    ensures returned { λ r. ⌜ r ≡ export.wantedStatus (wantedOutcome (readFile (now (file .entry))) (length (now («start_row» .entry))) gap budget) ⌝ }
+    ensures row { λ _. ⌜ now (answer .exit) ≡ export.wantedRow (wantedOutcome (readFile (now (file .entry))) (length (now («start_row» .entry))) gap budget) (now (answer .entry)) ⌝ }
+    ensures starts { λ _. ⌜ now («start_row» .exit) ≡ wantedRowAfter (readFile (now (file .entry))) gap budget (now («start_row» .entry)) ⌝ }
+    ensures bytes { λ _. ⌜ IsBytes (now (file .entry)) ⌝ }
+{
+    let told = wanted(file, start_row, gap, budget);
+    match told {
+        WantedAnswer::Refused { number, place } => refusal_code(number, place),
+        WantedAnswer::Found { tries } => {
+            *answer = [tries];
+            0
+        }
+        WantedAnswer::None { tries } => {
+            *answer = [tries];
+            1
+        }
+        WantedAnswer::Stopped { tries } => {
+            *answer = [tries];
             2
         }
     }

@@ -25,7 +25,7 @@ use Rattle.search.specs.Walk.{State}
 use Rattle.search.specs.Search.{SearchOutcome, finished, stopped, stoppedWithNone, refusal, searchAnswer, triesOf, productsFrom}
 use Rattle.search.specs.Search.{aboveBest, searched, outcomeOf, searchOutcome, startRowAfter}
 use Rattle.search.proofs.Laws.Caps.{cap-sound, cap-le-own-gap}
-use Rattle.search.proofs.Laws.MoreTries.{walked-with-more}
+use Rattle.search.proofs.Laws.MoreTries.{walked-with-more, walked-was-due}
 use Rattle.search.proofs.Laws.OnNetwork.{triesBound-products, walked-length, walked-first, walked-below, walked-rating, walked-stopped}
 use Rattle.search.proofs.Laws.Optimal.{searched-some, searched-best}
 use Rattle.search.proofs.Laws.Outcome.{fit-outcome, fit-row, AnswerTells, told-of-finished, told-of-stopped, told-of-none}
@@ -81,6 +81,9 @@ pub record Answers (n : Net) (row : List ℤ) (budget : ℕ) (answer : SearchOut
   pub stopped-at-budget : {least sum tries : ℕ} → answer ≡ stopped least sum tries → tries ≡ budget
   pub none-at-budget : {tries : ℕ} → answer ≡ stoppedWithNone tries → (tries ≡ budget) × (exit ≡ row)
   pub tries-within : triesOf answer ≤ budget
+  -- "Stopped is answered only when the walk had a further try due": under every larger budget it makes more tries
+  pub stopped-was-due : {least sum tries : ℕ} → answer ≡ stopped least sum tries → (more : ℕ) → budget < more → budget < searched n more .tries
+  pub none-was-due : {tries : ℕ} → answer ≡ stoppedWithNone tries → (more : ℕ) → budget < more → budget < searched n more .tries
   -- stopped with a best: the starts it wrote have the rating it reports
   pub stopped-has-its-rating : {least sum tries : ℕ} → answer ≡ stopped least sum tries
       → (length exit ≡ length (n .periods)) × IsRating n exit least sum
@@ -183,6 +186,11 @@ module _ {file : List ℕ} {row : List ℤ} {budget : ℕ} {answer : SearchOutco
                     ∙ ap (λ (b : Bool). pick b (searched n budget .starts) row) none,
               );
           tries-within = rw (call .answered, reads) (outcome-tries-le-budget n (length row) budget);
+          stopped-was-due = λ e more left.
+              walked-was-due n aboveBest budget more left (told-of-stopped n (length row) budget (answer-is e) .0 .stops);
+          none-was-due = λ e more left.
+              let (fits, stops, none, tries) = told-of-none n (length row) budget (answer-is e) in
+              walked-was-due n aboveBest budget more left stops;
           stopped-has-its-rating = λ e. (stopped-rated e .0 .one-for-each-line, stopped-rated e .1);
           finished-starts = λ e. finished-rated e .0;
           stopped-starts = λ e. stopped-rated e .0;

@@ -258,6 +258,73 @@ pub enum RowSearched {
     },
 }
 
+/// What became of a wanted gap.
+///
+/// ```
+/// use engine::{typed, Rating, Sheet, Wanted};
+///
+/// let network = typed::read(b"4C000F 4C0014 4300000008 4301000011 45")?;
+/// match engine::wanted(network.bytes(), 1, 1_000_000).expect("an accepted network") {
+///     Wanted::Found { starts, tries: 2 } => {
+///         let rating = engine::rate(network.bytes(), &Sheet::of_starts(&starts));
+///         assert_eq!(rating, Ok(Rating { least: 1, sum: 1 }));
+///     }
+///     other => panic!("{other:?}"),
+/// }
+/// # Ok::<(), typed::Mistyped>(())
+/// ```
+#[derive(Clone, Debug, PartialEq, Eq)]
+pub enum Wanted {
+    /// A timetable whose least gap is at least the wanted one. There may be others
+    /// with a larger gap or sum.
+    Found {
+        /// Its starts in line order.
+        starts: Vec<i32>,
+        /// The tries made.
+        tries: u32,
+    },
+    /// No choice of whole-number starts has a least gap as large.
+    None {
+        /// The tries made.
+        tries: u32,
+    },
+    /// The budget was used up; nobody knows whether there is one.
+    Stopped {
+        /// The tries made, which are the budget.
+        tries: u32,
+    },
+}
+
+/// What became of a wanted gap, the starts standing in a row of the caller.
+///
+/// ```
+/// use engine::RowWanted;
+///
+/// let network = engine::typed::read(b"4C000F 4C0014 4300000008 4301000011 45").unwrap();
+/// let mut row = [7, 7];
+/// let sought = engine::wanted_into(network.bytes(), &mut row, 3, 1);
+/// assert_eq!(sought, Ok(RowWanted::None { tries: 1 }));
+/// assert_eq!(row, [7, 7]);
+/// ```
+#[derive(Clone, Copy, Debug, PartialEq, Eq)]
+pub enum RowWanted {
+    /// The row has the starts of a timetable with at least the wanted gap.
+    Found {
+        /// The tries made.
+        tries: u32,
+    },
+    /// There is none; the row stays as it was.
+    None {
+        /// The tries made.
+        tries: u32,
+    },
+    /// Nobody knows whether there is one; the row stays as it was.
+    Stopped {
+        /// The tries made, which are the budget.
+        tries: u32,
+    },
+}
+
 /// The better of two sheets.
 ///
 /// ```

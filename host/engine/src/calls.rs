@@ -2,7 +2,8 @@
 //! number is the engine's.
 
 use crate::answers::{
-    Best, Better, Classes, Counts, Mark, Rating, RowSearched, Searched, SoFar, STOPS,
+    Best, Better, Classes, Counts, Mark, Rating, RowSearched, RowWanted, Searched, SoFar, Wanted,
+    STOPS,
 };
 use crate::exports;
 use crate::ground::Ground;
@@ -208,6 +209,63 @@ pub fn search_into(
         0 => Ok(RowSearched::Finished { rating, tries }),
         1 => Ok(RowSearched::Stopped { rating, tries }),
         2 => Ok(RowSearched::StoppedWithNone { tries }),
+        other => unknown(EXPORT, other),
+    }
+}
+
+/// Seeks a timetable with at least the wanted gap, with so many tries at most: the
+/// first on the search's way, or the answer that there is none.
+///
+/// Every gap may be wanted. 0 is had by the first timetable, and what is more than
+/// some stop can have is known to be out of reach after one try.
+///
+/// ```
+/// use engine::{typed, Wanted};
+///
+/// let network = typed::read(b"4C000F 4C0014 4300000008 4301000011 45")?;
+/// let sought = |gap| engine::wanted(network.bytes(), gap, 1_000_000);
+/// assert_eq!(sought(2), Ok(Wanted::Found { starts: vec![0, 3], tries: 5 }));
+/// assert_eq!(sought(3), Ok(Wanted::None { tries: 1 }));
+/// # Ok::<(), typed::Mistyped>(())
+/// ```
+pub fn wanted(file: &[u8], gap: u16, budget: u32) -> Result<Wanted, Refusal> {
+    let mut starts = vec![0; read(file)?.lines as usize];
+    Ok(match wanted_into(file, &mut starts, gap, budget)? {
+        RowWanted::Found { tries } => Wanted::Found { starts, tries },
+        RowWanted::None { tries } => Wanted::None { tries },
+        RowWanted::Stopped { tries } => Wanted::Stopped { tries },
+    })
+}
+
+/// As [`wanted`], the starts into a row of the caller, which has one place for each
+/// line. It stays as it is but where a timetable is found.
+///
+/// ```
+/// use engine::{typed, RowWanted};
+///
+/// let network = typed::read(b"4C000F 4C0014 4300000008 4301000011 45")?;
+/// let mut row = [7, 7];
+/// let sought = engine::wanted_into(network.bytes(), &mut row, 2, 4);
+/// assert_eq!((sought, row), (Ok(RowWanted::Stopped { tries: 4 }), [7, 7]));
+/// let sought = engine::wanted_into(network.bytes(), &mut row, 2, 5);
+/// assert_eq!((sought, row), (Ok(RowWanted::Found { tries: 5 }), [0, 3]));
+/// # Ok::<(), typed::Mistyped>(())
+/// ```
+pub fn wanted_into(
+    file: &[u8],
+    start_row: &mut [i32],
+    gap: u16,
+    budget: u32,
+) -> Result<RowWanted, Refusal> {
+    const EXPORT: &str = "examination_wanted";
+    let mut answer = [0; 1];
+    let returned = exports::wanted(file, start_row, gap, budget, &mut answer);
+    let returned = answered(EXPORT, returned)?;
+    let [tries] = answer;
+    match returned {
+        0 => Ok(RowWanted::Found { tries }),
+        1 => Ok(RowWanted::None { tries }),
+        2 => Ok(RowWanted::Stopped { tries }),
         other => unknown(EXPORT, other),
     }
 }

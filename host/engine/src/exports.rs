@@ -42,6 +42,15 @@ extern "C" {
         budget: u32,
         answer: *mut [u32; 3],
     ) -> u32;
+    fn examination_wanted(
+        file: *const u8,
+        file_len: usize,
+        start_row: *mut i32,
+        start_len: usize,
+        wanted: u16,
+        budget: u32,
+        answer: *mut [u32; 1],
+    ) -> u32;
     fn examination_better(
         file: *const u8,
         file_len: usize,
@@ -120,6 +129,27 @@ pub fn search(file: &[u8], start_row: &mut [i32], budget: u32, answer: &mut [u32
             file.len(),
             start_row.as_mut_ptr(),
             start_row.len(),
+            budget,
+            answer,
+        )
+    }
+}
+
+pub fn wanted(
+    file: &[u8],
+    start_row: &mut [i32],
+    wanted: u16,
+    budget: u32,
+    answer: &mut [u32; 1],
+) -> u32 {
+    // SAFETY: see above.
+    unsafe {
+        examination_wanted(
+            file.as_ptr(),
+            file.len(),
+            start_row.as_mut_ptr(),
+            start_row.len(),
+            wanted,
             budget,
             answer,
         )

@@ -14,6 +14,7 @@
 //! | [`weighted`]  | a file, a sheet        | the same, by classes of stops            |
 //! | [`classes`]   | a file                 | [`Classes`]: which stops rate alike      |
 //! | [`search`]    | a file, a budget       | [`Searched`]: the best timetable         |
+//! | [`wanted`]    | a file, a gap, a budget | [`Wanted`]: a timetable with that gap   |
 //! | [`better`]    | a file, two sheets     | [`Better`]: which of them                |
 //! | [`mark`]      | a file, a sheet, a budget | [`Mark`]: the sheet beside the best   |
 //! | [`archive`]   | a file                 | the one form in which a network is kept  |
@@ -52,7 +53,8 @@
 //!
 //! A search makes at most as many tries as its budget says, 0 to `u32::MAX`; the
 //! command `exam` takes 1,000,000. Where it stops there, what it found may be
-//! beaten: [`Searched`] has another type for it.
+//! beaten: [`Searched`] has another type for it. With a wanted gap it is the same
+//! walk, and where it stops nobody knows whether a timetable has that gap.
 //!
 //! # Threads and stack
 //!
@@ -100,11 +102,12 @@ pub const LIBRARY: &str = concat!(
 );
 
 pub use answers::{
-    Best, Better, Classes, Counts, Mark, Rating, RowSearched, Searched, SoFar, STOPS,
+    Best, Better, Classes, Counts, Mark, Rating, RowSearched, RowWanted, Searched, SoFar, Wanted,
+    STOPS,
 };
 pub use calls::{
     archive, archive_into, better, classes, classes_into, mark, rate, read, search, search_into,
-    weighted,
+    wanted, wanted_into, weighted,
 };
 pub use contents::{contents, Call, Contents};
 pub use ground::{Ground, NoGround};

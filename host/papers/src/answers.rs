@@ -5,7 +5,8 @@ use crate::sections;
 use crate::sections::network::Network;
 use crate::sections::sheets::Marked;
 use crate::sections::walk::{Answer, Walked};
-use engine::{Counts, Ground, Mark, Rating, Refusal, Searched};
+use crate::sections::wanted::{self, Sought};
+use engine::{Counts, Ground, Mark, Rating, Refusal, Searched, Wanted};
 
 pub fn refusal(paper: sections::network::Refusal) -> Refusal {
     let number = u32::from(paper.number);
@@ -61,6 +62,15 @@ pub fn walked(searched: Searched) -> Walked {
         Searched::StoppedWithNone { tries } => (Answer::StoppedWithNone { tries }, None),
     };
     Walked { answer, starts }
+}
+
+pub fn sought(wanted: Wanted) -> Sought {
+    let (answer, starts) = match wanted {
+        Wanted::Found { starts, tries } => (wanted::Wanted::Found { tries }, Some(starts)),
+        Wanted::None { tries } => (wanted::Wanted::None { tries }, None),
+        Wanted::Stopped { tries } => (wanted::Wanted::Stopped { tries }, None),
+    };
+    Sought { answer, starts }
 }
 
 pub fn marked(paper: Marked) -> Mark {

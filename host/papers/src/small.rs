@@ -1,6 +1,6 @@
 //! Networks so small that every timetable of them can be rated.
 
-use crate::files::{bytes_of, valid_commands_of, Dice, Size};
+use crate::files::{bytes_of, roomy_file, valid_commands_of, Dice, Size};
 use crate::sections::network::{read, Network};
 
 /// A file with short periods and few lines, and its network, with at most so
@@ -14,6 +14,21 @@ pub fn small_file(dice: &mut Dice, most_timetables: u32) -> (Vec<u8>, Network) {
             longest: dice.pick(&[6, 12, 20, 36]),
         };
         let file = bytes_of(&valid_commands_of(dice, &size));
+        let net = read(&file).expect("a valid file");
+        if net.periods.iter().product::<u32>() <= most_timetables {
+            return (file, net);
+        }
+    }
+}
+
+/// The same for wanted gaps: half of the networks are such that lines can keep away
+/// from each other.
+pub fn small_file_for_gaps(dice: &mut Dice, most_timetables: u32) -> (Vec<u8>, Network) {
+    if dice.once_in(2) {
+        return small_file(dice, most_timetables);
+    }
+    loop {
+        let file = roomy_file(dice);
         let net = read(&file).expect("a valid file");
         if net.periods.iter().product::<u32>() <= most_timetables {
             return (file, net);

@@ -2,9 +2,11 @@
 //! the longest period, 256 calls, in a thread with 512 KB.
 
 use engine::{Mark, Searched, Sheet};
+use papers::answers::sought;
 use papers::files::{bytes_of, retyped, Command, Dice, Stated};
 use papers::sections::network::read;
 use papers::sections::walk::{walk, Answer};
+use papers::sections::wanted::{seek, Wanted};
 
 const STACK: usize = 512 * 1_024;
 const BUDGET: u32 = 3_000_000;
@@ -23,6 +25,11 @@ fn deepest(offset: impl Fn(u16) -> u16) -> Vec<Command> {
 /// Offsets all over the day.
 fn scattered(call: u16) -> u16 {
     (u32::from(call) * 7_919 % 1_440) as u16
+}
+
+/// The same, and another difference of two lines at each stop.
+fn jumbled(call: u16) -> u16 {
+    (u32::from(call) * u32::from(call) * 31 % 1_440) as u16
 }
 
 /// Runs in a thread with the small stack; an overflow ends the whole process.
@@ -76,6 +83,28 @@ fn a_finished_search_on_512_kilobytes() {
 fn a_stopped_search_on_512_kilobytes() {
     let (finished, _, _, tries) = compare(&deepest(scattered));
     assert_eq!((finished, tries), (false, BUDGET));
+}
+
+/// A wanted gap on the small stack, beside the papers.
+fn compare_wanted(commands: &[Command], gap: u16) -> Wanted {
+    let file = &bytes_of(commands);
+    let found = on_small_stack(|| engine::wanted(file, gap, BUDGET));
+    let found = found.map(sought).expect("an accepted file");
+    let net = read(file).expect("an accepted file");
+    assert_eq!(found, seek(&net, gap, BUDGET));
+    found.answer
+}
+
+/// With equal offsets line after line is 90 minutes behind the one before: the walk
+/// goes as deep as the search's.
+#[test]
+fn a_wanted_gap_on_512_kilobytes() {
+    let found = Wanted::Found { tries: 10_816 };
+    assert_eq!(compare_wanted(&deepest(|_| 0), 90), found);
+    let none = Wanted::None { tries: 1 };
+    assert_eq!(compare_wanted(&deepest(|_| 0), 91), none);
+    let stopped = Wanted::Stopped { tries: BUDGET };
+    assert_eq!(compare_wanted(&deepest(jumbled), 20), stopped);
 }
 
 /// Marking goes as deep, on top of its own rows.

@@ -1,14 +1,15 @@
-//! A hall's day: 200,000 calls each of rate and mark in one process. Memory
-//! stays flat, each answer is the papers' own, and the calls per second are
+//! A hall's day: 200,000 calls each of rate and mark in one process, and as many of
+//! wanted, which makes the papers. Memory stays flat, each answer is the papers' own, and the calls per second are
 //! printed (`cargo test --release --offline --test load -- --show-output`). No
 //! other test may stand in this file: it would run beside this one and add to the
 //! memory.
 
 use engine::{Mark, Rating, Refusal, Sheet};
-use papers::answers::{marked, rating_or_refusal, refusal};
-use papers::files::{any_file, any_sheet_bytes, Dice};
+use papers::answers::{marked, rating_or_refusal, refusal, sought};
+use papers::files::{any_file, any_gap, any_sheet_bytes, Dice};
 use papers::sections::network::read;
 use papers::sections::sheets::{mark_bytes, rate_bytes};
+use papers::sections::wanted::{seek, Sought};
 use std::time::Instant;
 
 const CALLS: usize = 200_000;
@@ -18,23 +19,29 @@ const BUDGET: u32 = 100;
 /// 195 KB.
 const GROWTH: usize = 64 * 1_024;
 
-/// A file and a sheet with the papers' answers.
+/// A file, a sheet and a wanted gap with the papers' answers.
 struct Paper {
     file: Vec<u8>,
     sheet: Sheet,
+    gap: u16,
     rating: Result<Rating, Refusal>,
     mark: Result<Mark, Refusal>,
+    sought: Result<Sought, Refusal>,
 }
 
 fn paper(dice: &mut Dice) -> Paper {
     let file = any_file(dice);
     let lines = read(&file).map_or(3, |net| net.lines());
     let sheet = any_sheet_bytes(dice, lines);
+    let gap = any_gap(dice, &file);
     let mark = mark_bytes(&file, &sheet, BUDGET);
+    let sought = read(&file).map(|net| seek(&net, gap, BUDGET));
     Paper {
         rating: rating_or_refusal(rate_bytes(&file, &sheet)),
         mark: mark.map(marked).map_err(refusal),
+        sought: sought.map_err(refusal),
         sheet: Sheet::of_bytes(sheet),
+        gap,
         file,
     }
 }
@@ -77,5 +84,9 @@ fn two_hundred_thousand_calls() {
     });
     calls("mark", &papers, |paper| {
         assert_eq!(engine::mark(&paper.file, &paper.sheet, BUDGET), paper.mark);
+    });
+    calls("wanted", &papers, |paper| {
+        let found = engine::wanted(&paper.file, paper.gap, BUDGET).map(sought);
+        assert_eq!(found, paper.sought);
     });
 }

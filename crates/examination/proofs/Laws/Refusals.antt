@@ -23,7 +23,10 @@ use Rattle.network.proofs.Laws.ArchiveCall.{archive-refuses-only}
 use Rattle.network.proofs.Laws.Gaps.{accepted-valid}
 use Rattle.search.specs.Search.{SearchOutcome, finished, stopped, stoppedWithNone, searchOutcome, startRowAfter}
 use Rattle.search.specs.Search as search
+use Rattle.search.specs.Wanted.{wantedOutcome}
+use Rattle.search.specs.Wanted as wanted
 use Rattle.search.proofs.Demands.{Searches, demand-1}
+use Rattle.search.proofs.WantedGap as asked
 use Rattle.examination.specs.Bytes.{bytesFit, byBytes, BytesUnfit}
 use Rattle.examination.specs.Exports.{placeLimit}
 use Rattle.examination.specs.Sheets.{fits, marked, markOutcome}
@@ -100,6 +103,11 @@ module _ (file : List ℕ) {number place : ℕ} where
       → place < placeLimit
   search-low bytes row budget e =
       low (demand-1 {row = row} {budget = budget} (record { bytes = bytes; answered = refl; left = refl }) .no-other-is-refused number place e) (omega arith) (omega arith)
+
+  pub wanted-low : IsBytes file → (row : List ℤ) (gap budget : ℕ) → wantedOutcome (readFile file) (length row) gap budget ≡ wanted.refusal number place
+      → place < placeLimit
+  wanted-low bytes row gap budget e =
+      low (asked.demand-1 {row = row} {wanted = gap} {budget = budget} (record { bytes = bytes; answered = refl; left = refl }) .no-other-is-refused number place e) (omega arith) (omega arith)
 
   pub mark-low : IsBytes file → (sheet : List ℤ) (budget : ℕ) → markOutcome (readFile file) sheet budget ≡ sheets.refusal number place
       → place < placeLimit

@@ -34,4 +34,6 @@ pub use faulty::{faulty_file, Faulty};
 pub use large::{dense_file, limit_file, longest_file, very_long_file};
 pub use retyped::retyped;
 pub use sheets::{any_budget, any_gap, any_sheet, any_sheet_bytes, any_start, sheet, sheet_bytes};
-pub use valid::{any_size, valid_commands, valid_commands_of, valid_file, Size, CYCLES};
+pub use valid::{
+    any_size, roomy_file, valid_commands, valid_commands_of, valid_file, Size, CYCLES,
+};

@@ -1,6 +1,8 @@
 //! Sheets, budgets and wanted gaps.
 
 use super::dice::Dice;
+use crate::sections::caps::upper_rating;
+use crate::sections::network::read;
 
 /// A start: small, negative, large or at an end of 32 signed bits.
 pub fn any_start(dice: &mut Dice) -> i32 {
@@ -65,12 +67,13 @@ pub fn any_budget(dice: &mut Dice) -> u32 {
     }
 }
 
-/// A wanted gap: mostly one up to a minute more than this, now and then any of 16
-/// bits.
-pub fn any_gap(dice: &mut Dice, most: u32) -> u16 {
+/// A wanted gap for a file: mostly one up to a minute more than the least cap of its
+/// network, which no least gap exceeds; now and then any of 16 bits.
+pub fn any_gap(dice: &mut Dice, file: &[u8]) -> u16 {
+    let least_cap = read(file).map_or(0, |net| upper_rating(&net, 0, &[]).least);
     match dice.below(8) {
         0 => dice.pick(&[0, 1_439, 1_440, 1_441, u16::MAX - 1, u16::MAX]),
         1 => dice.bits() as u16,
-        _ => dice.within(0, most as usize + 1) as u16,
+        _ => dice.within(0, least_cap as usize + 1) as u16,
     }
 }

@@ -45,6 +45,31 @@ pub fn valid_file(dice: &mut Dice) -> Vec<u8> {
     bytes_of(&valid_commands(dice))
 }
 
+/// A network whose periods have a large divisor in common, so that lines can keep
+/// away from each other: for wanted gaps, which most of the other networks have at
+/// once or never.
+pub fn roomy_file(dice: &mut Dice) -> Vec<u8> {
+    let common = dice.pick(&[8, 10, 12, 20, 30]);
+    let (lines, stops) = (dice.within(2, 5), dice.within(1, 4));
+    let mut commands: Vec<Command> = (0..lines)
+        .map(|_| Command::Line {
+            period: common * dice.pick(&[1, 1, 1, 2, 3]),
+        })
+        .collect();
+    for call in 0..lines * stops {
+        let (line, stop) = (call / stops, call % stops);
+        if line % stops == stop || dice.once_in(2) {
+            commands.push(Command::Call {
+                line: line as u8,
+                stop: stop as u8,
+                offset: dice.below(60) as u16,
+            });
+        }
+    }
+    commands.push(Command::End);
+    bytes_of(&commands)
+}
+
 /// The commands of a file that is accepted.
 pub fn valid_commands(dice: &mut Dice) -> Vec<Command> {
     let size = any_size(dice);

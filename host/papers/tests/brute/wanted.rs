@@ -5,7 +5,7 @@ use papers::files::Dice;
 use papers::sections::network::Network;
 use papers::sections::rating::{rating_by_counting, whole};
 use papers::sections::wanted::{seek, Sought, Wanted};
-use papers::small::{every_timetable, small_file};
+use papers::small::{every_timetable, small_file_for_gaps};
 
 /// For each least gap that a timetable with line 0 at 0 has and none before it
 /// had, or a larger one: the gap and the first such timetable, both ascending.
@@ -38,7 +38,7 @@ fn found_exactly_where_a_timetable_has_the_gap() {
     let mut dice = Dice::new(7);
     let (mut later, mut several_lines) = (0, 0);
     for _ in 0..1_500 {
-        let (_, net) = small_file(&mut dice, 10_000);
+        let (_, net) = small_file_for_gaps(&mut dice, 10_000);
         several_lines += usize::from(net.lines() > 2);
         let (greatest, firsts) = (greatest(&net), first_reaches(&net));
         assert_eq!(firsts.last().map(|(gap, _)| *gap), Some(greatest));
@@ -70,7 +70,7 @@ fn every_budget_by_the_book() {
     let mut dice = Dice::new(8);
     let mut seen = [0; 3];
     for _ in 0..60 {
-        let (_, net) = small_file(&mut dice, 400);
+        let (_, net) = small_file_for_gaps(&mut dice, 400);
         for gap in (0..8).chain([65_535]) {
             let full = seek(&net, gap, u32::MAX);
             for budget in 0..=tries(&full) + 1 {

@@ -30,6 +30,9 @@ fn a_byte_behind_the_longest_file() {
         assert_eq!(engine::search(&longer, 100).map(drop), refusal);
         let searched = engine::search_into(&longer, &mut [7; 16], 100);
         assert_eq!(searched.map(drop), refusal);
+        assert_eq!(engine::wanted(&longer, 0, 100).map(drop), refusal);
+        let sought = engine::wanted_into(&longer, &mut [7; 16], 0, 100);
+        assert_eq!(sought.map(drop), refusal);
         assert_eq!(engine::mark(&longer, &sheet, 100).map(drop), refusal);
         assert_eq!(engine::archive(&longer).map(drop), refusal);
         let better = engine::better(&longer, &sheet, &sheet);

@@ -39,6 +39,9 @@ fn rows_of_the_caller() {
     let refused = engine::search_into(&file, &mut starts, 100);
     assert_eq!(refused.map(drop), Err(of_row(Ground::StartRowLength)));
     assert_eq!(starts, [7, 8]);
+    let refused = engine::wanted_into(&file, &mut starts, 0, 100);
+    assert_eq!(refused.map(drop), Err(of_row(Ground::StartRowLength)));
+    assert_eq!(starts, [7, 8]);
     let (mut class_row, mut weight_row) = ([9; 64], [9; 63]);
     let refused = engine::classes_into(&file, &mut class_row, &mut weight_row);
     assert_eq!(refused.map(drop), Err(of_row(Ground::ClassRowLength)));

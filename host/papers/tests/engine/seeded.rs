@@ -1,13 +1,16 @@
 //! Every call on seeded files and sheets of every kind.
 
 use engine::{Mark, Refusal, Sheet};
-use papers::answers::{counts, marked, rating_or_refusal, refusal, walked};
-use papers::files::{any_budget, any_file, any_sheet_bytes, random_bytes, sheet_bytes, Dice};
+use papers::answers::{counts, marked, rating_or_refusal, refusal, sought, walked};
+use papers::files::{
+    any_budget, any_file, any_gap, any_sheet_bytes, random_bytes, roomy_file, sheet_bytes, Dice,
+};
 use papers::sections;
 use papers::sections::archive::archive_form;
 use papers::sections::network::{read, Network};
 use papers::sections::sheets::{better_bytes, mark_bytes, rate_bytes, weighted_bytes, Better};
 use papers::sections::walk::{walk, Answer};
+use papers::sections::wanted::{seek, Wanted};
 use std::fmt::Debug;
 use std::panic::{catch_unwind, AssertUnwindSafe};
 use std::sync::atomic::{AtomicUsize, Ordering};
@@ -28,6 +31,8 @@ struct Kind {
     ground: u32,
     /// Finished, stopped, stopped with none.
     search: Option<usize>,
+    /// Found, none, stopped.
+    wanted: Option<usize>,
     /// First, second, neither.
     better: usize,
     /// Decided equal, decided below, undecided.
@@ -60,6 +65,7 @@ fn case(number: usize) -> Kind {
     );
     compare_classes(&file, &net, &mut kind);
     compare_search(&mut dice, &file, &net, &mut kind);
+    compare_wanted(&mut dice, &file, &net, &mut kind);
     compare_sheets(&mut dice, &file, &net, &sheets, &mut kind);
     compare_archive(&mut dice, &file, &net, &sheets, &mut kind);
     kind
@@ -94,6 +100,31 @@ fn compare_search(dice: &mut Dice, file: &[u8], net: &Result<Network, Refusal>, 
             };
             assert_eq!(found.map(walked), Ok(paper));
             kind.search = Some(ended);
+        }
+    }
+}
+
+/// On the file, or in its place on one where lines can keep away from each other.
+fn compare_wanted(dice: &mut Dice, file: &[u8], net: &Result<Network, Refusal>, kind: &mut Kind) {
+    let roomy = dice.once_in(2).then(|| roomy_file(dice));
+    let file = roomy.as_deref().unwrap_or(file);
+    let (gap, budget) = (any_gap(dice, file), any_budget(dice));
+    let found = engine::wanted(file, gap, budget);
+    let net = match roomy {
+        Some(_) => read(file).map_err(refusal),
+        None => net.clone(),
+    };
+    match net {
+        Err(why) => assert_eq!(found, Err(why)),
+        Ok(net) => {
+            let paper = seek(&net, gap, budget);
+            let ended = match paper.answer {
+                Wanted::Found { .. } => 0,
+                Wanted::None { .. } => 1,
+                Wanted::Stopped { .. } => 2,
+            };
+            assert_eq!(found.map(sought), Ok(paper));
+            kind.wanted = Some(ended);
         }
     }
 }
@@ -161,19 +192,25 @@ fn compare_archive(
     assert_eq!(length, Ok(form.len()));
     assert_eq!(row, [&form, &guard[form.len()..]].concat());
     kind.untidy = form != file;
-    let (sheets, budget) = (sheets.clone().map(Sheet::of_bytes), any_budget(dice));
-    let on_form = answers(&form, &sheets, budget);
-    assert_eq!(answers(file, &sheets, budget), on_form);
+    let asked = (any_gap(dice, file), any_budget(dice));
+    let sheets = sheets.clone().map(Sheet::of_bytes);
+    let on_form = answers(&form, &sheets, asked);
+    assert_eq!(answers(file, &sheets, asked), on_form);
 }
 
-/// What every call answers on a file.
-fn answers(file: &[u8], [first, second]: &[Sheet; 2], budget: u32) -> impl PartialEq + Debug {
+/// What every call answers on a file, with a wanted gap and a budget.
+fn answers(
+    file: &[u8],
+    [first, second]: &[Sheet; 2],
+    (gap, budget): (u16, u32),
+) -> impl PartialEq + Debug {
     (
         engine::read(file),
         engine::rate(file, first),
         engine::weighted(file, first),
         engine::classes(file),
         engine::search(file, budget),
+        engine::wanted(file, gap, budget),
         engine::better(file, first, second),
         engine::mark(file, first, budget),
         engine::archive(file),
@@ -212,6 +249,7 @@ fn seeded_files_and_sheets() {
         .map(|ground| count(&|kind| kind.ground == ground))
         .collect();
     let searches = [0, 1, 2].map(|end| count(&|kind| kind.search == Some(end)));
+    let wanted = [0, 1, 2].map(|end| count(&|kind| kind.wanted == Some(end)));
     let betters = [0, 1, 2].map(|at| count(&|kind| kind.better == at));
     let marks = [0, 1, 2].map(|at| count(&|kind| kind.mark == Some(at)));
     let long = count(&|kind| kind.very_long);
@@ -224,6 +262,7 @@ fn seeded_files_and_sheets() {
         &grounds[1..]
     );
     println!("searches finished, stopped, stopped with none: {searches:?}");
+    println!("wanted gaps found, none, stopped: {wanted:?}");
     println!("better first, second, neither: {betters:?}");
     println!("marks equal, below, undecided: {marks:?}");
     println!("very long {long}, empty {empty}, with alike stops {alike}, untidy {untidy}");
@@ -232,6 +271,7 @@ fn seeded_files_and_sheets() {
     let of_kinds = [
         &grounds[..],
         &searches,
+        &wanted,
         &betters,
         &marks,
         &[long, empty, alike, untidy],

@@ -1,10 +1,13 @@
 //! Budgets at the bound of demand 3, at the tries that a search takes, and about
 //! them.
 
-use crate::compared::{compare_mark, compare_search, Seen};
-use papers::files::{bytes_of, sheet, sheet_bytes, valid_commands_of, Dice, Size};
+use crate::compared::{compare_mark, compare_search, compare_wanted, Seen};
+use papers::files::{
+    any_gap, bytes_of, roomy_file, sheet, sheet_bytes, valid_commands_of, Dice, Size,
+};
 use papers::sections::network::{read, Network};
 use papers::sections::walk::{most_tries, walk, Answer};
+use papers::sections::wanted::{seek, Wanted};
 use papers::small::small_file;
 use std::collections::BTreeSet;
 
@@ -71,4 +74,33 @@ fn budgets_at_the_bound_and_at_the_tries() {
     }
     println!("{at_bound} searches take all tries of the bound, {below_bound} fewer");
     assert!(at_bound >= 50 && below_bound >= 50);
+}
+
+/// A wanted gap under such budgets: found or none exactly where the budget is no
+/// less than the tries that it takes, and otherwise stopped.
+#[test]
+fn budgets_of_a_wanted_gap() {
+    let mut dice = Dice::new(77);
+    let mut ends = [0; 2];
+    for _ in 0..2 * FILES {
+        let file = roomy_file(&mut dice);
+        let net = read(&file).expect("a valid file");
+        let gap = any_gap(&mut dice, &file);
+        let (end, tries) = match seek(&net, gap, MOST_TRIES).answer {
+            Wanted::Found { tries } => (0, tries),
+            Wanted::None { tries } => (1, tries),
+            Wanted::Stopped { .. } => continue,
+        };
+        let bound = u32::try_from(most_tries(&net)).unwrap_or(u32::MAX);
+        assert!(tries <= bound);
+        ends[end] += usize::from(tries > net.lines() as u32);
+        for budget in budgets(&net, tries, bound) {
+            let mut seen = Seen::default();
+            compare_wanted(&mut dice, &file, net.lines(), (gap, budget), &mut seen);
+            let end = if budget >= tries { end } else { 2 };
+            assert_eq!(seen.last, end as u32, "gap {gap}, budget {budget}");
+        }
+    }
+    println!("{ends:?} found and none after more tries than lines");
+    assert!(ends.iter().all(|&count| count >= 80));
 }

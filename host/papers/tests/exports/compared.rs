@@ -3,9 +3,10 @@
 use crate::lent::{answer_row, row_length, Lent};
 use crate::{
     examination_archive, examination_better, examination_classes, examination_mark,
-    examination_rate, examination_read, examination_search, examination_weighted,
+    examination_rate, examination_read, examination_search, examination_wanted,
+    examination_weighted,
 };
-use papers::files::{any_budget, any_sheet_bytes, bytes_of, Command, Dice};
+use papers::files::{any_budget, any_gap, any_sheet_bytes, bytes_of, Command, Dice};
 use papers::sections::archive::{archive, archive_form};
 use papers::sections::classes::class_call;
 use papers::sections::network::{read, read_counts, Refusal};
@@ -14,6 +15,7 @@ use papers::sections::sheets::{
     better_bytes, mark_bytes, rate_bytes, weighted_bytes, Better, Marked,
 };
 use papers::sections::walk::{search, Answer};
+use papers::sections::wanted::{wanted, Wanted};
 
 /// The return value of a refusal.
 pub fn refused(refusal: Refusal) -> u32 {
@@ -147,6 +149,41 @@ pub fn compare_search(dice: &mut Dice, file: &[u8], places: usize, budget: u32, 
     seen.add(found);
 }
 
+/// A wanted gap and the budget to seek it with.
+pub type Asked = (u16, u32);
+
+pub fn compare_wanted(
+    dice: &mut Dice,
+    file: &[u8],
+    places: usize,
+    (gap, budget): Asked,
+    seen: &mut Seen,
+) {
+    let mut start_row = Lent::of(places, || dice.bits() as i32);
+    let mut answer = answer_row::<1>(dice);
+    let mut starts_after = start_row.clone();
+    let (returned, answer_after) = match wanted(file, starts_after.row(), gap, budget) {
+        Err(refusal) => (refused(refusal), answer.clone()),
+        Ok(Wanted::Found { tries }) => (0, answer.holding(&[tries])),
+        Ok(Wanted::None { tries }) => (1, answer.holding(&[tries])),
+        Ok(Wanted::Stopped { tries }) => (2, answer.holding(&[tries])),
+    };
+    let found = unsafe {
+        examination_wanted(
+            file.as_ptr(),
+            file.len(),
+            start_row.pointer(),
+            start_row.length(),
+            gap,
+            budget,
+            answer.pointer().cast(),
+        )
+    };
+    assert_eq!((found, answer), (returned, answer_after), "gap {gap}");
+    assert_eq!(start_row, starts_after, "gap {gap}");
+    seen.add(found);
+}
+
 /// The generator's budgets up to 2,000: longer searches are compared elsewhere.
 pub fn small_budget(dice: &mut Dice) -> u32 {
     any_budget(dice).min(2_000)
@@ -249,6 +286,7 @@ pub struct AllSeen {
     pub weighted: Seen,
     pub classes: Seen,
     pub search: Seen,
+    pub wanted: Seen,
     pub better: Seen,
     pub mark: Seen,
     pub archive: Seen,
@@ -256,13 +294,14 @@ pub struct AllSeen {
 
 impl AllSeen {
     /// The exports that can refuse.
-    pub fn refusing(&self) -> [&Seen; 7] {
+    pub fn refusing(&self) -> [&Seen; 8] {
         [
             &self.read,
             &self.rate,
             &self.weighted,
             &self.classes,
             &self.search,
+            &self.wanted,
             &self.mark,
             &self.archive,
         ]
@@ -283,6 +322,9 @@ pub fn compare_all(dice: &mut Dice, file: &[u8], seen: &mut AllSeen) {
     compare_classes(dice, file, &mut seen.classes);
     let (places, budget) = (row_length(dice, lines), small_budget(dice));
     compare_search(dice, file, places, budget, &mut seen.search);
+    let asked = (any_gap(dice, file), small_budget(dice));
+    let places = row_length(dice, lines);
+    compare_wanted(dice, file, places, asked, &mut seen.wanted);
     compare_better(file, &first, &second, &mut seen.better);
     let budget = small_budget(dice);
     compare_mark(dice, file, &first, budget, &mut seen.mark);

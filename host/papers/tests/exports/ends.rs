@@ -3,9 +3,9 @@
 
 use crate::compared::{
     compare_archive, compare_better, compare_classes, compare_mark, compare_rate, compare_read,
-    compare_search, AllSeen, Rates,
+    compare_search, compare_wanted, AllSeen, Rates,
 };
-use crate::{examination_rate, examination_weighted};
+use crate::{examination_rate, examination_wanted, examination_weighted};
 use papers::files::{bytes_of, longest_file, sheet, sheet_bytes, Command, Dice};
 use papers::sections::sheets::{rate_bytes, weighted_bytes};
 
@@ -26,6 +26,9 @@ fn compare_with_right_rows(dice: &mut Dice, file: &[u8], lines: usize) -> AllSee
         compare_classes(dice, file, &mut seen.classes);
     }
     compare_search(dice, file, lines, 3_000, &mut seen.search);
+    for gap in [0, 1, 1_440, 1_441, u16::MAX] {
+        compare_wanted(dice, file, lines, (gap, 3_000), &mut seen.wanted);
+    }
     compare_better(file, &one, &other, &mut seen.better);
     compare_mark(dice, file, &one, 3_000, &mut seen.mark);
     compare_archive(dice, file, 1_329, &mut seen.archive);
@@ -40,6 +43,40 @@ fn the_longest_file_is_accepted() {
     let seen = compare_with_right_rows(&mut dice, &longest, 16);
     for one in seen.refusing() {
         assert!(one.answers != [0; 3] && one.grounds[14] == 0, "{seen:?}");
+    }
+}
+
+/// A wanted gap is a number of 16 bits: what stands above them in its register
+/// plays no part. A caller in C extends it; another may leave there what was.
+#[test]
+fn a_wanted_gap_has_16_bits() {
+    type Wider =
+        unsafe extern "C" fn(*const u8, usize, *mut i32, usize, u64, u32, *mut [u32; 1]) -> u32;
+    let wider: Wider = unsafe { std::mem::transmute(examination_wanted as *const ()) };
+    let file = [&[0x4C, 0, 15, 0x43, 0, 0, 0, 8][..], &[0x45]].concat();
+    for (gap, expected) in [(0, 0), (15, 0), (16, 1), (65_535, 1)] {
+        for above in [0, 1, 0xFFFF, 0x8000_0000_0000, 0xFFFF_FFFF_FFFF] {
+            let (mut row, mut answer) = ([7], [7]);
+            let register = above << 16 | gap;
+            let row_pointer = row.as_mut_ptr();
+            let found = unsafe {
+                wider(
+                    file.as_ptr(),
+                    file.len(),
+                    row_pointer,
+                    1,
+                    register,
+                    1,
+                    &mut answer,
+                )
+            };
+            let starts = if expected == 0 { [0] } else { [7] };
+            assert_eq!(
+                (found, row, answer),
+                (expected, starts, [1]),
+                "{register:#x}"
+            );
+        }
     }
 }
 
@@ -84,5 +121,7 @@ fn the_largest_sum() {
     let seen = compare_with_right_rows(&mut dice, &file, 1);
     assert_eq!((seen.rate.answers[0], seen.weighted.answers[0]), (1, 1));
     assert_eq!((seen.search.answers[0], seen.mark.answers[0]), (1, 1));
+    // Its period is its gap, and no more can be had.
+    assert_eq!(seen.wanted.answers, [3, 2, 0]);
     assert!(seen.classes.answers[0] > 0);
 }

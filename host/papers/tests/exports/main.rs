@@ -44,6 +44,15 @@ extern "C" {
         budget: u32,
         answer: *mut [u32; 3],
     ) -> u32;
+    fn examination_wanted(
+        file: *const u8,
+        file_len: usize,
+        start_row: *mut i32,
+        start_len: usize,
+        wanted: u16,
+        budget: u32,
+        answer: *mut [u32; 1],
+    ) -> u32;
     fn examination_better(
         file: *const u8,
         file_len: usize,

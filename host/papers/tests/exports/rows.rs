@@ -1,6 +1,6 @@
 //! Rows of every length: grounds 16 to 18.
 
-use crate::compared::{compare_archive, three_lines, Seen};
+use crate::compared::{compare_archive, compare_wanted, three_lines, Seen};
 use crate::lent::{answer_row, Lent};
 use crate::{examination_classes, examination_search};
 use papers::files::{bytes_of, faulty_file, Command, Dice};
@@ -34,6 +34,41 @@ fn rows_of_other_lengths() {
         }
     }
     assert_eq!(filled(&mut dice, &file, 64, 64), 0);
+}
+
+/// The same of a wanted gap: no row of another length is written, whatever is
+/// wanted; and none and stopped leave one of the right length as it was.
+#[test]
+fn start_rows_of_a_wanted_gap() {
+    let mut dice = Dice::new(78);
+    let file = three_lines([15, 20, 12]);
+    let long = [259, 4_096, 4_099, 65_536, 65_539];
+    for asked in [(0, 0), (0, 1_000), (1, 1_000), (u16::MAX, 1_000)] {
+        let mut seen = Seen::default();
+        for length in (0..=40).filter(|&length| length != 3).chain(long) {
+            compare_wanted(&mut dice, &file, length, asked, &mut seen);
+        }
+        assert_eq!((seen.answers, seen.grounds[16]), ([0; 3], 45));
+    }
+    let mut seen = Seen::default();
+    for asked in [(0, 3), (u16::MAX, 1), (0, 2), (u16::MAX, 0)] {
+        compare_wanted(&mut dice, &file, 3, asked, &mut seen);
+    }
+    assert_eq!(seen.answers, [1, 1, 2]);
+}
+
+/// A refused file gives its own ground, also where the start row would be refused.
+#[test]
+fn the_files_ground_comes_before_a_wanted_gaps_row() {
+    let mut dice = Dice::new(79);
+    for ground in 1..=14u8 {
+        let faulty = faulty_file(&mut dice, ground);
+        let mut seen = Seen::default();
+        for length in [0, 1, 16, 17, 5_000] {
+            compare_wanted(&mut dice, &faulty.bytes, length, (0, 100), &mut seen);
+        }
+        assert_eq!(seen.grounds[usize::from(ground)], 5);
+    }
 }
 
 /// Searches with this start row.

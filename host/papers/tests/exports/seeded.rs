@@ -1,8 +1,8 @@
 //! Every export on seeded files and sheets, and on empty parts.
 
 use crate::compared::{
-    compare_all, compare_archive, compare_better, compare_mark, compare_rate, small_budget,
-    three_lines, AllSeen, Rates, Seen,
+    compare_all, compare_archive, compare_better, compare_mark, compare_rate, compare_search,
+    compare_wanted, small_budget, three_lines, AllSeen, Rates, Seen,
 };
 use crate::{examination_rate, examination_weighted};
 use papers::files::{any_file, faulty_file, sheet, sheet_bytes, valid_file, Dice};
@@ -35,10 +35,12 @@ fn exports_beside_the_papers() {
     assert!(seen.weighted.has_exactly(&with(15)));
     assert!(seen.classes.has_exactly(&with(17)));
     assert!(seen.search.has_exactly(&with(16)));
+    assert!(seen.wanted.has_exactly(&with(16)));
     assert!(seen.mark.has_exactly(&with(15)));
     assert!(seen.archive.has_exactly(&with(18)));
     assert!(seen.better.has_exactly(&[]));
     assert!(seen.search.answers.iter().all(|&count| count >= 100));
+    assert!(seen.wanted.answers.iter().all(|&count| count >= 100));
     assert!(seen.better.answers.iter().all(|&count| count >= 100));
     assert!(seen.mark.answers[..2].iter().all(|&count| count >= 100));
     assert!(seen.archive.answers[0] >= 100);
@@ -82,6 +84,10 @@ fn empty_parts() {
     compare_mark(&mut dice, &file, &[], 100, &mut one);
     compare_archive(&mut dice, &file, 0, &mut one);
     compare_archive(&mut dice, &[], 0, &mut one);
+    compare_search(&mut dice, &file, 0, 100, &mut one);
+    compare_wanted(&mut dice, &file, 0, (1, 100), &mut one);
+    compare_wanted(&mut dice, &[], 0, (1, 100), &mut one);
     assert_eq!(one.answers, [1, 0, 1]);
-    assert_eq!([1, 15, 18].map(|ground| one.grounds[ground]), [1, 1, 1]);
+    let grounds = [1, 15, 16, 18].map(|ground| one.grounds[ground]);
+    assert_eq!(grounds, [2, 1, 2, 1]);
 }

@@ -2,16 +2,10 @@
 
 use crate::ratings::lines_for_sheet;
 use papers::files::{any_budget, any_file, any_gap, any_sheet, Dice};
-use papers::sections::caps::upper_rating;
 use papers::sections::network::{read, Network};
 use papers::sections::rating::{rating_by_counting, whole};
 use papers::sections::walk::{most_tries, walk, Answer};
 use papers::sections::wanted::{seek, wanted, Wanted};
-
-/// The least cap of a network, which no least gap exceeds.
-fn least_cap(net: &Network) -> u32 {
-    upper_rating(net, 0, &[]).least
-}
 
 /// The call over any file, row, gap and budget: only a timetable that is found is
 /// written, and it has the gap.
@@ -24,11 +18,9 @@ fn wanted_gaps_of_any_kind() {
         let lines = lines_for_sheet(&mut dice, &file);
         let before = any_sheet(&mut dice, lines);
         let mut row = before.clone();
-        let net = read(&file);
-        let most = net.as_ref().map_or(0, least_cap);
-        let (gap, budget) = (any_gap(&mut dice, most), any_budget(&mut dice));
+        let (gap, budget) = (any_gap(&mut dice, &file), any_budget(&mut dice));
         let answer = wanted(&file, &mut row, gap, budget);
-        let kind = match (net, answer) {
+        let kind = match (read(&file), answer) {
             (Err(why), answer) => {
                 assert_eq!(answer, Err(why));
                 0
@@ -76,14 +68,15 @@ fn beside_a_finished_search() {
     let mut dice = Dice::new(15);
     let (mut up_to, mut above) = (0, 0);
     for _ in 0..3_000 {
-        let Ok(net) = read(&any_file(&mut dice)) else {
+        let file = any_file(&mut dice);
+        let Ok(net) = read(&file) else {
             continue;
         };
         let Answer::Finished { best, .. } = walk(&net, 20_000).answer else {
             continue;
         };
-        for most in [best.least, least_cap(&net)] {
-            let gap = any_gap(&mut dice, most);
+        let about = best.least as u16 + dice.below(2) as u16;
+        for gap in [any_gap(&mut dice, &file), about] {
             let answer = seek(&net, gap, any_budget(&mut dice)).answer;
             match u32::from(gap) <= best.least {
                 true => {

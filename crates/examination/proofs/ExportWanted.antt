@@ -1,0 +1,165 @@
+-- Document 02, A.3, on the export of the call with a wanted gap, said of what a host sees: what its return value, its number and the start row mean.
+-- Each theorem holds of every call that has returned, where it keeps the contract in src/exports.rt, which every call does. Assumes nothing.
+use Prim.Native.Nat.{ℕ, _<_, _≤_}
+use mathlib.Core.Path.{_≡_, refl, sym, ap, _∙_}
+use mathlib.Core.List.{List}
+use mathlib.Core.Logic.{_⊎_, inl, inr}
+use native.Mathlib.Omega.{arith}
+use borrow.Fn.World.{ArgsD, ResD}
+use borrow.Fn.Kinds.{endedOf}
+use contract.Lifetimes.{Lfts}
+use denote.Triple.Clauses.{AtExit}
+use lib.IntN.{ℤ}
+use lib.ListN.{length, getD}
+use Rattle.network.specs.Network.{Net, maxPeriod}
+use Rattle.network.specs.Reading.{accepted, readFile}
+use Rattle.network.specs.Refusals.{Refuses, Unfit, Demand1}
+use Rattle.network.specs.Rating.{IsRating}
+use Rattle.network.proofs.Laws.Lists.{zero-ne-one}
+use Rattle.search.specs.Wanted.{WantedOutcome, found, none, stopped, wantedOutcome}
+use Rattle.search.specs.Wanted as wanted
+use Rattle.search.proofs.Demands.{demandedBound, WalkedStarts}
+use Rattle.search.proofs.WantedGap.{Wants, WantedGap, demand-1, wanted-gap}
+use Rattle.examination.specs.Exports.{TellsRefusal, wantedStatus, wantedRow}
+use Rattle.examination.proofs.Codes.{export-demand-1, wanted-status-tells, wanted-status-code}
+use Rattle.examination.proofs.ExportDemands.{own-ground-range}
+use Rattle.examination.proofs.ExportSearch.{HallSearch, fit-answers, search-export-demand-3}
+use Rattle.examination.proofs.exports.examination_search as searching
+use Rattle.examination.proofs.exports.examination_search.Kinds as search-kinds
+use Rattle.examination.proofs.exports.examination_search.Reads as search-contract
+use Rattle.examination.proofs.exports.examination_wanted as wanting
+use Rattle.examination.proofs.exports.examination_wanted.Kinds as wanted-kinds
+use Rattle.examination.proofs.exports.examination_wanted.Reads as wanted-contract
+
+-- ---- It may be called: it asks nothing of what is lent
+
+pub wanted-export-asks-nothing : (κs : Lfts 3) (a : ArgsD wanting.signature κs) → wanted-contract.Pre κs a
+wanted-export-asks-nothing κs a = tt
+
+-- ---- What a host sees of it on an accepted file, with a start row of one place for each line
+
+pub record HallWanted (n : Net) (row : List ℤ) (gap budget returned : ℕ) (answer : List ℕ) (exit : List ℤ) : Type 0 where
+  -- found, none or stopped
+  pub returns : (returned ≡ 0) ⊎ ((returned ≡ 1) ⊎ (returned ≡ 2))
+  -- found: the row has one start for each line, as the walk tries them, and their rating's least gap is at least the wanted one
+  pub found-reaches : returned ≡ 0 → WalkedStarts n exit × ((least : ℕ) × (sum : ℕ) × IsRating n exit least sum × (gap ≤ least))
+  -- none: no whole-number starts reach it
+  pub none-reaches : returned ≡ 1 → (starts : List ℤ) → length starts ≡ length (n .periods) → {least sum : ℕ} → IsRating n starts least sum → least < gap
+  -- none and stopped leave the row
+  pub others-leave : (returned ≡ 1) ⊎ (returned ≡ 2) → exit ≡ row
+  -- the tries are at most demand 3's bound and the budget; stopped, they are the budget; and under a budget of at least the bound it doesn't stop
+  pub tries-at-most : (getD answer 0 0 ≤ demandedBound n) × (getD answer 0 0 ≤ budget)
+  pub stopped-at-budget : returned ≡ 2 → getD answer 0 0 ≡ budget
+  pub decides : demandedBound n ≤ budget → returned ≡ 2 → ⊥
+  -- 0 is wanted: found, with a try for each line, where the budget has as many
+  pub zero-is-found : gap ≡ 0 → length (n .periods) ≤ budget → (returned ≡ 0) × (getD answer 0 0 ≡ length (n .periods))
+  -- more is wanted than any period: none after one try, where there may be one
+  pub above-every-period : maxPeriod < gap → 0 < budget → (returned ≡ 1) × (getD answer 0 0 ≡ 1)
+
+neither-of : (_≡_ {A = ℕ} 0 1) ⊎ (_≡_ {A = ℕ} 0 2) → ⊥
+neither-of (inl e) = omega (arith, e)
+neither-of (inr e) = omega (arith, e)
+
+tries-of-found : {t k : ℕ} → found t ≡ found k → t ≡ k
+tries-of-found e = cc
+
+tries-of-none : {t k : ℕ} → none t ≡ none k → t ≡ k
+tries-of-none e = cc
+
+module _ {n : Net} {row : List ℤ} {gap budget : ℕ} {exit : List ℤ} (fit : length row ≡ length (n .periods)) where
+  hall-wanted : (o : WantedOutcome) (before : List ℕ) → ((number place : ℕ) → o ≡ wanted.refusal number place → ⊥)
+      → WantedGap n row gap budget o exit → HallWanted n row gap budget (wantedStatus o) (wantedRow o before) exit
+  unfolding wantedStatus wantedRow
+  hall-wanted (found t) before answers w =
+      record {
+        returns = inl refl;
+        found-reaches = λ e. (w .found-starts refl, w .found-reaches refl .1);
+        none-reaches = λ e. absurd (omega (arith, e));
+        others-leave = λ e. absurd (neither-of e);
+        tries-at-most = (w .tries-at-most, w .tries-within);
+        stopped-at-budget = λ e. absurd (omega (arith, e));
+        decides = λ h e. omega (arith, e);
+        zero-is-found = λ z h. (refl, tries-of-found (w .zero-is-found fit z h));
+        above-every-period = λ h b. absurd (zero-ne-one (cc (w .above-every-period fit b h)));
+      }
+  hall-wanted (none t) before answers w =
+      record {
+        returns = inr (inl refl);
+        found-reaches = λ e. absurd (omega (arith, e));
+        none-reaches = λ e. w .none-reaches refl;
+        others-leave = λ e. w .none-leaves refl;
+        tries-at-most = (w .tries-at-most, w .tries-within);
+        stopped-at-budget = λ e. absurd (omega (arith, e));
+        decides = λ h e. omega (arith, e);
+        zero-is-found = λ z h. absurd (zero-ne-one (cc (w .zero-is-found fit z h)));
+        above-every-period = λ h b. (refl, tries-of-none (w .above-every-period fit b h));
+      }
+  hall-wanted (stopped t) before answers w =
+      record {
+        returns = inr (inr refl);
+        found-reaches = λ e. absurd (omega (arith, e));
+        none-reaches = λ e. absurd (omega (arith, e));
+        others-leave = λ e. w .stopped-leaves refl;
+        tries-at-most = (w .tries-at-most, w .tries-within);
+        stopped-at-budget = λ e. w .stopped-at-budget refl;
+        decides = λ h e. w .decides h refl;
+        zero-is-found = λ z h. absurd (zero-ne-one (cc (w .zero-is-found fit z h)));
+        above-every-period = λ h b. absurd (zero-ne-one (cc (w .above-every-period fit b h)));
+      }
+  hall-wanted (wanted.refusal number place) before answers w = absurd (answers number place refl)
+
+wanted-row-as-found : {o : WantedOutcome} {number place : ℕ} (row : List ℕ) → o ≡ wanted.refusal number place → wantedRow o row ≡ row
+unfolding wantedRow
+wanted-row-as-found row e = rw e refl
+
+-- ---- Every call
+
+module _ (κs : Lfts 3) (a : ArgsD wanting.signature κs) (r : ResD wanting.signature κs)
+    (s : AtExit (endedOf 3 wanted-kinds.ps wanted-kinds.r) κs) (kept : wanted-contract.Post κs a r s) where
+  abbrev due : WantedOutcome
+  due = wantedOutcome (readFile (a .0 .now)) (length (a .1 .0 .now)) (a .1 .1 .0) (a .1 .1 .1 .0)
+
+  wants : Wants (a .0 .now) (a .1 .0 .now) (a .1 .1 .0) (a .1 .1 .1 .0) due (s .1 .0 .now)
+  wants = record { bytes = kept .1 .1 .1; answered = refl; left = kept .1 .1 .0 }
+
+  pub wanted-export-demand-1 : Demand1 (TellsRefusal r) (Refuses (a .0 .now) 16 (Unfit (a .1 .0 .now)))
+      ((s .1 .0 .now ≡ a .1 .0 .now) × (s .1 .1 .1 .1 .0 .now ≡ a .1 .1 .1 .1 .0 .now))
+  wanted-export-demand-1 =
+      export-demand-1
+      (record {
+        faulty-is-refused = demand-1 wants .faulty-is-refused;
+        no-other-is-refused = demand-1 wants .no-other-is-refused;
+        rows-as-found = λ number place e. (demand-1 wants .rows-as-found number place e, kept .1 .0 ∙ wanted-row-as-found (a .1 .1 .1 .1 .0 .now) e);
+      })
+      (own-ground-range (omega arith) (omega arith)) (wanted-status-code (kept .0)) (wanted-status-tells _ (kept .0))
+
+  pub wanted-export-means : {n : Net} → readFile (a .0 .now) ≡ accepted n → length (a .1 .0 .now) ≡ length (n .periods)
+      → HallWanted n (a .1 .0 .now) (a .1 .1 .0) (a .1 .1 .1 .0) r (s .1 .1 .1 .1 .0 .now) (s .1 .0 .now)
+  wanted-export-means {n} reads fit =
+      rw (kept .0, kept .1 .0)
+      (hall-wanted fit due (a .1 .1 .1 .1 .0 .now)
+      (λ number place e. fit-answers (a .1 .0 .now) reads fit (demand-1 wants .no-other-is-refused number place e)) (wanted-gap wants reads))
+
+-- ---- Beside a finished search of the same file, whatever either budget
+
+module _ (κs : Lfts 3) (a : ArgsD wanting.signature κs) (r : ResD wanting.signature κs)
+    (s : AtExit (endedOf 3 wanted-kinds.ps wanted-kinds.r) κs) (kept : wanted-contract.Post κs a r s) (κs′ : Lfts 3) (a′ : ArgsD searching.signature κs′)
+    (r′ : ResD searching.signature κs′) (s′ : AtExit (endedOf 3 search-kinds.ps search-kinds.r) κs′) (kept′ : search-contract.Post κs′ a′ r′ s′) where
+  -- A wanted gap up to the best least gap isn't answered none, a larger one not found
+  pub wanted-export-beside-search : a .0 .now ≡ a′ .0 .now → {n : Net} → readFile (a .0 .now) ≡ accepted n
+      → length (a .1 .0 .now) ≡ length (n .periods) → length (a′ .1 .0 .now) ≡ length (n .periods) → r′ ≡ 0
+      → (a .1 .1 .0 ≤ getD (s′ .1 .1 .1 .0 .now) 0 0 → r ≡ 1 → ⊥) × (getD (s′ .1 .1 .1 .0 .now) 0 0 < a .1 .1 .0 → r ≡ 0 → ⊥)
+  wanted-export-beside-search file {n} reads fit fit′ ends =
+      let asked : HallWanted n (a .1 .0 .now) (a .1 .1 .0) (a .1 .1 .1 .0) r (s .1 .1 .1 .1 .0 .now) (s .1 .0 .now)
+      = wanted-export-means κs a r s kept reads fit in
+      let best : HallSearch n (a′ .1 .0 .now) (a′ .1 .1 .0) r′ (s′ .1 .1 .1 .0 .now) (s′ .1 .0 .now)
+      = search-export-demand-3 κs′ a′ r′ s′ kept′ (ap readFile (sym file) ∙ reads) fit′ in (
+        λ low is. let (fits, rated) = best .finished-has-its-rating ends in omega (arith, low, asked .none-reaches is (s′ .1 .0 .now) fits rated),
+        λ high is.
+            let (starts, (l, u, rated, reach)) = asked .found-reaches is in
+            not-better high reach (best .finished-is-best ends (s .1 .0 .now) (starts .one-for-each-line) rated),
+      )
+    where
+      not-better : {best l u sum gap : ℕ} → best < gap → gap ≤ l → (l < best) ⊎ ((l ≡ best) × (u ≤ sum)) → ⊥
+      not-better high reach (inl h) = omega arith
+      not-better high reach (inr (e, h)) = omega (arith, e)
