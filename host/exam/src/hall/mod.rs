@@ -7,7 +7,8 @@
 //! | `record.rs`   | the fields of the record, as CSV and JSON              |
 //! | `report.rs`   | all sheets: a line or a row for each, and the tally    |
 //! | `judging.rs`  | from the sheets of a request to its report             |
-//! | `search.rs`   | a search that may take long                            |
+//! | `stages.rs`   | a call that may take long, and what is known midway    |
+//! | `search.rs`   | such searches, for the best one and for a wanted gap   |
 //! | `bound.rs`    | the budget that always suffices                        |
 //! | `checksum.rs` | the checksum of a network                              |
 
@@ -19,3 +20,4 @@ pub mod record;
 pub mod report;
 pub mod search;
 pub mod sheets;
+pub mod stages;

@@ -1,10 +1,11 @@
-//! The networks and sheets of a request, loaded.
+//! The networks and sheets of a request, loaded, and its number.
 
-use super::options;
+use super::options::{self, in_digits};
 use super::table::Request;
 use crate::input::network::{self, Network};
 use crate::input::sheet;
 use crate::status::Trouble;
+use engine::text::shown;
 use engine::Sheet;
 
 /// The networks, as many as the verb's row of the table says.
@@ -19,6 +20,30 @@ pub fn sheets<const COUNT: usize>(request: &Request) -> Result<[Sheet; COUNT], T
     let form = options::sheet_form(request);
     let load = |source| sheet::load(source, form);
     counted(request.sheets.iter().map(load))
+}
+
+/// A wanted gap: every number of 16 bits.
+pub fn gap(request: &Request) -> u16 {
+    let given = request.number.as_deref().map(gap_of);
+    match given {
+        Some(Ok(gap)) => gap,
+        // The parser goes by the table, and so the verb was written.
+        _ => unreachable!("a gap that nobody has checked"),
+    }
+}
+
+pub fn check_gap(text: &str) -> Result<(), String> {
+    gap_of(text).map(|_| ())
+}
+
+fn gap_of(text: &str) -> Result<u16, String> {
+    in_digits(text).ok_or_else(|| {
+        format!(
+            "the gap '{}' isn't a whole number of 0 to {}",
+            shown(text.as_bytes()),
+            u16::MAX
+        )
+    })
 }
 
 fn counted<T, const COUNT: usize>(

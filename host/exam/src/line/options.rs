@@ -4,6 +4,7 @@ use super::table::{CommandOption, Request, Value};
 use crate::input::form::Form;
 use crate::input::network;
 use engine::text::shown;
+use std::str::FromStr;
 
 /// What `best` of document 01 has.
 const USUAL_BUDGET: u32 = 1_000_000;
@@ -98,18 +99,22 @@ pub fn budget(request: &Request) -> u32 {
     given.and_then(Result::ok).unwrap_or(USUAL_BUDGET)
 }
 
-/// Digits alone: a sign, which `parse` takes, isn't one. `max` is the largest.
+/// `max` is the largest.
 fn budget_of(text: &str) -> Result<u32, String> {
     if text == "max" {
         return Ok(u32::MAX);
     }
-    let digits = !text.is_empty() && text.bytes().all(|byte| byte.is_ascii_digit());
-    match text.parse() {
-        Ok(budget) if digits => Ok(budget),
-        _ => Err(format!(
+    in_digits(text).ok_or_else(|| {
+        format!(
             "the budget '{}' isn't a number of 0 to {}, or max",
             shown(text.as_bytes()),
             u32::MAX
-        )),
-    }
+        )
+    })
+}
+
+/// Digits alone: a sign, which `parse` takes, isn't one.
+pub fn in_digits<Number: FromStr>(text: &str) -> Option<Number> {
+    let digits = text.bytes().all(|byte| byte.is_ascii_digit());
+    text.parse().ok().filter(|_| digits)
 }

@@ -121,7 +121,8 @@ fn told_apart(
     let mut only_operands = false;
     while let Some(word) = words.next() {
         let text = word.to_string_lossy();
-        if only_operands || text == "-" || !text.starts_with('-') {
+        let number = verb.number.is_some() && is_negative(&text);
+        if only_operands || number || text == "-" || !text.starts_with('-') {
             told.operands.push(word);
         } else if text == "--" {
             only_operands = true;
@@ -133,6 +134,13 @@ fn told_apart(
         }
     }
     Ok(told)
+}
+
+/// Whether a word is a number below 0, which is better refused as a number than as
+/// an option.
+fn is_negative(text: &str) -> bool {
+    let digits = text.strip_prefix('-').unwrap_or_default();
+    !digits.is_empty() && digits.bytes().all(|byte| byte.is_ascii_digit())
 }
 
 /// The option that a word begins, and its value, which stands behind `=` or is
@@ -205,9 +213,15 @@ fn add(
 
 /// Puts options and operands together.
 fn request(verb: &Verb, told: Told) -> Result<Request, Trouble> {
-    let (mut request, operands) = (told.request, told.operands);
+    let (mut request, mut operands) = (told.request, told.operands);
     if !verb.takes(operands.len()) {
         return Err(miscounted(verb, &operands));
+    }
+    if let Some(check) = verb.number {
+        let number = operands.remove(verb.networks);
+        let number = number.to_string_lossy().into_owned();
+        check(&number).map_err(|message| usage(&message, Some(verb)))?;
+        request.number = Some(number);
     }
     let mut networks: Vec<Source> = operands.into_iter().map(Source::of).collect();
     let from_input = |source: &&Source| **source == Source::Input;

@@ -11,7 +11,9 @@ pub struct Verb {
     pub operands: &'static str,
     /// How many networks it takes; they come first.
     pub networks: usize,
-    /// How many sheets it takes, behind the networks.
+    /// Checks the number behind the networks, if it takes one.
+    pub number: Option<Check>,
+    /// How many sheets it takes, behind these.
     pub sheets: Sheets,
     /// Its options in the order of its help.
     pub options: &'static [&'static CommandOption],
@@ -51,14 +53,18 @@ pub struct Value {
     pub placeholder: &'static str,
     /// What it is in words, for the message that it isn't there.
     pub words: &'static str,
-    /// Says what is wrong with a value, which it shows by `engine::text::shown`.
-    pub check: fn(&str) -> Result<(), String>,
+    pub check: Check,
 }
+
+/// Says what is wrong with a value, which it shows by `engine::text::shown`.
+pub type Check = fn(&str) -> Result<(), String>;
 
 /// What a verb is to do: its operands and options.
 #[derive(Default)]
 pub struct Request {
     pub networks: Vec<Source>,
+    /// The number, checked, where the verb takes one.
+    pub number: Option<String>,
     pub sheets: Vec<Source>,
     given: Vec<Given>,
 }
@@ -81,7 +87,7 @@ impl Verb {
             Sheets::Exactly(count) => count,
             Sheets::AtLeastOne => 1,
         };
-        self.networks + sheets
+        self.networks + usize::from(self.number.is_some()) + sheets
     }
 
     /// Whether it takes so many operands.

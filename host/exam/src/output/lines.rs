@@ -26,18 +26,25 @@ pub fn mark_line(mark: Mark) -> String {
 
 /// Document 01's line.
 pub fn search_line(searched: &Searched) -> String {
-    let line = |rating: Rating, tries: u32, starts: &[i32]| {
-        let (rating, starts) = (shown(rating), joined(starts));
-        format!("{rating} tries {tries} starts {starts}")
-    };
     match searched {
-        Searched::Finished(best) => line(best.rating(), best.tries(), best.starts()),
+        Searched::Finished(best) => timetable_line(best.rating(), best.tries(), best.starts()),
         Searched::Stopped { so_far, tries } => {
-            let line = line(so_far.rating(), *tries, so_far.starts());
+            let line = timetable_line(so_far.rating(), *tries, so_far.starts());
             format!("stopped {line}")
         }
-        Searched::StoppedWithNone { tries } => format!("stopped tries {tries}"),
+        Searched::StoppedWithNone { tries } => stopped_line(*tries),
     }
+}
+
+/// A timetable that came of so many tries.
+pub fn timetable_line(rating: Rating, tries: u32, starts: &[i32]) -> String {
+    let (rating, starts) = (shown(rating), joined(starts));
+    format!("{rating} tries {tries} starts {starts}")
+}
+
+/// Tries that came to no timetable.
+pub fn stopped_line(tries: u32) -> String {
+    format!("stopped tries {tries}")
 }
 
 /// Numbers with blanks between them.

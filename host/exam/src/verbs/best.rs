@@ -1,6 +1,7 @@
 //! `exam best`: the best timetable.
 
-use crate::hall::search::{search, Manner};
+use crate::hall::search::search;
+use crate::hall::stages::Manner;
 use crate::hall::{bound, checksum};
 use crate::input::network::Network;
 use crate::line::operands::networks;
@@ -16,6 +17,7 @@ pub const VERB: Verb = Verb {
     name: "best",
     operands: "NETWORK",
     networks: 1,
+    number: None,
     sheets: Sheets::Exactly(0),
     options: &[&PLAN, &TYPED, &BYTES, &BUDGET, &QUIET, &SHEET],
     summary: "the best timetable",

@@ -15,6 +15,7 @@ pub const VERB: Verb = Verb {
     name: "classes",
     operands: "NETWORK",
     networks: 1,
+    number: None,
     sheets: Sheets::Exactly(0),
     options: &[&PLAN, &TYPED, &BYTES, &ROWS],
     summary: "which stops always rate alike",

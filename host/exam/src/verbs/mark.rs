@@ -2,7 +2,8 @@
 
 use crate::hall::judging::judge;
 use crate::hall::outcome::{Outcome, Row};
-use crate::hall::search::{search, Manner};
+use crate::hall::search::search;
+use crate::hall::stages::Manner;
 use crate::line::operands::networks;
 use crate::line::options::{
     budget, BUDGET, BYTES, CSV, JSON, PLAN, QUIET, SHEET_BYTES, SHEET_NUMBERS, TYPED,
@@ -14,6 +15,7 @@ pub const VERB: Verb = Verb {
     name: "mark",
     operands: "NETWORK SHEET-OR-FOLDER..",
     networks: 1,
+    number: None,
     sheets: Sheets::AtLeastOne,
     options: &[
         &PLAN,

@@ -11,16 +11,18 @@ mod read;
 mod same;
 mod show;
 mod typing;
+mod wanted;
 
 use crate::line::table::Verb;
 
 /// All verbs, in the order of help.
-pub const ALL: [&Verb; 11] = [
+pub const ALL: [&Verb; 12] = [
     &read::VERB,
     &show::VERB,
     &rate::VERB,
     &classes::VERB,
     &best::VERB,
+    &wanted::VERB,
     &better::VERB,
     &mark::VERB,
     &archive::VERB,
@@ -49,6 +51,8 @@ mod tests {
             assert_eq!(words.len(), verb.operand_count(), "{}", verb.name);
             let networks = words.iter().filter(|word| **word == "NETWORK");
             assert_eq!(networks.count(), verb.networks, "{}", verb.name);
+            let number = words.get(verb.networks) == Some(&"GAP");
+            assert_eq!(number, verb.number.is_some(), "{}", verb.name);
         }
     }
 

@@ -12,6 +12,7 @@ pub const VERB: Verb = Verb {
     name: "plan",
     operands: "NETWORK",
     networks: 1,
+    number: None,
     sheets: Sheets::Exactly(0),
     options: &[&PLAN, &TYPED, &BYTES],
     summary: "a network as a plan, with names and decimal numbers",

@@ -10,6 +10,7 @@ pub const VERB: Verb = Verb {
     name: "rate",
     operands: "NETWORK SHEET-OR-FOLDER..",
     networks: 1,
+    number: None,
     sheets: Sheets::AtLeastOne,
     options: &[
         &PLAN,

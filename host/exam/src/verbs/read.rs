@@ -11,6 +11,7 @@ pub const VERB: Verb = Verb {
     name: "read",
     operands: "NETWORK",
     networks: 1,
+    number: None,
     sheets: Sheets::Exactly(0),
     options: &[&PLAN, &TYPED, &BYTES],
     summary: "lines, stops, calls and common cycle",

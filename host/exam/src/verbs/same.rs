@@ -14,6 +14,7 @@ pub const VERB: Verb = Verb {
     name: "same",
     operands: "NETWORK NETWORK",
     networks: 2,
+    number: None,
     sheets: Sheets::Exactly(0),
     options: &[&PLAN, &TYPED, &BYTES],
     summary: "whether two files are of one network",

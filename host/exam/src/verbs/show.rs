@@ -14,6 +14,7 @@ pub const VERB: Verb = Verb {
     name: "show",
     operands: "NETWORK",
     networks: 1,
+    number: None,
     sheets: Sheets::Exactly(0),
     options: &[&PLAN, &TYPED, &BYTES],
     summary: "what was read, in decimal, for proofreading",

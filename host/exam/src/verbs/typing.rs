@@ -14,6 +14,7 @@ pub const VERB: Verb = Verb {
     name: "type",
     operands: "NETWORK",
     networks: 1,
+    number: None,
     sheets: Sheets::Exactly(0),
     options: &[&PLAN, &TYPED, &BYTES, &RAW],
     summary: "a plan in hexadecimal, or as bytes",

@@ -24,3 +24,4 @@ mod show;
 mod streams;
 mod typing;
 mod usage;
+mod wanted;

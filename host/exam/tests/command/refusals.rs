@@ -25,6 +25,10 @@ fn words_for_each_ground_of_the_file() {
             exam_with(&[verb, "-", "--bytes"], bytes).told(&line, 1, &pieces);
             exam_with(&[verb, "-", "--typed"], text.as_bytes()).told(&line, 1, &pieces);
         }
+        for gap in ["0", "65535"] {
+            let words = ["wanted", "-", gap, "--bytes"];
+            exam_with(&words, &faulty.bytes).told(&line, 1, &pieces);
+        }
         let folder = Folder::new();
         let network = folder.file("faulty.net", &faulty.bytes);
         let sheet = folder.file("any.sheet", "0 1 2");

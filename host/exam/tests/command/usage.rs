@@ -69,6 +69,15 @@ fn bad_operands() {
             "'better' wants NETWORK SHEET SHEET; SHEET is missing",
         ),
         (&["mark", NET], "'mark' wants NETWORK SHEET-OR-FOLDER"),
+        (
+            &["wanted"],
+            "'wanted' wants NETWORK GAP; NETWORK is missing",
+        ),
+        (
+            &["wanted", NET],
+            "'wanted' wants NETWORK GAP; GAP is missing",
+        ),
+        (&["wanted", NET, "3", "4"], "'4' is one too many"),
         (&["archive"], "'archive' wants NETWORK"),
         (&["archive", NET, NET], "'archive' wants NETWORK"),
         (&["same", NET], "'same' wants NETWORK NETWORK"),
@@ -114,6 +123,8 @@ fn options_that_a_verb_has_not() {
             "'rate' searches nothing and has no budget",
         ),
         (&["archive", NET, "--budget=1"], "has no budget"),
+        (&["wanted", NET, "3", "--sheet"], "no option '--sheet'"),
+        (&["wanted", NET, "3", "--csv"], "no option '--csv'"),
     ]);
 }
 
@@ -155,6 +166,46 @@ fn bad_budgets() {
             &["best", NET, "--budget=1", "--budget", "2"],
             "--budget is given twice",
         ),
+    ]);
+}
+
+/// A gap that is no whole number of 16 bits is explained, also where it looks like
+/// an option, and before any file is looked for.
+#[test]
+fn bad_gaps() {
+    let gaps = [
+        "-1",
+        "-65535",
+        "65536",
+        "4294967296",
+        "+5",
+        "",
+        " 3",
+        "3.5",
+        "0x3",
+        "five",
+        "max",
+        "５",
+        "-",
+        NET,
+    ];
+    for gap in gaps {
+        let words = format!("exam: the gap '{gap}' isn't a whole number of 0 to 65535\n");
+        for network in [NET, "absent.net"] {
+            exam(&["wanted", network, gap]).said(
+                "",
+                2,
+                &format!("{words}try: exam wanted --help\n"),
+            );
+        }
+    }
+    exam(&["wanted", NET, "\u{1B}[2J"]).told("", 2, &["the gap '\\u{1b}[2J' isn't"]);
+    all_are_told(&[
+        (&["wanted", NET, "-x"], "'wanted' has no option '-x'\n"),
+        (&["wanted", NET, "-5x"], "'wanted' has no option '-5x'\n"),
+        (&["wanted", NET, "--", "-5"], "the gap '-5' isn't"),
+        // What is no number elsewhere stays an option that isn't there.
+        (&["best", NET, "-5"], "'best' has no option '-5'\n"),
     ]);
 }
 
@@ -211,8 +262,8 @@ fn help_for_each_verb() {
         exam(words).printed(&overview.out, 0);
     }
     let verbs = [
-        "read", "show", "rate", "classes", "best", "better", "mark", "archive", "same", "plan",
-        "type",
+        "read", "show", "rate", "classes", "best", "wanted", "better", "mark", "archive", "same",
+        "plan", "type",
     ];
     for verb in verbs {
         assert!(overview.out.contains(&format!("  exam {verb} NETWORK")));
@@ -220,7 +271,7 @@ fn help_for_each_verb() {
         assert_eq!((help.status, help.err.as_str()), (0, ""));
         assert!(help.out.starts_with(&format!("exam {verb} NETWORK")));
         assert!(help.out.contains("Exit status: 0 done; 1 refused"));
-        let searches = ["best", "mark"].contains(&verb);
+        let searches = ["best", "wanted", "mark"].contains(&verb);
         assert_eq!(help.out.contains("--budget N"), searches);
         let writes_bytes = ["archive", "type"].contains(&verb);
         assert_eq!(help.out.contains("  --raw "), writes_bytes);
@@ -243,6 +294,7 @@ fn help_in_columns() {
   exam rate NETWORK SHEET-OR-FOLDER..    a sheet's rating: least gap, sum of gaps
   exam classes NETWORK                   which stops always rate alike
   exam best NETWORK                      the best timetable
+  exam wanted NETWORK GAP                a timetable with at least this gap, or none
   exam better NETWORK SHEET SHEET        the better of two sheets
   exam mark NETWORK SHEET-OR-FOLDER..    a sheet, or each of a folder, against the best
   exam archive NETWORK                   the one file of a network that is kept

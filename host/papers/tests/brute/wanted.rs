@@ -64,7 +64,29 @@ fn found_exactly_where_a_timetable_has_the_gap() {
 }
 
 /// The same answer, starts and tries as by the book, with every budget up to one
-/// try more than it takes; with fewer than it takes it is stopped.
+/// try more than it takes; with fewer than it takes it is stopped. Counts how often
+/// each answer came.
+fn compare_budgets(net: &Network, gap: u16, seen: &mut [usize; 3]) {
+    let full = seek(net, gap, u32::MAX);
+    for budget in 0..=tries(&full) + 1 {
+        let sought = seek(net, gap, budget);
+        assert_eq!(sought, seek_by_the_book(net, gap, budget));
+        let expected = match budget >= tries(&full) {
+            true => full.clone(),
+            false => Sought {
+                answer: Wanted::Stopped { tries: budget },
+                starts: None,
+            },
+        };
+        assert_eq!(sought, expected, "gap {gap}, budget {budget}");
+        seen[match sought.answer {
+            Wanted::Found { .. } => 0,
+            Wanted::None { .. } => 1,
+            Wanted::Stopped { .. } => 2,
+        }] += 1;
+    }
+}
+
 #[test]
 fn every_budget_by_the_book() {
     let mut dice = Dice::new(8);
@@ -72,24 +94,7 @@ fn every_budget_by_the_book() {
     for _ in 0..60 {
         let (_, net) = small_file_for_gaps(&mut dice, 400);
         for gap in (0..8).chain([65_535]) {
-            let full = seek(&net, gap, u32::MAX);
-            for budget in 0..=tries(&full) + 1 {
-                let sought = seek(&net, gap, budget);
-                assert_eq!(sought, seek_by_the_book(&net, gap, budget));
-                let expected = match budget >= tries(&full) {
-                    true => full.clone(),
-                    false => Sought {
-                        answer: Wanted::Stopped { tries: budget },
-                        starts: None,
-                    },
-                };
-                assert_eq!(sought, expected, "gap {gap}, budget {budget}");
-                seen[match sought.answer {
-                    Wanted::Found { .. } => 0,
-                    Wanted::None { .. } => 1,
-                    Wanted::Stopped { .. } => 2,
-                }] += 1;
-            }
+            compare_budgets(&net, gap, &mut seen);
         }
     }
     assert!(seen.iter().all(|&count| count > 200), "{seen:?}");

@@ -53,7 +53,7 @@ fn a_wanted_gap_has_16_bits() {
     type Wider =
         unsafe extern "C" fn(*const u8, usize, *mut i32, usize, u64, u32, *mut [u32; 1]) -> u32;
     let wider: Wider = unsafe { std::mem::transmute(examination_wanted as *const ()) };
-    let file = [&[0x4C, 0, 15, 0x43, 0, 0, 0, 8][..], &[0x45]].concat();
+    let file = [0x4C, 0, 15, 0x43, 0, 0, 0, 8, 0x45];
     for (gap, expected) in [(0, 0), (15, 0), (16, 1), (65_535, 1)] {
         for above in [0, 1, 0xFFFF, 0x8000_0000_0000, 0xFFFF_FFFF_FFFF] {
             let (mut row, mut answer) = ([7], [7]);
