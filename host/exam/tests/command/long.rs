@@ -42,7 +42,10 @@ impl Running {
         let said = receiver.recv_timeout(Duration::from_secs(20));
         let (line, stderr): (_, ChildStderr) = said.expect("a sign in time");
         self.0.stderr = Some(stderr);
-        line.expect("a line")
+        let line = line.expect("a line");
+        // Whoever waits for a certain sign would wait for ever.
+        assert_ne!(line, "", "it ended without a word");
+        line
     }
 
     /// What Ctrl-C does.
