@@ -19,7 +19,7 @@ use Rattle.network.proofs.Laws.Lists.{zero-ne-one}
 use Rattle.search.specs.Wanted.{WantedOutcome, found, none, stopped, wantedOutcome}
 use Rattle.search.specs.Wanted as wanted
 use Rattle.search.proofs.Demands.{demandedBound, WalkedStarts}
-use Rattle.search.proofs.WantedGap.{Wants, WantedGap, demand-1, wanted-gap}
+use Rattle.search.proofs.WantedGap.{Wants, WantedGap, WithMoreTries, demand-1, wanted-gap, with-more-tries}
 use Rattle.examination.specs.Exports.{TellsRefusal, wantedStatus, wantedRow}
 use Rattle.examination.proofs.Codes.{export-demand-1, wanted-status-tells, wanted-status-code}
 use Rattle.examination.proofs.ExportDemands.{own-ground-range}
@@ -51,6 +51,8 @@ pub record HallWanted (n : Net) (row : List ℤ) (gap budget returned : ℕ) (an
   pub tries-at-most : (getD answer 0 0 ≤ demandedBound n) × (getD answer 0 0 ≤ budget)
   pub stopped-at-budget : returned ≡ 2 → getD answer 0 0 ≡ budget
   pub decides : demandedBound n ≤ budget → returned ≡ 2 → ⊥
+  -- nothing may be tried: stopped, whatever is wanted
+  pub no-budget : budget ≡ 0 → returned ≡ 2
   -- 0 is wanted: found, with a try for each line, where the budget has as many
   pub zero-is-found : gap ≡ 0 → length (n .periods) ≤ budget → (returned ≡ 0) × (getD answer 0 0 ≡ length (n .periods))
   -- more is wanted than any period: none after one try, where there may be one
@@ -79,6 +81,7 @@ module _ {n : Net} {row : List ℤ} {gap budget : ℕ} {exit : List ℤ} (fit : 
         tries-at-most = (w .tries-at-most, w .tries-within);
         stopped-at-budget = λ e. absurd (omega (arith, e));
         decides = λ h e. omega (arith, e);
+        no-budget = λ z. absurd (zero-ne-one (cc (w .no-budget fit z)));
         zero-is-found = λ z h. (refl, tries-of-found (w .zero-is-found fit z h));
         above-every-period = λ h b. absurd (zero-ne-one (cc (w .above-every-period fit b h)));
       }
@@ -91,6 +94,7 @@ module _ {n : Net} {row : List ℤ} {gap budget : ℕ} {exit : List ℤ} (fit : 
         tries-at-most = (w .tries-at-most, w .tries-within);
         stopped-at-budget = λ e. absurd (omega (arith, e));
         decides = λ h e. omega (arith, e);
+        no-budget = λ z. absurd (zero-ne-one (cc (w .no-budget fit z)));
         zero-is-found = λ z h. absurd (zero-ne-one (cc (w .zero-is-found fit z h)));
         above-every-period = λ h b. (refl, tries-of-none (w .above-every-period fit b h));
       }
@@ -103,6 +107,7 @@ module _ {n : Net} {row : List ℤ} {gap budget : ℕ} {exit : List ℤ} (fit : 
         tries-at-most = (w .tries-at-most, w .tries-within);
         stopped-at-budget = λ e. w .stopped-at-budget refl;
         decides = λ h e. w .decides h refl;
+        no-budget = λ z. refl;
         zero-is-found = λ z h. absurd (zero-ne-one (cc (w .zero-is-found fit z h)));
         above-every-period = λ h b. absurd (zero-ne-one (cc (w .above-every-period fit b h)));
       }
@@ -163,3 +168,35 @@ module _ (κs : Lfts 3) (a : ArgsD wanting.signature κs) (r : ResD wanting.sign
       not-better : {best l u sum gap : ℕ} → best < gap → gap ≤ l → (l < best) ⊎ ((l ≡ best) × (u ≤ sum)) → ⊥
       not-better high reach (inl h) = omega arith
       not-better high reach (inr (e, h)) = omega (arith, e)
+
+-- ---- Found and none stay so under every larger budget
+
+-- By the return value and the tries
+stays : {o q : WantedOutcome} (before before′ : List ℕ) → ((number place : ℕ) → o ≡ wanted.refusal number place → ⊥) → {exit exit′ : List ℤ}
+    → WithMoreTries o q exit exit′
+    → (wantedStatus o ≡ 0 → (wantedStatus q ≡ 0) × (wantedRow q before′ ≡ wantedRow o before) × (exit′ ≡ exit))
+    × (wantedStatus o ≡ 1 → (wantedStatus q ≡ 1) × (wantedRow q before′ ≡ wantedRow o before))
+unfolding wantedStatus wantedRow
+stays {o = found t} {q} before before′ answers w =
+    (λ e. let (f, g) = w .stays-found refl in (ap wantedStatus f, ap (λ (k : WantedOutcome). wantedRow k before′) f, g), λ e. absurd (omega (arith, e)))
+stays {o = none t} {q} before before′ answers w =
+    (λ e. absurd (omega (arith, e)), λ e. let f = w .stays-none refl in (ap wantedStatus f, ap (λ (k : WantedOutcome). wantedRow k before′) f))
+stays {o = stopped t} {q} before before′ answers w = (λ e. absurd (omega (arith, e)), λ e. absurd (omega (arith, e)))
+stays {o = wanted.refusal number place} {q} before before′ answers w = absurd (answers number place refl)
+
+module _ (κs : Lfts 3) (a : ArgsD wanting.signature κs) (r : ResD wanting.signature κs)
+    (s : AtExit (endedOf 3 wanted-kinds.ps wanted-kinds.r) κs) (kept : wanted-contract.Post κs a r s) (κs′ : Lfts 3) (a′ : ArgsD wanting.signature κs′)
+    (r′ : ResD wanting.signature κs′) (s′ : AtExit (endedOf 3 wanted-kinds.ps wanted-kinds.r) κs′) (kept′ : wanted-contract.Post κs′ a′ r′ s′) where
+  -- On one file with the same wanted gap and rows of one place for each line: with the same tries, and found with the same starts
+  pub wanted-export-with-more-tries : a .0 .now ≡ a′ .0 .now → {n : Net} → readFile (a .0 .now) ≡ accepted n
+      → length (a .1 .0 .now) ≡ length (n .periods) → length (a .1 .0 .now) ≡ length (a′ .1 .0 .now) → a .1 .1 .0 ≡ a′ .1 .1 .0
+      → a .1 .1 .1 .0 ≤ a′ .1 .1 .1 .0
+      → (r ≡ 0 → (r′ ≡ 0) × (s′ .1 .1 .1 .1 .0 .now ≡ s .1 .1 .1 .1 .0 .now) × (s′ .1 .0 .now ≡ s .1 .0 .now))
+      × (r ≡ 1 → (r′ ≡ 1) × (s′ .1 .1 .1 .1 .0 .now ≡ s .1 .1 .1 .1 .0 .now))
+  wanted-export-with-more-tries file {n} reads fit rows gaps larger =
+      let other : Wants (a .0 .now) (a′ .1 .0 .now) (a .1 .1 .0) (a′ .1 .1 .1 .0) (due κs′ a′ r′ s′ kept′) (s′ .1 .0 .now)
+      = rw (file, gaps) (wants κs′ a′ r′ s′ kept′) in
+      rw (kept .0, kept .1 .0, kept′ .0, kept′ .1 .0)
+      (stays (a .1 .1 .1 .1 .0 .now) (a′ .1 .1 .1 .1 .0 .now)
+      (λ number place e. fit-answers (a .1 .0 .now) reads fit (demand-1 (wants κs a r s kept) .no-other-is-refused number place e))
+      (with-more-tries (wants κs a r s kept) other reads rows larger))

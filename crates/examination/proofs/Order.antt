@@ -102,3 +102,4 @@ pub use Rattle.search.proofs.WantedGap.{wanted-beside-search}
 pub use Rattle.examination.proofs.ExportWanted.{wanted-export-beside-search}
 -- Found and none are the same under every larger budget
 pub use Rattle.search.proofs.WantedGap.{wanted-with-more-tries}
+pub use Rattle.examination.proofs.ExportWanted.{wanted-export-with-more-tries}

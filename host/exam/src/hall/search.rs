@@ -1,8 +1,9 @@
 //! Searches that may take long, for the best timetable and for one with a wanted gap.
 //!
 //! What their stages rest on is a theorem of each: `finished-with-more-tries` of
-//! `crates/search/proofs/Demands.antt` and `wanted-with-more-tries` of `WantedGap.antt`
-//! there. An answer that no budget cut short is that of every larger one.
+//! `crates/search/proofs/Demands.antt` and `wanted-export-with-more-tries` of
+//! `crates/examination/proofs/ExportWanted.antt`. An answer that no budget cut short is
+//! that of every larger one.
 
 use super::stages::{in_stages, Known, Manner};
 use crate::output::lines::{search_line, shown, stopped_line};

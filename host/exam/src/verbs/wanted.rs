@@ -5,7 +5,7 @@ use crate::hall::search::wanted;
 use crate::hall::stages::Manner;
 use crate::input::network::Network;
 use crate::line::operands::{check_gap, gap, networks};
-use crate::line::options::{budget, BUDGET, BYTES, PLAN, TYPED};
+use crate::line::options::{budget, BUDGET, BYTES, PLAN, QUIET, TYPED};
 use crate::line::table::{Request, Sheets, Verb};
 use crate::output::fault::refused;
 use crate::output::lines::{stopped_line, timetable_line};
@@ -19,7 +19,7 @@ pub const VERB: Verb = Verb {
     networks: 1,
     number: Some(check_gap),
     sheets: Sheets::Exactly(0),
-    options: &[&PLAN, &TYPED, &BYTES, &BUDGET],
+    options: &[&PLAN, &TYPED, &BYTES, &BUDGET, &QUIET],
     summary: "a timetable with at least this gap, or none",
     about: "\
 Seeks a timetable whose least gap is GAP minutes or more, 0 to 65535, and prints
@@ -31,7 +31,7 @@ Where no timetable of whole minutes has such a gap:
 Where the budget was used up before that was known:
   stopped tries 4
 Standard error then says which budget always suffices. What it says while a long
-search runs, and at Ctrl-C, 'exam best --help' tells.
+search runs, at Ctrl-C and with --quiet, 'exam best --help' tells.
 ",
     run,
 };
@@ -40,7 +40,7 @@ fn run(request: &Request) -> Result<Status, Trouble> {
     let [network] = networks(request)?;
     let manner = Manner {
         budget: budget(request),
-        quiet: false,
+        quiet: request.has(&QUIET),
         doing: "searching".to_string(),
     };
     match wanted(network.bytes(), gap(request), manner) {

@@ -142,7 +142,11 @@ fn no_sign_of_life_where_none_is_wanted() {
     let folder = Folder::new();
     let network = long_network(&folder);
     let sheet = folder.file("a.sheet", "0 ".repeat(16));
-    for words in [&["best", &network][..], &["mark", &network, &sheet]] {
+    for words in [
+        &["best", &network][..],
+        &["wanted", &network, "2"],
+        &["mark", &network, &sheet],
+    ] {
         let running = Running::new(&[words, &["--budget=max", "--quiet"]].concat());
         std::thread::sleep(Duration::from_millis(1_500));
         assert_eq!(running.stopped(), "");

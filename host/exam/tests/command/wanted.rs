@@ -22,6 +22,7 @@ fn found() {
     exam(&["wanted", NET, "2"]).printed(line, 0);
     exam(&["wanted", HEX, "2", "--budget", "5"]).printed(line, 0);
     exam(&["wanted", "--budget=max", HEX, "2"]).printed(line, 0);
+    exam(&["wanted", "--budget=max", HEX, "2", "--quiet"]).printed(line, 0);
     exam(&["wanted", HEX, "--budget", "5", "--", "2"]).printed(line, 0);
     exam(&["wanted", HEX, "1"]).printed("gap 1 sum 1 tries 2 starts 0 0\n", 0);
     // The first that has it, and not the best, which has a sum of 11.
