@@ -25,8 +25,15 @@ fn long_network(folder: &Folder) -> String {
 struct Running(Child);
 
 impl Running {
+    /// Starts `exam` so that Ctrl-C reaches it, also where the tests themselves are a
+    /// shell's job in the background, which is deaf to it.
     fn new(words: &[&str]) -> Running {
-        Running(command(words).spawn().expect("exam starts"))
+        let exam = command(&[]).get_program().to_os_string();
+        let mut heeding = Command::new("env");
+        heeding.arg("--default-signal=INT").arg(exam).args(words);
+        heeding.stdin(Stdio::null());
+        heeding.stdout(Stdio::piped()).stderr(Stdio::piped());
+        Running(heeding.spawn().expect("exam starts"))
     }
 
     /// The next line on standard error, for which nobody waits longer than some
