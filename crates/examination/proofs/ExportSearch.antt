@@ -2,7 +2,7 @@
 -- search and a mark mean by their return value and numbers. Each theorem holds of every call that has returned, where it keeps the contract in
 -- src/exports.rt, which every call does. Assumes nothing.
 use Prim.Native.Nat.{ℕ, _<_, _≤_}
-use mathlib.Core.Path.{_≡_, refl, ap, _∙_}
+use mathlib.Core.Path.{_≡_, refl, sym, ap, _∙_}
 use mathlib.Core.Bool.{true, false}
 use mathlib.Core.List.{List}
 use mathlib.Core.Logic.{_⊎_, inl, inr}
@@ -20,7 +20,7 @@ use Rattle.network.specs.Rating.{IsRating}
 use Rattle.network.proofs.Laws.Lists.{zero-ne-one}
 use Rattle.search.specs.Search.{SearchOutcome, finished, stopped, stoppedWithNone, searchOutcome}
 use Rattle.search.specs.Search as search
-use Rattle.search.proofs.Demands.{Searches, demandedBound, Demand3, WalkedStarts, Answers, demand-1, demand-3, answers}
+use Rattle.search.proofs.Demands.{Searches, demandedBound, Demand3, WalkedStarts, Answers, demand-1, demand-3, answers, answered-alike, left-alike}
 use Rattle.examination.specs.Bytes.{starts, byBytes, BytesUnfit}
 use Rattle.examination.specs.Exports.{TellsRefusal, searchStatus, searchRow, oneIf, markStatus, markRow}
 use Rattle.examination.specs.Sheets.{MarkOutcome, decided, undecided, markOutcome}
@@ -157,6 +157,47 @@ module _ (κs : Lfts 3) (a : ArgsD searching.signature κs) (r : ResD searching.
       rw (kept .0, kept .1 .0)
       (hall-search fit (searchOutcome (readFile (a .0 .now)) (length (a .1 .0 .now)) (a .1 .1 .0)) (a .1 .1 .1 .0 .now)
       (λ number place e. fit-answers (a .1 .0 .now) reads fit (demand-1 searches .no-other-is-refused number place e)) (demand-3 searches reads) (answers searches reads))
+
+-- ---- A finished search has the same answer, tries and starts under every larger budget
+
+finished-of-status : (o : SearchOutcome) → ((number place : ℕ) → o ≡ search.refusal number place → ⊥) → searchStatus o ≡ 0
+    → (least : ℕ) × (sum : ℕ) × (tries : ℕ) × (o ≡ finished least sum tries)
+unfolding searchStatus
+finished-of-status (finished l u t) answers e = (l, u, t, refl)
+finished-of-status (stopped l u t) answers e = absurd (omega (arith, e))
+finished-of-status (stoppedWithNone t) answers e = absurd (omega (arith, e))
+finished-of-status (search.refusal number place) answers e = absurd (answers number place refl)
+
+search-told : {o : SearchOutcome} {least sum tries : ℕ} (before : List ℕ) → o ≡ finished least sum tries
+    → (searchStatus o ≡ 0) × (searchRow o before ≡ searchRow (finished least sum tries) before)
+unfolding searchStatus
+search-told before e = (ap searchStatus e, ap (λ (k : SearchOutcome). searchRow k before) e)
+
+finished-row : (least sum tries : ℕ) (before before′ : List ℕ) → searchRow (finished least sum tries) before ≡ searchRow (finished least sum tries) before′
+unfolding searchRow
+finished-row least sum tries before before′ = refl
+
+module _ (κs : Lfts 3) (a : ArgsD searching.signature κs) (r : ResD searching.signature κs)
+    (s : AtExit (endedOf 3 search-kinds.ps search-kinds.r) κs) (kept : search-contract.Post κs a r s) (κs′ : Lfts 3) (a′ : ArgsD searching.signature κs′)
+    (r′ : ResD searching.signature κs′) (s′ : AtExit (endedOf 3 search-kinds.ps search-kinds.r) κs′) (kept′ : search-contract.Post κs′ a′ r′ s′) where
+  -- On one file with rows of one place for each line
+  pub search-export-with-more-tries : a .0 .now ≡ a′ .0 .now → {n : Net} → readFile (a .0 .now) ≡ accepted n
+      → length (a .1 .0 .now) ≡ length (n .periods) → length (a .1 .0 .now) ≡ length (a′ .1 .0 .now) → a .1 .1 .0 ≤ a′ .1 .1 .0 → r ≡ 0
+      → (r′ ≡ 0) × (s′ .1 .1 .1 .0 .now ≡ s .1 .1 .1 .0 .now) × (s′ .1 .0 .now ≡ s .1 .0 .now)
+  search-export-with-more-tries file {n} reads fit rows larger ends =
+      let call = searches κs a r s kept in
+      let other : Searches (a .0 .now) (a′ .1 .0 .now) (a′ .1 .1 .0) (searchOutcome (readFile (a′ .0 .now)) (length (a′ .1 .0 .now)) (a′ .1 .1 .0)) (s′ .1 .0 .now)
+      = rw file (searches κs′ a′ r′ s′ kept′) in
+      let (l, u, t, is) = finished-of-status (searchOutcome (readFile (a .0 .now)) (length (a .1 .0 .now)) (a .1 .1 .0))
+      (λ number place e. fit-answers (a .1 .0 .now) reads fit (demand-1 call .no-other-is-refused number place e)) (sym (kept .0) ∙ ends) in
+      let alike = answered-alike call other reads rows larger is in (
+        kept′ .0 ∙ search-told (a′ .1 .1 .1 .0 .now) alike .0,
+        kept′ .1 .0
+            ∙ search-told (a′ .1 .1 .1 .0 .now) alike .1
+            ∙ finished-row l u t (a′ .1 .1 .1 .0 .now) (a .1 .1 .1 .0 .now)
+            ∙ sym (kept .1 .0 ∙ search-told (a .1 .1 .1 .0 .now) is .1),
+        left-alike call other reads rows larger is,
+      )
 
 -- ---- Mark, on a sheet's bytes
 

@@ -2,6 +2,7 @@
 -- Each theorem holds of every call that has returned, where it keeps the contract in src/exports.rt, which every call does. Assumes nothing.
 use Prim.Native.Nat.{ℕ, _<_, _≤_}
 use mathlib.Core.Path.{_≡_, refl, sym, ap, _∙_}
+use mathlib.Core.Bool.{true}
 use mathlib.Core.List.{List}
 use mathlib.Core.Logic.{_⊎_, inl, inr}
 use native.Mathlib.Omega.{arith}
@@ -11,15 +12,18 @@ use contract.Lifetimes.{Lfts}
 use denote.Triple.Clauses.{AtExit}
 use lib.IntN.{ℤ}
 use lib.ListN.{length, getD}
-use Rattle.network.specs.Network.{Net, maxPeriod}
+use Rattle.network.specs.Lists.{pick}
+use Rattle.network.specs.Network.{Net, isServed, maxPeriod}
 use Rattle.network.specs.Reading.{accepted, readFile}
 use Rattle.network.specs.Refusals.{Refuses, Unfit, Demand1}
 use Rattle.network.specs.Rating.{IsRating}
 use Rattle.network.proofs.Laws.Lists.{zero-ne-one}
-use Rattle.search.specs.Wanted.{WantedOutcome, found, none, stopped, wantedOutcome}
+use Rattle.search.specs.Caps.{cap}
+use Rattle.search.specs.Search.{walked}
+use Rattle.search.specs.Wanted.{WantedOutcome, found, none, stopped, atLeast, reachedOf, wantedOutcome}
 use Rattle.search.specs.Wanted as wanted
 use Rattle.search.proofs.Demands.{demandedBound, WalkedStarts}
-use Rattle.search.proofs.WantedGap.{Wants, WantedGap, WithMoreTries, demand-1, wanted-gap, with-more-tries}
+use Rattle.search.proofs.WantedGap.{Wants, WantedGap, WithMoreTries, demand-1, walks-to, wanted-gap, reaches-above, with-more-tries}
 use Rattle.examination.specs.Exports.{TellsRefusal, wantedStatus, wantedRow}
 use Rattle.examination.proofs.Codes.{export-demand-1, wanted-status-tells, wanted-status-code}
 use Rattle.examination.proofs.ExportDemands.{own-ground-range}
@@ -43,7 +47,8 @@ pub record HallWanted (n : Net) (row : List ℤ) (gap budget returned : ℕ) (an
   pub returns : (returned ≡ 0) ⊎ ((returned ≡ 1) ⊎ (returned ≡ 2))
   -- found: the row has one start for each line, as the walk tries them, and their rating's least gap is at least the wanted one
   pub found-reaches : returned ≡ 0 → WalkedStarts n exit × ((least : ℕ) × (sum : ℕ) × IsRating n exit least sum × (gap ≤ least))
-  -- none: no whole-number starts reach it
+  -- none: no whole-number starts, each of which have a rating, reach it
+  pub choice-has-a-rating : (starts : List ℤ) → length starts ≡ length (n .periods) → (least : ℕ) × (sum : ℕ) × IsRating n starts least sum
   pub none-reaches : returned ≡ 1 → (starts : List ℤ) → length starts ≡ length (n .periods) → {least sum : ℕ} → IsRating n starts least sum → least < gap
   -- none and stopped leave the row
   pub others-leave : (returned ≡ 1) ⊎ (returned ≡ 2) → exit ≡ row
@@ -51,11 +56,14 @@ pub record HallWanted (n : Net) (row : List ℤ) (gap budget returned : ℕ) (an
   pub tries-at-most : (getD answer 0 0 ≤ demandedBound n) × (getD answer 0 0 ≤ budget)
   pub stopped-at-budget : returned ≡ 2 → getD answer 0 0 ≡ budget
   pub decides : demandedBound n ≤ budget → returned ≡ 2 → ⊥
+  -- .. and a further try was due, which is made under every larger budget
+  pub stopped-was-due : returned ≡ 2 → (more : ℕ) → budget < more → budget < walked n (atLeast gap) more .tries
   -- nothing may be tried: stopped, whatever is wanted
   pub no-budget : budget ≡ 0 → returned ≡ 2
   -- 0 is wanted: found, with a try for each line, where the budget has as many
   pub zero-is-found : gap ≡ 0 → length (n .periods) ≤ budget → (returned ≡ 0) × (getD answer 0 0 ≡ length (n .periods))
-  -- more is wanted than any period: none after one try, where there may be one
+  -- more is wanted than the cap of some served stop, or than any period: none after one try, where there may be one
+  pub above-a-cap : (stop : ℕ) → isServed stop (n .calls) ≡ true → cap n stop < gap → 0 < budget → (returned ≡ 1) × (getD answer 0 0 ≡ 1)
   pub above-every-period : maxPeriod < gap → 0 < budget → (returned ≡ 1) × (getD answer 0 0 ≡ 1)
 
 neither-of : (_≡_ {A = ℕ} 0 1) ⊎ (_≡_ {A = ℕ} 0 2) → ⊥
@@ -76,39 +84,48 @@ module _ {n : Net} {row : List ℤ} {gap budget : ℕ} {exit : List ℤ} (fit : 
       record {
         returns = inl refl;
         found-reaches = λ e. (w .found-starts refl, w .found-reaches refl .1);
+        choice-has-a-rating = w .choice-has-a-rating;
         none-reaches = λ e. absurd (omega (arith, e));
         others-leave = λ e. absurd (neither-of e);
         tries-at-most = (w .tries-at-most, w .tries-within);
         stopped-at-budget = λ e. absurd (omega (arith, e));
         decides = λ h e. omega (arith, e);
+        stopped-was-due = λ e. absurd (omega (arith, e));
         no-budget = λ z. absurd (zero-ne-one (cc (w .no-budget fit z)));
         zero-is-found = λ z h. (refl, tries-of-found (w .zero-is-found fit z h));
+        above-a-cap = λ stop served h b. absurd (zero-ne-one (cc (w .above-a-cap fit b stop served h)));
         above-every-period = λ h b. absurd (zero-ne-one (cc (w .above-every-period fit b h)));
       }
   hall-wanted (none t) before answers w =
       record {
         returns = inr (inl refl);
         found-reaches = λ e. absurd (omega (arith, e));
+        choice-has-a-rating = w .choice-has-a-rating;
         none-reaches = λ e. w .none-reaches refl;
         others-leave = λ e. w .none-leaves refl;
         tries-at-most = (w .tries-at-most, w .tries-within);
         stopped-at-budget = λ e. absurd (omega (arith, e));
         decides = λ h e. omega (arith, e);
+        stopped-was-due = λ e. absurd (omega (arith, e));
         no-budget = λ z. absurd (zero-ne-one (cc (w .no-budget fit z)));
         zero-is-found = λ z h. absurd (zero-ne-one (cc (w .zero-is-found fit z h)));
+        above-a-cap = λ stop served h b. (refl, tries-of-none (w .above-a-cap fit b stop served h));
         above-every-period = λ h b. (refl, tries-of-none (w .above-every-period fit b h));
       }
   hall-wanted (stopped t) before answers w =
       record {
         returns = inr (inr refl);
         found-reaches = λ e. absurd (omega (arith, e));
+        choice-has-a-rating = w .choice-has-a-rating;
         none-reaches = λ e. absurd (omega (arith, e));
         others-leave = λ e. w .stopped-leaves refl;
         tries-at-most = (w .tries-at-most, w .tries-within);
         stopped-at-budget = λ e. w .stopped-at-budget refl;
         decides = λ h e. w .decides h refl;
+        stopped-was-due = λ e. w .stopped-was-due refl;
         no-budget = λ z. refl;
         zero-is-found = λ z h. absurd (zero-ne-one (cc (w .zero-is-found fit z h)));
+        above-a-cap = λ stop served h b. absurd (zero-ne-one (cc (w .above-a-cap fit b stop served h)));
         above-every-period = λ h b. absurd (zero-ne-one (cc (w .above-every-period fit b h)));
       }
   hall-wanted (wanted.refusal number place) before answers w = absurd (answers number place refl)
@@ -145,6 +162,18 @@ module _ (κs : Lfts 3) (a : ArgsD wanting.signature κs) (r : ResD wanting.sign
       (hall-wanted fit due (a .1 .1 .1 .1 .0 .now)
       (λ number place e. fit-answers (a .1 .0 .now) reads fit (demand-1 wants .no-other-is-refused number place e)) (wanted-gap wants reads))
 
+  -- Return value, tries and row are those of the walk: the row has its first full timetable
+  pub wanted-export-walks : {n : Net} → readFile (a .0 .now) ≡ accepted n → length (a .1 .0 .now) ≡ length (n .periods)
+      → (r ≡ wantedStatus (reachedOf (walked n (atLeast (a .1 .1 .0)) (a .1 .1 .1 .0))))
+      × (s .1 .1 .1 .1 .0 .now ≡ wantedRow (reachedOf (walked n (atLeast (a .1 .1 .0)) (a .1 .1 .1 .0))) (a .1 .1 .1 .1 .0 .now))
+      × (s .1 .0 .now ≡ pick (walked n (atLeast (a .1 .1 .0)) (a .1 .1 .1 .0) .best .some) (walked n (atLeast (a .1 .1 .0)) (a .1 .1 .1 .0) .starts) (a .1 .0 .now))
+  wanted-export-walks reads fit =
+      let w = walks-to wants reads fit in (
+        kept .0 ∙ ap wantedStatus (w .answers-the-walk),
+        kept .1 .0 ∙ ap (λ (o : WantedOutcome). wantedRow o (a .1 .1 .1 .1 .0 .now)) (w .answers-the-walk),
+        w .writes-the-first,
+      )
+
 -- ---- Beside a finished search of the same file, whatever either budget
 
 module _ (κs : Lfts 3) (a : ArgsD wanting.signature κs) (r : ResD wanting.signature κs)
@@ -162,12 +191,8 @@ module _ (κs : Lfts 3) (a : ArgsD wanting.signature κs) (r : ResD wanting.sign
         λ low is. let (fits, rated) = best .finished-has-its-rating ends in omega (arith, low, asked .none-reaches is (s′ .1 .0 .now) fits rated),
         λ high is.
             let (starts, (l, u, rated, reach)) = asked .found-reaches is in
-            not-better high reach (best .finished-is-best ends (s .1 .0 .now) (starts .one-for-each-line) rated),
+            reaches-above high reach (best .finished-is-best ends (s .1 .0 .now) (starts .one-for-each-line) rated),
       )
-    where
-      not-better : {best l u sum gap : ℕ} → best < gap → gap ≤ l → (l < best) ⊎ ((l ≡ best) × (u ≤ sum)) → ⊥
-      not-better high reach (inl h) = omega arith
-      not-better high reach (inr (e, h)) = omega (arith, e)
 
 -- ---- Found and none stay so under every larger budget
 

@@ -50,6 +50,7 @@ pub use Rattle.search.proofs.Cases.{P1-to-P9}
 pub use Rattle.search.proofs.Demands.{search-demand-3}
 -- "with whichever budget": a finished search has the same answer, tries and starts under every larger one
 pub use Rattle.search.proofs.Demands.{finished-with-more-tries}
+pub use Rattle.examination.proofs.ExportSearch.{search-export-with-more-tries}
 pub use Rattle.examination.proofs.ExportSearch.{search-export-demand-3}
 -- "Every choice of whole-number starts rates the same over the lowest stops alone, with their weights, as over all stops, lowest stops and weights
 -- being those in the rows that the class call fills by document 01"
@@ -91,12 +92,13 @@ pub use Rattle.search.proofs.Demands.{caps-bound}
 
 -- "Given a wanted gap (16 bits) and a budget, return a timetable with at least that gap, or none, or stopped, each with the tries. .. None is
 -- answered only if no whole-number starts reach the gap. A wanted gap of 0 yields a timetable whenever the budget is at least the number of lines.
--- None and stopped leave the row untouched; its length is tested as in the search"
+-- None and stopped leave the row untouched"; that "its length is tested as in the search" is under demand 1
 pub use Rattle.search.proofs.WantedGap.{wanted-means}
 pub use Rattle.examination.proofs.ExportWanted.{wanted-export-means}
 -- "The walk is the usual one with another cut: a try is dropped if its upper least gap is below the wanted one, and the first full timetable ends it"
 pub use Rattle.search.proofs.WantedGap.{wanted-walks}
-pub use Rattle.search.proofs.Cases.{wanted-on-P1-to-P9}
+pub use Rattle.examination.proofs.ExportWanted.{wanted-export-walks}
+pub use Rattle.search.proofs.Cases.{wanted-cases-hold}
 -- Beside a finished search: a wanted gap up to the best least gap is never answered none, a larger one never found
 pub use Rattle.search.proofs.WantedGap.{wanted-beside-search}
 pub use Rattle.examination.proofs.ExportWanted.{wanted-export-beside-search}

@@ -109,7 +109,7 @@ wantedCases =
     wants p1 2 1000000 (wanted.refusal 16 0) (pos 77 ∷ []) ∷
     []
 
-pub wanted-on-P1-to-P9 : Every wantedCases
+pub wanted-cases-hold : Every wantedCases
 unfolding opened p1 p8 p9 twoStops rowsOf Holds Every wantedCases
-wanted-on-P1-to-P9 =
+wanted-cases-hold =
     ((refl, refl), ((refl, refl), ((refl, refl), ((refl, refl), ((refl, refl), ((refl, refl), ((refl, refl), ((refl, refl), ((refl, refl), ((refl, refl), ((refl, refl), ((refl, refl), ((refl, refl), ((refl, refl), ((refl, refl), ((refl, refl), tt))))))))))))))))

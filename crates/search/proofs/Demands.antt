@@ -263,7 +263,7 @@ module _ {file : List ℕ} {row row′ : List ℤ} {budget more : ℕ} {answer a
   some-best : searched n budget .best .some ≡ true
   some-best = searched-some (accepted-valid file n (call .bytes) reads) budget (told .stops)
 
-  answered-alike : answer′ ≡ finished least sum tries
+  pub answered-alike : answer′ ≡ finished least sum tries
   answered-alike =
       other .answered
       ∙ ap (λ (k : Reading). searchOutcome k (length row′) more) reads
@@ -272,7 +272,7 @@ module _ {file : List ℕ} {row row′ : List ℤ} {budget more : ℕ} {answer a
       ∙ sym (fit-outcome n row budget (told .fits))
       ∙ answer-is call reads ends
 
-  left-alike : exit′ ≡ exit
+  pub left-alike : exit′ ≡ exit
   left-alike =
       other .left
       ∙ ap (λ (k : Reading). startRowAfter k more row′) reads

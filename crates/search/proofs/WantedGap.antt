@@ -204,6 +204,11 @@ module _ (κs : Lfts 2) (a : ArgsD wanting.signature κs) (r : ResD wanting.sign
 
 -- ---- Beside a finished search of the same file, whatever either budget
 
+-- A least gap that reaches what is above the best isn't the best's nor below it
+pub reaches-above : {best least sum largest wanted : ℕ} → best < wanted → wanted ≤ least → (least < best) ⊎ ((least ≡ best) × (sum ≤ largest)) → ⊥
+reaches-above high reach (inl h) = omega arith
+reaches-above high reach (inr (e, h)) = omega (arith, e)
+
 -- A wanted gap up to the best least gap is never answered none, a larger one never found
 pub record BesideSearch (wanted least : ℕ) (answer : WantedOutcome) : Type 0 where
   pub up-to-the-best : wanted ≤ least → {tries : ℕ} → answer ≡ none tries → ⊥
@@ -223,12 +228,8 @@ module _ (κs : Lfts 2) (a : ArgsD wanting.signature κs) (r : ResD wanting.sign
             omega (arith, low, asked .none-reaches is (s′ .1 .0 .now) fits rated);
         above-the-best = λ high is.
             let (fits, (l, u, rated, reach)) = asked .found-reaches is in
-            not-better high reach (best .finished-is-best ends (s .1 .0 .now) fits rated);
+            reaches-above high reach (best .finished-is-best ends (s .1 .0 .now) fits rated);
       }
-    where
-      not-better : {best l u sum wanted : ℕ} → best < wanted → wanted ≤ l → (l < best) ⊎ ((l ≡ best) × (u ≤ sum)) → ⊥
-      not-better high reach (inl h) = omega arith
-      not-better high reach (inr (e, h)) = omega (arith, e)
 
 -- ---- Two calls with the same wanted gap
 

@@ -42,7 +42,7 @@ wantedAnswer (answer.Refused number place) = refusal number place
 
 -- What a walk by this rule gives at its end, by whether it has a timetable and whether it stopped
 unfoldable pub reachedBy : Bool → Bool → State → WantedOutcome
-reachedBy true ends s = found (s .tries)
+reachedBy true stops s = found (s .tries)
 reachedBy false false s = none (s .tries)
 reachedBy false true s = stopped (s .tries)
 

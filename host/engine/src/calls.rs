@@ -216,8 +216,8 @@ pub fn search_into(
 /// Seeks a timetable with at least the wanted gap, with so many tries at most: the
 /// first on the search's way, or the answer that there is none.
 ///
-/// Every gap may be wanted. 0 is had by the first timetable, and what is more than
-/// some stop can have is known to be out of reach after one try.
+/// Every gap may be wanted. 0 is had by the first timetable, and what is above the
+/// cap of some stop is known to be out of reach after one try.
 ///
 /// ```
 /// use engine::{typed, Wanted};

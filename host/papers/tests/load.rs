@@ -1,8 +1,7 @@
-//! A hall's day: 200,000 calls each of rate and mark in one process, and as many of
-//! wanted, which makes the papers. Memory stays flat, each answer is the papers' own, and the calls per second are
-//! printed (`cargo test --release --offline --test load -- --show-output`). No
-//! other test may stand in this file: it would run beside this one and add to the
-//! memory.
+//! A hall's day: 200,000 calls each of rate, mark and wanted in one process. Memory
+//! stays flat, each answer is the papers' own, and the calls per second are printed
+//! (`cargo test --release --offline --test load -- --show-output`). No other test may
+//! stand in this file: it would run beside this one and add to the memory.
 
 use engine::{Mark, Rating, Refusal, Sheet};
 use papers::answers::{marked, rating_or_refusal, refusal, sought};

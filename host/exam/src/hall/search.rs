@@ -1,9 +1,8 @@
 //! Searches that may take long, for the best timetable and for one with a wanted gap.
 //!
-//! What their stages rest on is a theorem of each: `finished-with-more-tries` of
-//! `crates/search/proofs/Demands.antt` and `wanted-export-with-more-tries` of
-//! `crates/examination/proofs/ExportWanted.antt`. An answer that no budget cut short is
-//! that of every larger one.
+//! What their stages rest on is a theorem of each: `search-export-with-more-tries` and
+//! `wanted-export-with-more-tries` of `crates/examination/proofs`, `ExportSearch.antt` and
+//! `ExportWanted.antt`. An answer that no budget cut short is that of every larger one.
 
 use super::stages::{in_stages, Known, Manner};
 use crate::output::lines::{search_line, shown, stopped_line};

@@ -1,5 +1,5 @@
-//! What the shells are told, so that they complete verbs and options. Operands
-//! are names of files, which they complete by themselves.
+//! What the shells are told, so that they complete verbs and options. Names of
+//! files they complete by themselves.
 
 use super::table::{all_options, Verb};
 use std::collections::BTreeSet;
@@ -32,7 +32,7 @@ _exam() {{
     case ${{COMP_WORDS[1]}} in
         help) options='{names}' ;;
 {cases}    esac
-    # Another word than an option is a file's name, which bash completes itself.
+    # Another word than an option may be a file's name, which bash completes itself.
     if [ \"${{COMP_WORDS[1]}}\" = help ] || [ \"${{word:0:1}}\" = - ]; then
         COMPREPLY=($(compgen -W \"$options\" -- \"$word\"))
     fi

@@ -7,6 +7,7 @@ use crate::input::sheet;
 use crate::status::Trouble;
 use engine::text::shown;
 use engine::Sheet;
+use std::ffi::OsStr;
 
 /// The networks, as many as the verb's row of the table says.
 pub fn networks<const COUNT: usize>(request: &Request) -> Result<[Network; COUNT], Trouble> {
@@ -32,15 +33,15 @@ pub fn gap(request: &Request) -> u16 {
     }
 }
 
-pub fn check_gap(text: &str) -> Result<(), String> {
-    gap_of(text).map(|_| ())
+pub fn check_gap(word: &OsStr) -> Result<(), String> {
+    gap_of(word).map(|_| ())
 }
 
-fn gap_of(text: &str) -> Result<u16, String> {
-    in_digits(text).ok_or_else(|| {
+fn gap_of(word: &OsStr) -> Result<u16, String> {
+    in_digits(word).ok_or_else(|| {
         format!(
             "the gap '{}' isn't a whole number of 0 to {}",
-            shown(text.as_bytes()),
+            shown(word.as_encoded_bytes()),
             u16::MAX
         )
     })

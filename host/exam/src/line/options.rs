@@ -4,6 +4,7 @@ use super::table::{CommandOption, Request, Value};
 use crate::input::form::Form;
 use crate::input::network;
 use engine::text::shown;
+use std::ffi::OsStr;
 use std::str::FromStr;
 
 /// What `best` of document 01 has.
@@ -36,7 +37,7 @@ pub const BUDGET: CommandOption = CommandOption {
     value: Some(Value {
         placeholder: "N",
         words: "a number or max",
-        check: |text| budget_of(text).map(|_| ()),
+        check: |word| budget_of(word).map(|_| ()),
     }),
     help: "stop after N tries, 0 to 4294967295 or max (otherwise 1000000)",
     excludes: &[],
@@ -100,21 +101,22 @@ pub fn budget(request: &Request) -> u32 {
 }
 
 /// `max` is the largest.
-fn budget_of(text: &str) -> Result<u32, String> {
-    if text == "max" {
+fn budget_of(word: &OsStr) -> Result<u32, String> {
+    if word == "max" {
         return Ok(u32::MAX);
     }
-    in_digits(text).ok_or_else(|| {
+    in_digits(word).ok_or_else(|| {
         format!(
             "the budget '{}' isn't a number of 0 to {}, or max",
-            shown(text.as_bytes()),
+            shown(word.as_encoded_bytes()),
             u32::MAX
         )
     })
 }
 
 /// Digits alone: a sign, which `parse` takes, isn't one.
-pub fn in_digits<Number: FromStr>(text: &str) -> Option<Number> {
+pub fn in_digits<Number: FromStr>(word: &OsStr) -> Option<Number> {
+    let text = word.to_str()?;
     let digits = text.bytes().all(|byte| byte.is_ascii_digit());
     text.parse().ok().filter(|_| digits)
 }

@@ -7,6 +7,7 @@ use crate::input::source::Source;
 use crate::status::Trouble;
 use engine::text::shown;
 use std::ffi::{OsStr, OsString};
+use std::os::unix::ffi::OsStrExt;
 
 /// The words that ask for help, for the version, and behind help for pages that
 /// are files elsewhere.
@@ -149,10 +150,11 @@ fn option(
     (verbs, verb): (&[&Verb], &Verb),
     word: &OsStr,
     words: &mut impl Iterator<Item = OsString>,
-) -> Result<(&'static CommandOption, Option<String>), Trouble> {
+) -> Result<(&'static CommandOption, Option<OsString>), Trouble> {
     let text = word.to_string_lossy();
     let (name, behind) = match text.split_once('=') {
-        Some((name, behind)) => (name, Some(behind)),
+        // A known name has as many bytes in the word itself, whatever the value is.
+        Some((name, _)) => (name, word.as_bytes().get(name.len() + 1..)),
         None => (text.as_ref(), None),
     };
     let known = all_options(verbs).find(|option| option.name == name);
@@ -162,9 +164,11 @@ fn option(
             let message = format!("{} takes no value", option.name);
             Err(usage(&message, Some(verb)))
         }
-        Some((option, Some(_), Some(value))) => Ok((option, Some(value.to_string()))),
+        Some((option, Some(_), Some(value))) => {
+            Ok((option, Some(OsStr::from_bytes(value).to_os_string())))
+        }
         Some((option, Some(wanted), None)) => match words.next() {
-            Some(value) => Ok((option, Some(value.to_string_lossy().into_owned()))),
+            Some(value) => Ok((option, Some(value))),
             None => {
                 let message = format!("{} wants {}", option.name, wanted.words);
                 Err(usage(&message, Some(verb)))
@@ -187,7 +191,7 @@ fn add(
     verb: &Verb,
     request: &mut Request,
     option: &'static CommandOption,
-    value: Option<String>,
+    value: Option<OsString>,
 ) -> Result<(), Trouble> {
     if !verb.has(option) {
         return Err(match option.missing {
@@ -219,7 +223,6 @@ fn request(verb: &Verb, told: Told) -> Result<Request, Trouble> {
     }
     if let Some(check) = verb.number {
         let number = operands.remove(verb.networks);
-        let number = number.to_string_lossy().into_owned();
         check(&number).map_err(|message| usage(&message, Some(verb)))?;
         request.number = Some(number);
     }

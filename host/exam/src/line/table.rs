@@ -3,6 +3,7 @@
 
 use crate::input::source::Source;
 use crate::status::{Status, Trouble};
+use std::ffi::{OsStr, OsString};
 
 /// A verb: a row of the table.
 pub struct Verb {
@@ -57,21 +58,21 @@ pub struct Value {
 }
 
 /// Says what is wrong with a value, which it shows by `engine::text::shown`.
-pub type Check = fn(&str) -> Result<(), String>;
+pub type Check = fn(&OsStr) -> Result<(), String>;
 
 /// What a verb is to do: its operands and options.
 #[derive(Default)]
 pub struct Request {
     pub networks: Vec<Source>,
     /// The number, checked, where the verb takes one.
-    pub number: Option<String>,
+    pub number: Option<OsString>,
     pub sheets: Vec<Source>,
     given: Vec<Given>,
 }
 
 struct Given {
     option: &'static str,
-    value: Option<String>,
+    value: Option<OsString>,
 }
 
 /// The options of all verbs; a shared one comes as often as it is shared.
@@ -123,7 +124,7 @@ impl CommandOption {
 
 impl Request {
     /// Adds an option that was given.
-    pub fn give(&mut self, option: &CommandOption, value: Option<String>) {
+    pub fn give(&mut self, option: &CommandOption, value: Option<OsString>) {
         let option = option.name;
         self.given.push(Given { option, value });
     }
@@ -137,7 +138,7 @@ impl Request {
     }
 
     /// The value of an option, which the parser takes once.
-    pub fn value(&self, option: &CommandOption) -> Option<&str> {
+    pub fn value(&self, option: &CommandOption) -> Option<&OsStr> {
         let mut given = self.given.iter();
         let given = given.find(|given| given.option == option.name)?;
         given.value.as_deref()

@@ -30,8 +30,8 @@ Where no timetable of whole minutes has such a gap:
   none tries 31
 Where the budget was used up before that was known:
   stopped tries 4
-Standard error then says which budget always suffices. What it says while a long
-search runs, at Ctrl-C and with --quiet, 'exam best --help' tells.
+Standard error then says which budget always suffices. While a long search runs,
+and at Ctrl-C, it says the tries made so far; --quiet is that of 'exam best'.
 ",
     run,
 };

@@ -136,6 +136,28 @@ fn names_that_are_no_text() {
             .expect("exam starts"),
     );
     ran.told("", 2, &["'no\\xFF.net' is one too many"]);
+    let cases: [(&[&str], &[u8], &str); 3] = [
+        (
+            &["wanted", NET],
+            b"\xFF",
+            "the gap '\\xFF' isn't a whole number",
+        ),
+        (
+            &["best", NET, "--budget"],
+            b"\xFF",
+            "the budget '\\xFF' isn't a number",
+        ),
+        (
+            &["best", NET],
+            b"--budget=5\xFF",
+            "the budget '5\\xFF' isn't a number",
+        ),
+    ];
+    for (words, last, message) in cases {
+        let mut command = command(words);
+        let ran = command.arg(OsStr::from_bytes(last)).spawn();
+        ended(ran.expect("exam starts")).told("", 2, &[message]);
+    }
 }
 
 /// What is typed, and what is in a file, never does anything to a terminal, and

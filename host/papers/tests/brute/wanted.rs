@@ -7,8 +7,8 @@ use papers::sections::rating::{rating_by_counting, whole};
 use papers::sections::wanted::{seek, Sought, Wanted};
 use papers::small::{every_timetable, small_file_for_gaps};
 
-/// For each least gap that a timetable with line 0 at 0 has and none before it
-/// had, or a larger one: the gap and the first such timetable, both ascending.
+/// Each timetable, line 0 at 0, whose least gap is above those of all before it, and
+/// that gap.
 fn first_reaches(net: &Network) -> Vec<(u32, Vec<i64>)> {
     let mut firsts: Vec<(u32, Vec<i64>)> = Vec::new();
     for starts in every_timetable(net).take_while(|starts| starts[0] == 0) {

@@ -46,7 +46,7 @@ fn the_optimum_beside_every_timetable() {
 /// answered none. With a try less than that took, it is stopped.
 #[test]
 fn wanted_gaps_beside_every_timetable() {
-    let mut dice = Dice::new(72);
+    let mut dice = Dice::new(76);
     let (mut later, mut walked) = (0, 0);
     for number in 0..600 {
         let (file, net) = small_file_for_gaps(&mut dice, 10_000);
