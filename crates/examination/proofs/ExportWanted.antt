@@ -47,7 +47,7 @@ pub record HallWanted (n : Net) (row : List ℤ) (gap budget returned : ℕ) (an
   pub returns : (returned ≡ 0) ⊎ ((returned ≡ 1) ⊎ (returned ≡ 2))
   -- found: the row has one start for each line, as the walk tries them, and their rating's least gap is at least the wanted one
   pub found-reaches : returned ≡ 0 → WalkedStarts n exit × ((least : ℕ) × (sum : ℕ) × IsRating n exit least sum × (gap ≤ least))
-  -- none: no whole-number starts, each of which have a rating, reach it
+  -- none: no whole-number starts reach it; every choice of them has a rating
   pub choice-has-a-rating : (starts : List ℤ) → length starts ≡ length (n .periods) → (least : ℕ) × (sum : ℕ) × IsRating n starts least sum
   pub none-reaches : returned ≡ 1 → (starts : List ℤ) → length starts ≡ length (n .periods) → {least sum : ℕ} → IsRating n starts least sum → least < gap
   -- none and stopped leave the row
