@@ -111,7 +111,7 @@ module _ (n : Net) (some-line : 0 < length (n .periods)) (rule : Rule) (budget :
 -- A best, whether the walk ended or stopped
 module _ {n : Net} (valid : Valid n) (rule : Rule) (budget : ℕ) (some : walked n rule budget .best .some ≡ true) where
   -- has starts beside it that the walk tries: one for each line, line 0's at 0, each below its line's period
-  pub walked-chosen : ChosenBelow (startCounts (n .periods)) (walked n rule budget .starts)
+  walked-chosen : ChosenBelow (startCounts (n .periods)) (walked n rule budget .starts)
   unfolding walked
   walked-chosen =
       best-is-chosen (upperRating n (cap n)) rule budget (upperRating-some n (cap n)) (startCounts (n .periods)) .chosen some
@@ -128,7 +128,7 @@ module _ {n : Net} (valid : Valid n) (rule : Rule) (budget : ℕ) (some : walked
       (x, e, omega (arith, l, startCounts-le (n .periods) (valid .period-pos) i h))
 
   -- is their rating
-  pub walked-rated : walked n rule budget .best ≡ rating n (walked n rule budget .starts)
+  walked-rated : walked n rule budget .best ≡ rating n (walked n rule budget .starts)
   unfolding walked
   walked-rated =
       best-is-chosen (upperRating n (cap n)) rule budget (upperRating-some n (cap n)) (startCounts (n .periods)) .rated some

@@ -16,7 +16,7 @@ use Rattle.network.specs.Refusals.{Refuses, by-file, after-file, Unfit}
 use Rattle.search.specs.Search.{onStartRow}
 
 module _ {A : Type 0} (call : Net → A) (refuses : ℕ → ℕ → A) where
-  pub onStartRow-refused : (number place row : ℕ) → onStartRow call refuses (refused number place) row ≡ refuses number place
+  onStartRow-refused : (number place row : ℕ) → onStartRow call refuses (refused number place) row ≡ refuses number place
   unfolding onStartRow
   onStartRow-refused number place row = refl
 
@@ -25,7 +25,7 @@ module _ {A : Type 0} (call : Net → A) (refuses : ℕ → ℕ → A) where
     unfolding onStartRow
     onStartRow-fit fits = ap (λ (b : Bool). pick b (call n) (refuses 16 0)) (eq-eqb _ _ fits)
 
-    pub onStartRow-unfit : (row ≡ length (n .periods) → ⊥) → onStartRow call refuses (accepted n) row ≡ refuses 16 0
+    onStartRow-unfit : (row ≡ length (n .periods) → ⊥) → onStartRow call refuses (accepted n) row ≡ refuses 16 0
     unfolding onStartRow
     onStartRow-unfit unfit = ap (λ (b : Bool). pick b (call n) (refuses 16 0)) (ne-eqb _ _ unfit)
 

@@ -1,7 +1,7 @@
 -- The walk over any parts, by whatever rule: how many tries it makes, when it stops, and what it keeps. Each is one induction over the lines,
 -- and over the starts of a line. Assumes nothing.
 use Prim.Native.Nat.{ℕ, zero, suc, _+_, _*_, _≤_, _<_}
-use mathlib.Core.Path.{_≡_, refl, ap, _∙_}
+use mathlib.Core.Path.{_≡_, refl, ap}
 use mathlib.Core.Bool.{Bool, true, false, _&&_, _||_}
 use mathlib.Core.List.{List, [], _∷_, _++_, append-nil, append-assoc}
 use mathlib.Core.Logic.{_⊎_, inl, inr}
@@ -139,19 +139,6 @@ module _ (rule : Rule) (budget : ℕ) where
   pub oneTry-over : (upper : Rating) (onward : State → State) (s : State) → isOver rule s ≡ true → oneTry rule budget upper onward s ≡ s
   unfolding oneTry
   oneTry-over upper onward s e = unless-cases (λ t. t ≡ s) (isOver rule s) _ s (λ f. refl) (λ f. absurd (zero-ne-one (cc)))
-
-  pub eachStart-over : (upper : ℕ → Rating) (onward : ℕ → State → State) (from count : ℕ) (s : State) → isOver rule s ≡ true
-      → eachStart (λ x t. oneTry rule budget (upper x) (onward x) t) from count s ≡ s
-  unfolding eachStart
-  eachStart-over upper onward from zero s e = refl
-  eachStart-over upper onward from (suc count) s e =
-      ap (oneTry rule budget _ _) (eachStart-over upper onward from count s e) ∙ oneTry-over _ _ s e
-
-  -- (Past the last line such a state would take on a best; but there the walk comes only by a try that was made)
-  pub walk-over : (upper : List ℤ → Rating) (count : ℕ) (rest : List ℕ) (placed : List ℤ) (s : State)
-      → isOver rule s ≡ true → walk upper rule budget (count ∷ rest) placed s ≡ s
-  unfolding walk
-  walk-over upper count rest placed s e = eachStart-over _ _ 0 count s e
 
 -- ---- the tries
 

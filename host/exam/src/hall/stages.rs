@@ -8,6 +8,8 @@
 //! engine is proved to answer alike then. Where the last one is, that is the call
 //! with the whole budget itself.
 
+use crate::line::options::{budget, QUIET};
+use crate::line::table::Request;
 use crate::output::watch::{Watch, Watched};
 use engine::Refusal;
 use std::sync::{Arc, Mutex, PoisonError};
@@ -24,6 +26,17 @@ pub struct Manner {
     pub quiet: bool,
     /// What is said to be done, before anything is known.
     pub doing: String,
+}
+
+impl Manner {
+    /// As a request wants it.
+    pub fn wanted_by(request: &Request, doing: String) -> Manner {
+        Manner {
+            budget: budget(request),
+            quiet: request.has(&QUIET),
+            doing,
+        }
+    }
 }
 
 /// What is known of a call that its budget cut short.

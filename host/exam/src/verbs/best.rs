@@ -5,7 +5,7 @@ use crate::hall::stages::Manner;
 use crate::hall::{bound, checksum};
 use crate::input::network::Network;
 use crate::line::operands::networks;
-use crate::line::options::{budget, BUDGET, BYTES, PLAN, QUIET, SHEET, TYPED};
+use crate::line::options::{BUDGET, BYTES, PLAN, QUIET, SHEET, TYPED};
 use crate::line::table::{Request, Sheets, Verb};
 use crate::output::fault::refused;
 use crate::output::lines::{joined, search_line, shown};
@@ -45,11 +45,7 @@ twice as quick: the engine is asked once, and not in stages to know more midway.
 
 fn run(request: &Request) -> Result<Status, Trouble> {
     let [network] = networks(request)?;
-    let manner = Manner {
-        budget: budget(request),
-        quiet: request.has(&QUIET),
-        doing: "searching".to_string(),
-    };
+    let manner = Manner::wanted_by(request, "searching".to_string());
     match search(network.bytes(), manner) {
         Ok(searched) => print(&searched, &network, request.has(&SHEET)),
         Err(refusal) => refused(refusal, &network),

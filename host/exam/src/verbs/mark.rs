@@ -63,16 +63,12 @@ fn run(request: &Request) -> Result<Status, Trouble> {
 /// nothing is searched for.
 fn marked(request: &Request, file: &[u8], rows: Vec<Row>) -> Vec<Row> {
     let rated = |row: &&Row| matches!(row.outcome, Outcome::Rated(_));
-    let manner = Manner {
-        budget: budget(request),
-        quiet: request.has(&QUIET),
-        doing: match rows.iter().filter(rated).count() {
-            0 => return rows,
-            1 => "marking".to_string(),
-            count => format!("marking {count} sheets"),
-        },
+    let doing = match rows.iter().filter(rated).count() {
+        0 => return rows,
+        1 => "marking".to_string(),
+        count => format!("marking {count} sheets"),
     };
-    let searched = search(file, manner);
+    let searched = search(file, Manner::wanted_by(request, doing));
     let marked = |row: Row| row.marked(file, &searched);
     rows.into_iter().map(marked).collect()
 }

@@ -5,7 +5,7 @@ use crate::hall::search::wanted;
 use crate::hall::stages::Manner;
 use crate::input::network::Network;
 use crate::line::operands::{check_gap, gap, networks};
-use crate::line::options::{budget, BUDGET, BYTES, PLAN, QUIET, TYPED};
+use crate::line::options::{BUDGET, BYTES, PLAN, QUIET, TYPED};
 use crate::line::table::{Request, Sheets, Verb};
 use crate::output::fault::refused;
 use crate::output::lines::{stopped_line, timetable_line};
@@ -38,11 +38,7 @@ and at Ctrl-C, it says the tries made so far; --quiet is that of 'exam best'.
 
 fn run(request: &Request) -> Result<Status, Trouble> {
     let [network] = networks(request)?;
-    let manner = Manner {
-        budget: budget(request),
-        quiet: request.has(&QUIET),
-        doing: "searching".to_string(),
-    };
+    let manner = Manner::wanted_by(request, "searching".to_string());
     match wanted(network.bytes(), gap(request), manner) {
         Ok(wanted) => print(&wanted, &network),
         Err(refusal) => refused(refusal, &network),
