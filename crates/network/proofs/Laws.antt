@@ -11,6 +11,7 @@ pub mod Integers
 pub mod Network
 pub mod Grounds
 pub mod Reading
+pub mod RunningCycle
 pub mod Refusals
 pub mod Often
 pub mod Valid

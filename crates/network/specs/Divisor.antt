@@ -1,8 +1,9 @@
 -- Document 01, "Gap and rating" and "The network file": the greatest common divisor, by repeated remainder, the least common
--- multiple, and the common cycle of a list of periods.
-use Prim.Native.Nat.{ℕ, zero, suc, _*_, _/_, _%_}
+-- multiple, and the common cycle of a list of periods; and document 02, A.4: the least common multiple by what it is.
+use Prim.Native.Nat.{ℕ, zero, suc, _*_, _/_, _%_, _<_}
 use mathlib.Core.Path.{_≡_}
 use mathlib.Core.List.{List, [], _∷_}
+use lib.ListN.{length, getD}
 
 -- `d` divides `n`: `n` is `k` times `d` for some `k`
 unfoldable pub Divides : ℕ → ℕ → Type 0
@@ -30,3 +31,10 @@ cycleFrom c (p ∷ ps) = cycleFrom (lcm c p) ps
 -- The common cycle: the least common multiple of all periods
 unfoldable pub commonCycle : List ℕ → ℕ
 commonCycle ps = cycleFrom 1 ps
+
+-- The least common multiple of a list of numbers by what it is, whichever way it is computed: it is positive, each of them divides it, and it
+-- divides whatever each of them divides
+pub record IsLeastCommonMultiple (numbers : List ℕ) (m : ℕ) : Type 0 where
+  pub positive : 0 < m
+  pub multiple : (i : ℕ) → i < length numbers → Divides (getD numbers i 0) m
+  pub least : (k : ℕ) → ((i : ℕ) → i < length numbers → Divides (getD numbers i 0) k) → Divides m k

@@ -1,5 +1,6 @@
 // Divisors and multiples of periods.
 ghost use mathlib.Core.Path.{_≡_};
+ghost use mathlib.Core.List.{[], _∷_};
 ghost use Prim.Native.Nat.{_<_, _≤_};
 ghost use Rattle.network.specs.Divisor as divisor;
 ghost use Rattle.network.specs.Network as net;
@@ -11,10 +12,11 @@ pub fn gcd(a: u32, b: u32) -> u32
     if b == 0 { a } else { gcd(b, a % b) }
 }
 
-// The least common multiple of a cycle and a period.
-pub fn lcm(a: u32, b: u32) -> u32
-    requires { ⌜ (0 < a) × (a ≤ net.maxCycle) × (b ≤ net.maxPeriod) ⌝ }
-    ensures { λ r. ⌜ r ≡ divisor.lcm a b ⌝ }
+// The running common cycle, brought forward by a line's period: the least common multiple of the two, of which nothing else is needed.
+pub fn brought_forward(cycle: u32, period: u16) -> u32
+    requires { ⌜ (0 < cycle) × (cycle ≤ net.maxCycle) × (0 < period) × (period ≤ net.maxPeriod) ⌝ }
+    ensures { λ r. ⌜ divisor.IsLeastCommonMultiple (cycle ∷ period ∷ []) r ⌝ }
 {
-    a / gcd(a, b) * b
+    let minutes = period as u32;
+    cycle / gcd(cycle, minutes) * minutes
 }

@@ -6,7 +6,7 @@ use crate::Parsed;
 use crate::ReadAnswer;
 use crate::Step;
 use crate::Totals;
-use crate::divisor::lcm;
+use crate::divisor::brought_forward;
 use crate::ratings::served_by;
 ghost use mathlib.Core.Path.{_≡_};
 ghost use Prim.Native.Nat.{_+_, _*_, _^_, _<_, _≤_};
@@ -99,7 +99,7 @@ fn read_line(totals: Totals, behind: &[u8], at: usize) -> Parsed
             place: at,
         };
     }
-    let cycle = lcm(totals.cycle, period as u32);
+    let cycle = brought_forward(totals.cycle, period);
     if Network::MAX_CYCLE < cycle {
         return Parsed::Refused {
             number: 6,

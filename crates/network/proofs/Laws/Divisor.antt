@@ -9,7 +9,7 @@ use mathlib.Core.Path.{_≡_, refl, sym, ap, subst, _∙_}
 use mathlib.Core.Logic.{_⊎_, inl, inr}
 use mathlib.Core.List.{List, [], _∷_, _++_}
 use lib.ListN.{length, getD, length-append, List·getD-append}
-use Rattle.network.specs.Divisor.{Divides, gcdWithin, gcd, lcm, cycleFrom, commonCycle}
+use Rattle.network.specs.Divisor.{Divides, gcdWithin, gcd, lcm, cycleFrom, commonCycle, IsLeastCommonMultiple}
 
 -- ---- divisibility. The library's is truncated; the quotient is its witness
 
@@ -200,6 +200,25 @@ lcm-pos a b h k =
     pos-of-divides (lcm a b) (a * b) (subst (Divides (lcm a b)) (omega (arith, lcm-mul-gcd a b)) (divides-mul (lcm a b) (gcd a b)))
     (mul-pos h k)
 
+-- It is one by what it is, and there is no other
+pub lcm-is-least-common-multiple : (a b : ℕ) → 0 < a → 0 < b → IsLeastCommonMultiple (a ∷ b ∷ []) (lcm a b)
+lcm-is-least-common-multiple a b h k =
+    record { positive = lcm-pos a b h k; multiple = both; least = λ m d. lcm-least a b m (d 0 (omega arith)) (d 1 (omega arith)) }
+  where
+    both : (i : ℕ) → i < 2 → Divides (getD (a ∷ b ∷ []) i 0) (lcm a b)
+    both zero l = divides-lcm-left a b
+    both (suc zero) l = divides-lcm-right a b
+    both (suc (suc i)) l = absurd (omega arith)
+
+pub least-common-multiple-unique : {ps : List ℕ} {m n : ℕ} → IsLeastCommonMultiple ps m → IsLeastCommonMultiple ps n → m ≡ n
+least-common-multiple-unique {m = m} {n = n} h k = divides-antisymm m n (h .least n (k .multiple)) (k .least m (h .multiple))
+
+pub lcm-of-least-common-multiple : {a b m : ℕ} → IsLeastCommonMultiple (a ∷ b ∷ []) m → m ≡ lcm a b
+lcm-of-least-common-multiple {a} {b} {m} h =
+    least-common-multiple-unique h
+    (lcm-is-least-common-multiple a b (pos-of-divides a m (h .multiple 0 (omega arith)) (h .positive))
+    (pos-of-divides b m (h .multiple 1 (omega arith)) (h .positive)))
+
 -- ---- the common cycle: by induction on the periods, for a cycle that starts at any number
 
 cycleFrom-snoc : (c : ℕ) (ps : List ℕ) (p : ℕ) → cycleFrom c (ps ++ (p ∷ [])) ≡ lcm (cycleFrom c ps) p
@@ -246,6 +265,10 @@ commonCycle-least ps m = cycleFrom-least 1 ps m (one-divides m)
 pub commonCycle-pos : (ps : List ℕ) → ((i : ℕ) → i < length ps → 0 < getD ps i 0) → 0 < commonCycle ps
 unfolding commonCycle
 commonCycle-pos ps = cycleFrom-pos 1 ps (zero-lt-suc 0)
+
+pub commonCycle-is-least-common-multiple : (ps : List ℕ) → ((i : ℕ) → i < length ps → 0 < getD ps i 0) → IsLeastCommonMultiple ps (commonCycle ps)
+commonCycle-is-least-common-multiple ps positive =
+    record { positive = commonCycle-pos ps positive; multiple = period-divides-commonCycle ps; least = commonCycle-least ps }
 
 -- the first of the periods alone have no longer cycle than all
 pub commonCycle-prefix-le : (ps qs all : List ℕ) → ps ++ qs ≡ all → ((i : ℕ) → i < length all → 0 < getD all i 0) → commonCycle ps ≤ commonCycle all

@@ -209,7 +209,7 @@ first-named P ((m at q when true) ∷ gs) number place h e = let i : m ≡ numbe
 first-named P ((m at q when false) ∷ gs) number place h e = first-named P gs number place (h .1) e
 
 abbrev Named : ℕ → ℕ → ℕ → Type 0
-Named p number place = (1 ≤ number) × (number ≤ 14) × (place ≤ p + 1)
+Named p number place = (1 ≤ number) × (number ≤ 14) × (p ≤ place) × (place ≤ p + 1)
 
 grounds-named : (c : Command) (f : SoFar) (p : ℕ) (behind : List ℕ) → AllNamed (Named p) (grounds c f p behind)
 unfolding grounds callGrounds
@@ -220,5 +220,10 @@ grounds-named ends f p behind = omega arith
 grounds-named unknown f p behind = omega arith
 
 pub refused-named : (c : Command) (f : SoFar) (p : ℕ) (behind : List ℕ) (number place : ℕ)
-    → first (grounds c f p behind) ≡ Refused number place → (1 ≤ number) × (number ≤ 14) × (place ≤ p + 1)
+    → first (grounds c f p behind) ≡ Refused number place → (1 ≤ number) × (number ≤ 14) × (p ≤ place) × (place ≤ p + 1)
 refused-named c f p behind number place = first-named (Named p) (grounds c f p behind) number place (grounds-named c f p behind)
+
+-- .. and a refused line its own place
+pub line-refused-place : (f : SoFar) (p : ℕ) (behind : List ℕ) (number place : ℕ) → first (grounds statesLine f p behind) ≡ Refused number place → place ≡ p
+unfolding grounds
+line-refused-place f p behind number place = first-named (λ (n q : ℕ). q ≡ p) (grounds statesLine f p behind) number place (refl, (refl, (refl, (refl, tt))))

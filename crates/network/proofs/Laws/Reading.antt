@@ -125,7 +125,7 @@ module _ (b : ℕ) (f : SoFar) (p : ℕ) (behind : List ℕ) where
   unfolding readFrom onward
   read-step k e = ap (λ (k : Check). proceed k (command b) f onward) e
 
-  pub read-refused : (number place : ℕ) → first (grounds (command b) f p behind) ≡ Refused number place
+  read-refused : (number place : ℕ) → first (grounds (command b) f p behind) ≡ Refused number place
       → readFrom f p 0 (b ∷ behind) ≡ refused number place
   unfolding proceed
   read-refused number place e = read-step (Refused number place) e
@@ -155,6 +155,24 @@ unfolding readFrom
 gives-what-is-read (runs-out r) = reached-read r
 gives-what-is-read (refuses {f = f} {p = p} {b = b} {behind = behind} r e) = reached-read r ∙ read-refused b f p behind _ _ e
 gives-what-is-read (accepts {f = f} {p = p} {b = b} {behind = behind} r i e) = reached-read r ∙ read-ended b f p behind e i
+
+-- A refusal names no place before one to which reading comes
+readFrom-not-before : (f : SoFar) (p k : ℕ) (rest : List ℕ) (number place : ℕ) → readFrom f p k rest ≡ refused number place → p ≤ place
+unfolding readFrom
+readFrom-not-before f p k [] number place e = let same : p ≡ place = cc in omega (arith, same)
+readFrom-not-before f p (suc k) (b ∷ behind) number place e = omega (arith, readFrom-not-before f (p + 1) k behind number place e)
+readFrom-not-before f p zero (b ∷ behind) number place e =
+    let c : Command = command b in
+    proceed-cases (λ step. step (readFrom (extend c f behind) (p + 1) (operandBytes c) behind) ≡ refused number place → p ≤ place)
+    (first (grounds c f p behind)) c f
+    (λ n q i k. let same : q ≡ place = cc (k) in omega (arith, same, refused-named c f p behind n q i))
+    (λ i passes k. absurd (zero-ne-one (cc (k))))
+    (λ i passes k. omega (arith, readFrom-not-before _ (p + 1) _ behind number place k))
+    e
+
+pub reached-not-behind : {file : List ℕ} {f : SoFar} {p : ℕ} {rest : List ℕ} {number place : ℕ} → Reached file f p rest
+    → readFile file ≡ refused number place → p ≤ place
+reached-not-behind {f = f} {p = p} {rest = rest} r e = readFrom-not-before f p 0 rest _ _ (sym (reached-read r) ∙ e)
 
 module _ {file : List ℕ} where
   pub reached-within : {f : SoFar} {p : ℕ} {rest : List ℕ} → Reached file f p rest → Within f p

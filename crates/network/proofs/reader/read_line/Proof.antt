@@ -9,6 +9,7 @@ use Rattle.network.specs.Divisor.{lcm}
 use Rattle.network.specs.Network.{maxLines, maxCycle, operandBytes, word, cycle}
 use Rattle.network.specs.Grounds.{grounds, cutOff}
 use Rattle.network.specs.Engine.Stored.{IsParsed}
+use Rattle.network.proofs.Laws.Divisor.{lcm-of-least-common-multiple}
 use Rattle.network.proofs.Laws.Grounds.{first-none, first-hit, first-miss, period-too-short, period-too-long, period-in-range}
 use Rattle.network.proofs.reader.read_line.Statement.{statement}
 use Rattle.network.proofs.reader.read_line.Tie as tie
@@ -51,11 +52,8 @@ returns-4 c =
     ∙ first-miss _ _ _ _ (lt-leb maxLines (length (f .network .periods)) (omega (arith, h .lines)))
     ∙ first-hit _ _ _ _ (period-too-long (word b 0) (omega (arith, w .ensures)))
 
-cast-lcm : tie.Need-cast-lcm
-cast-lcm c = search needs
-
-lcm-requires : tie.Need-lcm-requires
-lcm-requires c κs = search needs
+brought-forward-requires : tie.Need-brought-forward-requires
+brought-forward-requires c κs = search needs
 
 returns-5 : tie.Need-returns-5
 unfolding IsParsed grounds cutOff operandBytes
@@ -63,8 +61,8 @@ returns-5 c =
     let s = c .before .before .before .before .before .before .before .before .before in
     let b = s .args .behind .now in
     let w = c .before .before .before .before .word in
-    let l = c .before .lcm in
-    λ f h. let made : l .result ≡ lcm (cycle (f .network)) (word b 0) = cc (l .ensures, w .ensures, h .cycle-is) in
+    let l = c .before .brought-forward in
+    λ f h. let made : l .result ≡ lcm (cycle (f .network)) (word b 0) = cc (lcm-of-least-common-multiple (l .ensures), w .ensures, h .cycle-is) in
     first-miss _ _ _ _ (le-ltb (length b) 2 (omega arith))
     ∙ first-miss _ _ _ _ (lt-leb maxLines (length (f .network .periods)) (omega (arith, h .lines)))
     ∙ first-miss _ _ _ _ (period-in-range (word b 0) (omega (arith, w .ensures)) (omega (arith, w .ensures)))
@@ -76,8 +74,8 @@ returns-6 c =
     let s = c .before .before .before .before .before .before .before .before .before in
     let b = s .args .behind .now in
     let w = c .before .before .before .before .word in
-    let l = c .before .lcm in
-    λ f h. let made : l .result ≡ lcm (cycle (f .network)) (word b 0) = cc (l .ensures, w .ensures, h .cycle-is) in (
+    let l = c .before .brought-forward in
+    λ f h. let made : l .result ≡ lcm (cycle (f .network)) (word b 0) = cc (lcm-of-least-common-multiple (l .ensures), w .ensures, h .cycle-is) in (
       first-miss _ _ _ _ (le-ltb (length b) 2 (omega arith))
           ∙ first-miss _ _ _ _ (lt-leb maxLines (length (f .network .periods)) (omega (arith, h .lines)))
           ∙ first-miss _ _ _ _ (period-in-range (word b 0) (omega (arith, w .ensures)) (omega (arith, w .ensures)))
@@ -97,7 +95,6 @@ read-line-spec =
     word-requires
     returns-3
     returns-4
-    cast-lcm
-    lcm-requires
+    brought-forward-requires
     returns-5
     returns-6)

@@ -1,5 +1,5 @@
--- `network::reader::read_network` meets its contract. The loop's invariant: the network, how often each line calls at each stop and the latest
--- offsets agree, and reading the part that is left, with what has been read before it, gives what reading the whole file gives. Assumes nothing.
+-- `network::reader::read_network` meets its contract. The loop's invariant is `Turn`: the network, its running cycle among it, how often each line
+-- calls at each stop and the latest offsets agree, and reading comes to the part that is left with this network. Assumes nothing.
 use Prim.Native.Nat.{ℕ, _+_, _*_, _-_, _<_, _≤_}
 use mathlib.Core.Path.{_≡_, refl, sym, ap, ap₂, subst, _∙_}
 use mathlib.Core.List.{List, [], _∷_}
@@ -14,25 +14,24 @@ use Rattle.network.specs.declared.Check.the-variants.{Passes}
 use Rattle.network.specs.declared.Network.{Network}
 use Rattle.network.specs.declared.Parsed.{Parsed}
 use Rattle.network.specs.declared.Parsed.the-variants as parsed
-use Rattle.network.specs.Network.{Net, SoFar, soFar, Command, command, ends, operandBytes, extend, maxLines, maxStop, maxCalls, maxCallsAtStop}
+use Rattle.network.specs.Network.{SoFar, soFar, Command, command, ends, operandBytes, extend, maxLines, maxStop, maxCalls, maxCallsAtStop}
 use Rattle.network.specs.Grounds.{first, grounds}
-use Rattle.network.specs.Reading.{readFrom, readFile, refused}
+use Rattle.network.specs.Reading.{readFile, refused}
+use Rattle.network.specs.Gives.{Reached, start, runs-out, refuses, accepts}
+use Rattle.network.specs.Gives as gives
 use Rattle.network.specs.Engine.Stored.{netOf, Often, IsParsed, readingOf}
 use Rattle.network.proofs.Laws.Lists.{take-rest, getD-zeros}
-use Rattle.network.proofs.Laws.Reading.{passes-operands, read-refused, read-ended, read-onward}
+use Rattle.network.proofs.Laws.Reading.{passes-operands, gives-what-is-read}
 use Rattle.network.proofs.Laws.Often.{often-none}
 use Rattle.network.proofs.Laws.Stored.{LineParsed, CallParsed, held-lines, held-calls, has-totals, line-added, call-added, line-of-parsed}
 use Rattle.network.proofs.Laws.Stored.{call-of-parsed}
 use Rattle.network.proofs.Laws.Latest.{latest-none}
-use Rattle.network.proofs.Laws.ReaderRows.{ReaderRows, rows-with-line, rows-with-call}
+use Rattle.network.proofs.Laws.ReaderRows.{ReaderRows, Turn, rows-with-line, rows-with-call}
 use Rattle.network.proofs.reader.read_network.Statement.{statement}
 use Rattle.network.proofs.reader.read_network.Tie as tie
 
 abbrev Inv-loop : tie.InvT-loop
-Inv-loop file network₀ often₀ latest₀ rest₀ network often latest rest =
-    ReaderRows network often latest
-    × (length rest ≤ length file)
-    × (readFrom (soFar (netOf network)) (length file - length rest) 0 rest ≡ readFile file)
+Inv-loop file network₀ often₀ latest₀ rest₀ network often latest rest = Turn file network often latest rest
 
 abbrev μ-loop : tie.MeasureT-loop
 μ-loop file network₀ often₀ latest₀ rest₀ network often latest rest = length rest
@@ -61,7 +60,7 @@ module _ (r : tie.After-read-command Inv-loop μ-loop) where
   result = r .read-command .result
 
   kept : ReaderRows network (r .before .before .before .before .before .before .loop .often) (r .before .before .before .before .before .before .loop .latest)
-  kept = r .before .before .before .before .before .before .loop .inv .0
+  kept = r .before .before .before .before .before .before .loop .inv .rows
 
   some : 0 < length rest
   some = r .before .before .before .before .before .loop-test .taken
@@ -72,8 +71,8 @@ module _ (r : tie.After-read-command Inv-loop μ-loop) where
   length-behind : length rest ≡ length behind + 1
   length-behind = omega (arith, ap length rest-is)
 
-  read-here : readFrom (soFar (netOf network)) place 0 (getD rest 0 0 ∷ behind) ≡ readFile file
-  read-here = ap (readFrom (soFar (netOf network)) place 0) (sym rest-is) ∙ r .before .before .before .before .before .before .loop .inv .2
+  reached-here : Reached file (soFar (netOf network)) place (getD rest 0 0 ∷ behind)
+  reached-here = subst (Reached file (soFar (netOf network)) place) rest-is (r .before .before .before .before .before .before .loop .inv .comes-here)
 
   -- what the command parsed-here, once it is known which it is
   parsed-here : (t : Parsed) → result ≡ t → IsParsed code (soFar (netOf network)) place behind t
@@ -145,32 +144,32 @@ next c =
     (c .match .came)
 
 -- Where nothing is left, a command is due
-read-empty : (f : SoFar) (totals : ℕ) (rest : List ℕ) → length rest ≤ 0 → refused 1 totals ≡ readFrom f (totals - length rest) 0 rest
-unfolding readFrom
-read-empty f totals [] h = ap (refused 1) (sym (sub-zero totals))
-read-empty f totals (b ∷ rest) h = absurd (omega arith)
+runs-out-here : (file : List ℕ) (f : SoFar) (rest : List ℕ) → length rest ≤ 0 → Reached file f (length file - length rest) rest
+    → refused 1 (length file) ≡ readFile file
+runs-out-here file f [] h r = ap (refused 1) (sym (sub-zero (length file))) ∙ sym (gives-what-is-read (runs-out r))
+runs-out-here file f (b ∷ rest) h r = absurd (omega arith)
 
 new-requires : tie.Need-new-requires Inv-loop μ-loop
 new-requires c κs = tt
 
 loop-holds : tie.Need-loop-holds Inv-loop μ-loop
-unfolding readFile
 loop-holds c =
     let file = c .before .before .args .file .now in
-    let empty = c .new .ensures .1 in (
-      record {
+    let empty = c .new .ensures .1 in
+    record {
+      rows = record {
         sound = c .new .ensures .0;
         often-row = refl;
         often-is = rw empty (often-none _ (λ place. getD-zeros 1024 place));
         latest-row = refl;
         latest-is = rw empty (latest-none _ (λ line. getD-zeros 16 line));
-      },
-      omega arith,
-      ap₂ (λ (n : Net) (p : ℕ). readFrom (soFar n) p 0 file) empty (sub-self (length file)),
-    )
+      };
+      left = omega arith;
+      comes-here = rw (empty, sub-self (length file)) start;
+    }
 
 sub-at : tie.Need-sub-at Inv-loop μ-loop
-sub-at c = c .before .loop .inv .1
+sub-at c = c .before .loop .inv .left
 
 shared-slice-read-code : tie.Need-shared-slice-read-code Inv-loop μ-loop
 shared-slice-read-code c = c .before .loop-test .taken
@@ -186,7 +185,7 @@ part-behind-end c = omega arith
 
 read-command-requires : tie.Need-read-command-requires Inv-loop μ-loop
 read-command-requires c κs =
-    let k = c .before .before .before .before .before .loop .inv .0 .sound in
+    let k = c .before .before .before .before .before .loop .inv .rows .sound in
     (k .lines, k .cycle-pos, k .cycle-le, omega (arith, c .before .before .before .before .before .before .before .before .good .0 .1))
 
 enum-known-parsed : tie.Need-enum-known-parsed Inv-loop μ-loop
@@ -201,8 +200,7 @@ returns c =
     let r = c .before .before .before .before in (
       rw (c .refused .ensures .1) (kept r .sound),
       ap₂ readingOf (c .refused .ensures .0) refl
-          ∙ sym (read-refused (getD (rest r) 0 0) (soFar (netOf (network r))) (place r) (behind r) _ _ (parsed-here r _ (c .before .before .parsed .given .1)))
-          ∙ read-here r,
+          ∙ sym (gives-what-is-read (refuses (reached-here r) (parsed-here r _ (c .before .before .parsed .given .1)))),
     )
 
 enum-told : tie.Need-enum-told Inv-loop μ-loop
@@ -218,8 +216,7 @@ returns-2 c =
     let t = parsed-here r _ (c .before .enum-told .given .1) in (
       rw (c .passed .ensures .1) (kept r .sound),
       ap₂ readingOf (c .passed .ensures .0) (c .passed .ensures .1)
-          ∙ sym (read-ended (getD (rest r) 0 0) (soFar (netOf (network r))) (place r) (behind r) (t .0) (t .1))
-          ∙ read-here r,
+          ∙ sym (gives-what-is-read (accepts (reached-here r) (t .1) (t .0))),
     )
 
 enum-known-parsed-2 : tie.Need-enum-known-parsed-2 Inv-loop μ-loop
@@ -302,14 +299,13 @@ loop-again c =
     let x = next (c .before) in
     let left : length (c .part-behind .result .now) ≡ length (behind r) - k = ap length (c .part-behind .ensures) ∙ length-drop k (behind r) in
     let fits : k ≤ length (behind r) = passes-operands (code r) (soFar (netOf (network r))) (place r) (behind r) (x .passes) in
-    let within : length (rest r) ≤ length (file r) = r .before .before .before .before .before .before .loop .inv .1 in
-    let onto : length (file r) - length (c .part-behind .result .now) ≡ place r + 1 + k = omega (arith, length-behind r) in (
-      x .kept-on,
-      omega (arith, length-behind r),
-      ap₂ (λ (p : ℕ) (l : List ℕ). readFrom (soFar (netOf (c .before .match .network))) p 0 l) onto (c .part-behind .ensures)
-          ∙ sym (read-onward (getD (rest r) 0 0) (soFar (netOf (network r))) (place r) (behind r) (soFar (netOf (c .before .match .network))) (x .passes) (x .onward) (x .extended))
-          ∙ read-here r,
-    )
+    let within : length (rest r) ≤ length (file r) = r .before .before .before .before .before .before .loop .inv .left in
+    let onto : length (file r) - length (c .part-behind .result .now) ≡ place r + 1 + k = omega (arith, length-behind r) in
+    record {
+      rows = x .kept-on;
+      left = omega (arith, length-behind r);
+      comes-here = rw (onto, c .part-behind .ensures, x .extended) (gives.next (reached-here r) (x .passes) (x .onward));
+    }
 
 refused-requires-2 : tie.Need-refused-requires-2 Inv-loop μ-loop
 refused-requires-2 c κs = tt
@@ -319,10 +315,9 @@ unfolding readingOf
 returns-3 c =
     let l = c .before .before .loop in
     let file = c .before .before .before .before .before .args .file .now in (
-      rw (c .refused2 .ensures .1) (l .inv .0 .sound),
+      rw (c .refused2 .ensures .1) (l .inv .rows .sound),
       ap₂ readingOf (c .refused2 .ensures .0) refl
-          ∙ read-empty (soFar (netOf (l .network))) (length file) (l .rest .now) (omega (arith, c .before .loop-test .left))
-          ∙ l .inv .2,
+          ∙ runs-out-here file (soFar (netOf (l .network))) (l .rest .now) (omega (arith, c .before .loop-test .left)) (l .inv .comes-here),
     )
 
 pub read-network-spec : {M : Type 1} → statement M

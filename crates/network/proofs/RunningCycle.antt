@@ -1,0 +1,105 @@
+-- What document 02, A.4, "Common cycle carried along", asks of the reader: the number that it keeps is at every place to which it comes the least
+-- common multiple of all periods so far, by divisibility. First of the definitions, for every file, then of the number in the reader's loop, whose
+-- invariant it is. Assumes nothing.
+use Prim.Native.Nat.{ℕ, _+_, _-_, _≤_}
+use mathlib.Core.Path.{_≡_, sym, ap, subst, subst₂, _∙_}
+use mathlib.Core.List.{List, [], _∷_, _++_}
+use native.Mathlib.Omega.{arith}
+use lib.ListN.{length, take, drop}
+use Rattle.network.specs.declared.Check.the-variants.{Passes, Refused}
+use Rattle.network.specs.declared.Network.{Network}
+use Rattle.network.specs.Divisor.{IsLeastCommonMultiple}
+use Rattle.network.specs.Network.{SoFar, Command, statesLine, command, operandBytes, word, cycle, maxCycle, extend}
+use Rattle.network.specs.Grounds.{first, grounds}
+use Rattle.network.specs.Reading.{refused}
+use Rattle.network.specs.Gives.{Reached, next, Gives, refuses}
+use Rattle.network.proofs.Laws.Divisor.{least-common-multiple-unique, one-divides}
+use Rattle.network.proofs.Laws.Grounds.{line-refused-place}
+use Rattle.network.proofs.Laws.Reading.{gives-what-is-read, reached-not-behind}
+use Rattle.network.proofs.Laws.RunningCycle.{reached-cycle, line-not-end, periods-of-line, cycle-of-line, cycle-of-line-le, kept-by-others}
+use Rattle.network.proofs.Laws.Stored.{held-periods}
+use Rattle.network.proofs.Laws.ReaderRows.{Turn}
+
+-- ---- Of every file, at every place `p` to which reading comes, `f` being what has been read before it
+
+-- "After each accepted `4C` it is the least common multiple of all periods so far"
+pub running-cycle : {file : List ℕ} {f : SoFar} {p : ℕ} {rest : List ℕ} → Reached file f p rest
+    → IsLeastCommonMultiple (f .network .periods) (cycle (f .network))
+running-cycle = reached-cycle
+
+-- .. and no other number is
+pub no-other-cycle : {periods : List ℕ} {m n : ℕ} → IsLeastCommonMultiple periods m → IsLeastCommonMultiple periods n → m ≡ n
+no-other-cycle = least-common-multiple-unique
+
+-- Before the first it is 1
+pub one-before-the-first : {file : List ℕ} {f : SoFar} {p : ℕ} {rest : List ℕ} → Reached file f p rest → f .network .periods ≡ []
+    → cycle (f .network) ≡ 1
+one-before-the-first {f = f} r none = no-other-cycle (subst (λ (ps : List ℕ). IsLeastCommonMultiple ps (cycle (f .network))) none (running-cycle r)) one
+  where
+    one : IsLeastCommonMultiple [] 1
+    one = record { positive = omega arith; multiple = λ i h. absurd (omega arith); least = λ k d. one-divides k }
+
+-- "brought forward at each `4C` from that value and the new period alone": what a line that passes leaves behind
+pub record BroughtForward (file : List ℕ) (f g : SoFar) (p : ℕ) (behind : List ℕ) : Type 0 where
+  pub comes-behind : Reached file g (p + 3) (drop 2 behind)
+  pub periods-are : g .network .periods ≡ f .network .periods ++ (word behind 0 ∷ [])
+  pub from-the-two : IsLeastCommonMultiple (cycle (f .network) ∷ word behind 0 ∷ []) (cycle (g .network))
+  pub of-all : IsLeastCommonMultiple (g .network .periods) (cycle (g .network))
+  pub range : cycle (g .network) ≤ maxCycle
+
+pub line-brings-forward : {file : List ℕ} {f : SoFar} {p b : ℕ} {behind : List ℕ} → Reached file f p (b ∷ behind) → command b ≡ statesLine
+    → first (grounds (command b) f p behind) ≡ Passes → BroughtForward file f (extend (command b) f behind) p behind
+unfolding operandBytes
+line-brings-forward {file} {f} {p} {b} {behind} r is passes =
+    let here : first (grounds statesLine f p behind) ≡ Passes = ap (λ (c : Command). first (grounds c f p behind)) (sym is) ∙ passes in
+    let behind-it : Reached file (extend (command b) f behind) (p + 1 + operandBytes (command b)) (drop (operandBytes (command b)) behind) =
+    next r passes (λ e. line-not-end (sym is ∙ e)) in
+    subst (λ (c : Command). BroughtForward file f (extend c f behind) p behind) (sym is)
+    (record {
+      comes-behind = at-place (subst (λ (c : Command). Reached file (extend c f behind) (p + 1 + operandBytes c) (drop (operandBytes c) behind)) is behind-it);
+      periods-are = periods-of-line f behind;
+      from-the-two = cycle-of-line f behind p (running-cycle r .positive) here;
+      of-all = subst (λ (c : Command). IsLeastCommonMultiple (extend c f behind .network .periods) (cycle (extend c f behind .network))) is (running-cycle behind-it);
+      range = cycle-of-line-le f behind p here;
+    })
+  where
+    at-place : Reached file (extend statesLine f behind) (p + 1 + operandBytes statesLine) (drop (operandBytes statesLine) behind)
+        → Reached file (extend statesLine f behind) (p + 3) (drop 2 behind)
+    at-place q = subst (λ (k : ℕ). Reached file (extend statesLine f behind) k (drop 2 behind)) (omega arith) q
+
+-- No other command changes it
+pub others-keep-it : (c : Command) (f : SoFar) (behind : List ℕ) → (c ≡ statesLine → ⊥) → cycle (extend c f behind .network) ≡ cycle (f .network)
+others-keep-it c f behind h = kept-by-others f behind c h .1
+
+-- A refused `4C` keeps nothing: the file gives its refusal and no network, and reading comes to no place behind it
+pub refused-line-keeps-nothing : {file : List ℕ} {f : SoFar} {p b : ℕ} {behind : List ℕ} {number place : ℕ} → Reached file f p (b ∷ behind)
+    → command b ≡ statesLine → first (grounds (command b) f p behind) ≡ Refused number place
+    → Gives file (refused number p) × ((g : SoFar) (q : ℕ) (rest : List ℕ) → Reached file g q rest → q ≤ p)
+refused-line-keeps-nothing {file} {f} {p} {b} {behind} {number} {place} r is e =
+    let own : place ≡ p = line-refused-place f p behind number place (ap (λ (c : Command). first (grounds c f p behind)) (sym is) ∙ e) in
+    let gives : Gives file (refused number p) = subst (λ (q : ℕ). Gives file (refused number q)) own (refuses r e) in
+    (gives, λ g q rest other. reached-not-behind other (gives-what-is-read gives))
+
+-- ---- Of the reader's loop in src/reader.rt: what it keeps where a turn begins, `rest` being the part of the file that is left and `n` the network,
+-- with its row of periods, its number of lines and its cycle
+
+pub record AtTurn (file rest : List ℕ) (n : Network) : Type 0 where
+  -- reading comes here with `so-far`, whose periods stand in the row, and the number kept is the definition's
+  pub so-far : SoFar
+  pub comes-here : Reached file so-far (length file - length rest) rest
+  pub periods-are : take (n .lines) (n .periods) ≡ so-far .network .periods
+  pub cycle-is : n .cycle ≡ cycle (so-far .network)
+  -- .. so that it is the least common multiple of the periods that are kept
+  pub is-least-common-multiple : IsLeastCommonMultiple (take (n .lines) (n .periods)) (n .cycle)
+
+-- At every turn: `Turn` is the loop's invariant, so that it holds before the first turn and each turn keeps it (`Inv-loop`, `loop-holds` and
+-- `loop-again` of proofs/reader/read_network/Proof.antt)
+pub every-turn : {file rest : List ℕ} {n : Network} {often latest : List ℕ} → Turn file n often latest rest → AtTurn file rest n
+every-turn {n = n} t =
+    record {
+      so-far = _;
+      comes-here = t .comes-here;
+      periods-are = sym (held-periods n);
+      cycle-is = t .rows .sound .cycle-is;
+      is-least-common-multiple = subst₂ IsLeastCommonMultiple (held-periods n) (sym (t .rows .sound .cycle-is)) (running-cycle (t .comes-here));
+    }
