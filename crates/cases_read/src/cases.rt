@@ -9,7 +9,7 @@ use libc::STDOUT_FILENO;
 use network::ReadAnswer;
 ghost use Prim.Native.Nat.{_<_, _≤_};
 
-// A case: its name, a colon, and a file of at most 64 bytes in hexadecimal, as the paper writes files.
+// A case: its name, a colon, and a file of at most 96 bytes in hexadecimal, as the paper writes files.
 pub fn case(text: &[u8]) {
     let colon = name_length(text);
     named(&text[..colon], &text[colon..]);
@@ -17,7 +17,7 @@ pub fn case(text: &[u8]) {
 
 // A case whose name stands by itself.
 pub fn named(name: &[u8], text: &[u8]) {
-    let mut file = [0u8; 64];
+    let mut file = [0u8; 96];
     let end = put_hex(text, &mut file, 0);
     show(name, &file[..end]);
 }

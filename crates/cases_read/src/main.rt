@@ -2,6 +2,7 @@
 // src/ has the lines that the paper gives, worked out by hand from its sections on the network file and the grounds. The compiled
 // program runs all cases; the interpreter of `rt try` stops at 10,000,000 steps, among the files of 256 calls.
 mod cases;
+mod cycle;
 mod edges;
 mod grounds;
 mod limits;
@@ -14,4 +15,5 @@ fn main() {
     pairs::all();
     limits::all();
     tails::all();
+    cycle::all();
 }

@@ -1,17 +1,19 @@
 -- What document 02, A.4, "Common cycle carried along", asks of the reader: the number that it keeps is at every place to which it comes the least
 -- common multiple of all periods so far, by divisibility. First of the definitions, for every file, then of the number in the reader's loop, whose
 -- invariant it is. Assumes nothing.
-use Prim.Native.Nat.{ℕ, _+_, _-_, _≤_}
-use mathlib.Core.Path.{_≡_, sym, ap, subst, subst₂, _∙_}
+use Prim.Native.Nat.{ℕ, zero, suc, _+_, _-_, _≤_}
+use mathlib.Core.Path.{_≡_, refl, sym, ap, subst, subst₂, _∙_}
 use mathlib.Core.List.{List, [], _∷_, _++_}
 use native.Mathlib.Omega.{arith}
 use lib.ListN.{length, take, drop}
 use Rattle.network.specs.declared.Check.the-variants.{Passes, Refused}
 use Rattle.network.specs.declared.Network.{Network}
-use Rattle.network.specs.Divisor.{IsLeastCommonMultiple}
-use Rattle.network.specs.Network.{SoFar, Command, statesLine, command, operandBytes, word, cycle, maxCycle, extend}
-use Rattle.network.specs.Grounds.{first, grounds}
-use Rattle.network.specs.Reading.{refused}
+use Rattle.network.specs.Lists.{any, keep, allBelow, countBelow}
+use Rattle.network.specs.Divisor.{gcdWithin, gcd, lcm, cycleFrom, commonCycle, IsLeastCommonMultiple}
+use Rattle.network.specs.Network.{SoFar, Command, statesLine, command, operandBytes, word, cycle, maxCycle, extend, withLine, withCall, callOf}
+use Rattle.network.specs.Network.{lineOperand, stopOperand, statedOffset, isServed, howOftenAt, callsAnywhere, servedStops}
+use Rattle.network.specs.Grounds.{first, cutOff, periodOutOfRange, someLineSilent, callGrounds, grounds}
+use Rattle.network.specs.Reading.{proceed, readFrom, readFile, refused, readOutcome, values}
 use Rattle.network.specs.Gives.{Reached, next, Gives, refuses}
 use Rattle.network.proofs.Laws.Divisor.{least-common-multiple-unique, one-divides}
 use Rattle.network.proofs.Laws.Grounds.{line-refused-place}
@@ -103,3 +105,30 @@ every-turn {n = n} t =
       cycle-is = t .rows .sound .cycle-is;
       is-least-common-multiple = subst₂ IsLeastCommonMultiple (held-periods n) (sym (t .rows .sound .cycle-is)) (running-cycle (t .comes-here));
     }
+
+-- ---- The values on the way of some files, by the definitions: each side computes
+
+-- The cycle after the first line, the second and so on, of so many lines
+abbrev pub onTheWay : ℕ → List ℕ → List ℕ
+onTheWay zero periods = []
+onTheWay (suc k) periods = onTheWay k periods ++ (commonCycle (take (suc k) periods) ∷ [])
+
+pub cycles-on-the-way : (onTheWay 3 (12 ∷ 18 ∷ 8 ∷ []) ≡ 12 ∷ 36 ∷ 72 ∷ [])
+    × (onTheWay 3 (8 ∷ 18 ∷ 12 ∷ []) ≡ 8 ∷ 72 ∷ 72 ∷ [])
+    × (onTheWay 11 (1 ∷ 2 ∷ 3 ∷ 4 ∷ 5 ∷ 6 ∷ 7 ∷ 8 ∷ 9 ∷ 16 ∷ 32 ∷ []) ≡ 1 ∷ 2 ∷ 6 ∷ 12 ∷ 60 ∷ 60 ∷ 420 ∷ 840 ∷ 2520 ∷ 5040 ∷ 10080 ∷ [])
+unfolding commonCycle cycleFrom lcm gcd gcdWithin
+cycles-on-the-way = (refl, refl, refl)
+
+-- .. behind which a line with period 11 is ground 6 at 33
+abbrev pub linesOf : List ℕ → List ℕ
+linesOf [] = []
+linesOf (period ∷ periods) = 0x4C ∷ 0 ∷ period ∷ linesOf periods
+
+pub eleven-is-refused : readFile (linesOf (1 ∷ 2 ∷ 3 ∷ 4 ∷ 5 ∷ 6 ∷ 7 ∷ 8 ∷ 9 ∷ 16 ∷ 32 ∷ 11 ∷ [])) ≡ refused 6 33
+unfolding readFile readFrom proceed first grounds cutOff periodOutOfRange command operandBytes word extend withLine cycle commonCycle cycleFrom lcm gcd gcdWithin
+eleven-is-refused = refl
+
+-- A line behind calls: 12, its call, 18, its call, and the end
+pub line-behind-calls : readOutcome (readFile (0x4C ∷ 0 ∷ 12 ∷ 0x43 ∷ 0 ∷ 0 ∷ 0 ∷ 0 ∷ 0x4C ∷ 0 ∷ 18 ∷ 0x43 ∷ 1 ∷ 0 ∷ 0 ∷ 0 ∷ 0x45 ∷ [])) ≡ values (2 ∷ 1 ∷ 2 ∷ 36 ∷ [])
+unfolding readOutcome servedStops readFile readFrom proceed first grounds cutOff periodOutOfRange someLineSilent callGrounds command operandBytes word lineOperand stopOperand statedOffset callOf extend withLine withCall isServed howOftenAt callsAnywhere any keep allBelow countBelow cycle commonCycle cycleFrom lcm gcd gcdWithin
+line-behind-calls = refl

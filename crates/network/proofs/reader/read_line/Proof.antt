@@ -1,6 +1,6 @@
 -- `network::reader::read_line` meets its contract: at each return the tests that led there say which ground applies first, and where
 -- none does the line is parsed with the cycle that it makes. Assumes nothing.
-use mathlib.Core.Path.{_≡_, refl, _∙_}
+use mathlib.Core.Path.{_≡_, refl, ap₂, _∙_}
 use native.Mathlib.Omega.{arith}
 use borrow.Author.Needs.{needs}
 use borrow.Author.Tests.{lt-ltb, le-ltb, le-leb, lt-leb}
@@ -62,7 +62,7 @@ returns-5 c =
     let b = s .args .behind .now in
     let w = c .before .before .before .before .word in
     let l = c .before .brought-forward in
-    λ f h. let made : l .result ≡ lcm (cycle (f .network)) (word b 0) = cc (lcm-of-least-common-multiple (l .ensures), w .ensures, h .cycle-is) in
+    λ f h. let made : l .result ≡ lcm (cycle (f .network)) (word b 0) = lcm-of-least-common-multiple (l .ensures) ∙ ap₂ lcm (h .cycle-is) (w .ensures) in
     first-miss _ _ _ _ (le-ltb (length b) 2 (omega arith))
     ∙ first-miss _ _ _ _ (lt-leb maxLines (length (f .network .periods)) (omega (arith, h .lines)))
     ∙ first-miss _ _ _ _ (period-in-range (word b 0) (omega (arith, w .ensures)) (omega (arith, w .ensures)))
@@ -75,7 +75,7 @@ returns-6 c =
     let b = s .args .behind .now in
     let w = c .before .before .before .before .word in
     let l = c .before .brought-forward in
-    λ f h. let made : l .result ≡ lcm (cycle (f .network)) (word b 0) = cc (lcm-of-least-common-multiple (l .ensures), w .ensures, h .cycle-is) in (
+    λ f h. let made : l .result ≡ lcm (cycle (f .network)) (word b 0) = lcm-of-least-common-multiple (l .ensures) ∙ ap₂ lcm (h .cycle-is) (w .ensures) in (
       first-miss _ _ _ _ (le-ltb (length b) 2 (omega arith))
           ∙ first-miss _ _ _ _ (lt-leb maxLines (length (f .network .periods)) (omega (arith, h .lines)))
           ∙ first-miss _ _ _ _ (period-in-range (word b 0) (omega (arith, w .ensures)) (omega (arith, w .ensures)))
