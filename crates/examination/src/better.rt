@@ -2,7 +2,7 @@
 use crate::Choice;
 use network::RateAnswer;
 use network::Rating;
-use network::rate::rate;
+use network::rate::rate_both;
 ghost use mathlib.Core.Path.{_≡_};
 ghost use mathlib.Core.List.{[]};
 ghost use Rattle.network.specs.Reading.{readFile};
@@ -29,8 +29,11 @@ pub fn choose(file: &[u8], first: &[i32], second: &[i32]) -> Choice
     ensures choice { λ r. ⌜ sheets.choiceOf r ≡ sheets.betterOf (readFile (now (file .entry))) (now (first .entry)) (now (second .entry)) ⌝ }
     ensures bytes { λ _. ⌜ IsBytes (now (file .entry)) ⌝ }
 {
-    let one = rating_from(rate(file, first));
-    let other = rating_from(rate(file, second));
+    let both = rate_both(file, first, second);
+    let of_first = both.first;
+    let of_second = both.second;
+    let one = rating_from(of_first);
+    let other = rating_from(of_second);
     if other.is_above(one) {
         return Choice::Second;
     }

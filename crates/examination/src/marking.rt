@@ -1,11 +1,9 @@
 // The mark call.
 use crate::MarkAnswer;
-use network::Network;
 use network::RateAnswer;
 use network::Rating;
-use network::rate::rate;
 use search::SearchAnswer;
-use search::entry::search;
+use search::entry::rate_and_search;
 ghost use mathlib.Core.Path.{_≡_};
 ghost use Rattle.network.specs.Reading.{readFile};
 ghost use Rattle.network.specs.Valid.{IsBytes};
@@ -57,14 +55,11 @@ pub fn mark(file: &[u8], sheet: &[i32], budget: u32) -> MarkAnswer
     ensures answer { λ r. ⌜ sheets.markAnswer r ≡ sheets.markOutcome (readFile (now (file .entry))) (now (sheet .entry)) budget ⌝ }
     ensures bytes { λ _. ⌜ IsBytes (now (file .entry)) ⌝ }
 {
-    let rated = rate(file, sheet);
+    let both = rate_and_search(file, sheet, budget);
+    let rated = both.rated;
+    let found = both.found;
     match rated {
         RateAnswer::Refused { number, place } => MarkAnswer::Refused { number, place },
-        RateAnswer::Rated { least, sum } => {
-            let mut row = [0i32; Network::MAX_LINES];
-            let count = sheet.len();
-            let found = search(file, &mut row[..count], budget);
-            marked(least, sum, found)
-        }
+        RateAnswer::Rated { least, sum } => marked(least, sum, found),
     }
 }

@@ -241,6 +241,12 @@ pub enum RateAnswer {
     Refused { number: u8, place: usize },
 }
 
+// What rate answers for each of two sheets.
+pub struct RatedBoth {
+    pub first: RateAnswer,
+    pub second: RateAnswer,
+}
+
 // What the class call answers.
 pub enum ClassAnswer {
     Classes { count: u32 },

@@ -9,6 +9,7 @@ pub mod wanted;
 
 use network::Check;
 use network::Network;
+use network::RateAnswer;
 use network::Rating;
 
 // What the search call answers.
@@ -17,6 +18,12 @@ pub enum SearchAnswer {
     Stopped { least: u32, sum: u32, tries: u32 },
     StoppedWithNone { tries: u32 },
     Refused { number: u8, place: usize },
+}
+
+// What rate and search answer on one file.
+pub struct RatedAndSearched {
+    pub rated: RateAnswer,
+    pub found: SearchAnswer,
 }
 
 // What the call with a wanted gap answers.

@@ -58,7 +58,7 @@ fn unplaced(network: Network) -> Placed
 }
 
 // The walk over a network by a rule.
-fn walked(network: Network, rule: Rule, budget: u32) -> Walk
+pub fn walked(network: Network, rule: Rule, budget: u32) -> Walk
     requires { ⌜ Sound network × Valid (netOf network) ⌝ }
     ensures { λ r. ⌜ rows.stateOf (netOf network) r ≡ spec.walked (netOf network) (rows.ruleOf rule) budget ⌝ }
 {

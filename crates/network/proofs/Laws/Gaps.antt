@@ -26,6 +26,8 @@ pub use Rattle.network.proofs.Laws.Rating.{ratingBy-least-mono, ratingB
 pub use Rattle.network.proofs.Laws.Rate.{ratingBy-same, counted-of-member, counted-served}
 -- the rating, and over all trips
 pub use Rattle.network.proofs.Laws.Rating.{rating-is-ratingBy, rating-some, rating-numbers, rating-is-rating, IsRating-unique}
+-- .. and what rate answers of it where the file is refused
+pub use Rattle.network.proofs.Laws.Refusals.{rate-refused}
 -- starts that rate alike
 pub use Rattle.network.proofs.Laws.Starts.{rating-residues, rating-moved-together}
 -- two files of one network: the same periods, and the calls of each stop in another order

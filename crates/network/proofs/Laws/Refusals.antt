@@ -1,7 +1,7 @@
 -- When the network's calls refuse, both ways: each answer's definition goes by the reading and by one test of what else was lent. Assumes
 -- nothing.
 use Prim.Native.Nat.{ℕ}
-use mathlib.Core.Path.{_≡_, refl, ap, ap₂, _∙_}
+use mathlib.Core.Path.{_≡_, refl, sym, ap, ap₂, _∙_}
 use mathlib.Core.Bool.{Bool, true, false, _&&_}
 use mathlib.Core.List.{List, [], _∷_}
 use mathlib.Core.Logic.{inl, inr}
@@ -9,13 +9,15 @@ use borrow.Author.Tests.{eqb-true, eqb-false, eq-eqb, ne-eqb}
 use lib.Dec.{eqb}
 use lib.IntN.{ℤ}
 use lib.ListN.{length}
+use Rattle.network.specs.declared.RateAnswer.the-variants as answer
 use Rattle.network.specs.declared.Rating.{Rating}
 use Rattle.network.specs.Lists.{pick}
 use Rattle.network.specs.Network.{Net, stopCount}
 use Rattle.network.specs.Reading.{Reading, accepted, refused, values, refusal, readFile, readOutcome}
 use Rattle.network.specs.Gives.{Gives}
 use Rattle.network.specs.Refusals.{Refuses, by-file, after-file, Unfit, Not64}
-use Rattle.network.specs.Rate.{ratingValues, onSheet, ratedOnSheet}
+use Rattle.network.specs.Rating.{rating}
+use Rattle.network.specs.Rate.{rateAnswer, ratingValues, onSheet, ratedOnSheet, rateOutcome}
 use Rattle.network.specs.Classes.{classCount, classRow, weightRow}
 use Rattle.network.specs.ClassCall.{rowsFit, classOutcome, classRowAfter, weightRowAfter}
 use Rattle.network.proofs.Laws.Lists.{zero-ne-one, and-both, and-not-left, and-not-right}
@@ -110,6 +112,12 @@ module _ (rates : Net → List ℤ → Rating) (file : List ℕ) (sheet : List �
       → ratedOnSheet rates (readFile file) sheet ≡ values (rates n sheet .least ∷ rates n sheet .sum ∷ [])
   unfolding ratingValues
   sheet-answers = on-sheet-answers _ refusal file sheet
+
+-- What rate answers where the file is refused
+pub rate-refused : (file : List ℕ) (sheet : List ℤ) {number place : ℕ} → readFile file ≡ refused number place
+    → rateAnswer (answer.Refused number place) ≡ rateOutcome (readFile file) sheet
+unfolding rateAnswer rateOutcome
+rate-refused file sheet e = sym (sheet-refuses rating file sheet (by-file e))
 
 -- ---- the class call
 

@@ -17,6 +17,7 @@ use Rattle.network.specs.Network.{maxLines, maxCycle, maxStop, maxCalls,
 use Rattle.network.specs.Valid.{Valid, IsBytes, noCall}
 use Rattle.network.specs.Reading.{accepted, refused}
 use Rattle.network.specs.Grounds.{first, grounds}
+use Rattle.network.specs.Engine.Scan.{Lent}
 use Rattle.network.specs.Engine.Stored.{netOf, packed, callIn, callsIn, Sound, HasTotals, IsParsed, readingOf}
 use Rattle.network.proofs.Laws.Lists.{zero-ne-one, map-set, take-set-next}
 use Rattle.network.proofs.Laws.Divisor.{lcm-pos}
@@ -189,6 +190,19 @@ call-of-parsed c f p behind call (passes, inr (is, made)) =
 pub held-periods : (n : Network) → netOf n .periods ≡ take (n .lines) (n .periods)
 unfolding netOf
 held-periods n = refl
+
+-- its rows, lent in its place
+abbrev pub lentRows : (n : Network) → Sound n → Valid (netOf n) → Lent (n .periods) (n .list) (n .lines) (n .count)
+lentRows n s v =
+    record {
+      network = n;
+      sound = s;
+      valid = v;
+      periods-are = refl;
+      list-is = refl;
+      lines-are = sym (held-lines n s);
+      calls-are = refl;
+    }
 
 -- without its calls
 abbrev pub callsDropped : Network → Network

@@ -12,26 +12,24 @@ use Rattle.examination.proofs.better.choose.Tie as tie
 
 -- The better of the two by the ratings at hand
 by-ratings : (c : tie.After-is-above)
-    → betterOf (readFile (c .before .before .before .before .before .before .args .file .now)) (c .before .before .before .before .before .before .args .first .now) (c .before .before .before .before .before .before .args .second .now)
-    ≡ pick (c .is-above .result) second (pick (c .before .before .before .rating-from .result .some) first neither)
+    → betterOf (readFile (c .before .before .before .before .before .args .file .now)) (c .before .before .before .before .before .args .first .now) (c .before .before .before .before .before .args .second .now)
+    ≡ pick (c .is-above .result) second (pick (c .before .before .rating-from .result .some) first neither)
 unfolding betterFrom
 by-ratings c =
-    let s = c .before .before .before .before .before .before in
+    let s = c .before .before .before .before .before in
+    let both = c .before .before .before .rate-both in
     let read = readFile (s .args .file .now) in
-    let one = c .before .before .before .rating-from .ensures ∙ ratingOn-of-rate read (s .args .first .now) _ (c .before .before .before .before .rate .ensures .0) in
-    let other = c .before .rating-from2 .ensures ∙ ratingOn-of-rate read (s .args .second .now) _ (c .before .before .rate2 .ensures .0) in
+    let one = c .before .before .rating-from .ensures ∙ ratingOn-of-rate read (s .args .first .now) _ (both .ensures .0) in
+    let other = c .before .rating-from2 .ensures ∙ ratingOn-of-rate read (s .args .second .now) _ (both .ensures .1 .0) in
     betterOf-from read (s .args .first .now) (s .args .second .now)
     ∙ ap₂ betterFrom (sym one) (sym other)
-    ∙ ap (λ (b : Bool). pick b second (pick (c .before .before .before .rating-from .result .some) first neither)) (sym (c .is-above .ensures))
+    ∙ ap (λ (b : Bool). pick b second (pick (c .before .before .rating-from .result .some) first neither)) (sym (c .is-above .ensures))
 
-rate-requires : tie.Need-rate-requires
-rate-requires c κs = search needs
+rate-both-requires : tie.Need-rate-both-requires
+rate-both-requires c κs = search needs
 
 rating-from-requires : tie.Need-rating-from-requires
 rating-from-requires c κs = search needs
-
-rate-requires-2 : tie.Need-rate-requires-2
-rate-requires-2 c κs = search needs
 
 rating-from-requires-2 : tie.Need-rating-from-requires-2
 rating-from-requires-2 c κs = search needs
@@ -44,8 +42,8 @@ unfolding choiceOf
 returns c = (
   sym
       (by-ratings (c .before)
-      ∙ ap (λ (b : Bool). pick b second (pick (c .before .before .before .before .rating-from .result .some) first neither)) (c .if1 .taken)),
-  c .before .before .before .before .before .rate .ensures .1,
+      ∙ ap (λ (b : Bool). pick b second (pick (c .before .before .before .rating-from .result .some) first neither)) (c .if1 .taken)),
+  c .before .before .before .before .rate-both .ensures .1 .1,
 )
 
 returns-2 : tie.Need-returns-2
@@ -54,7 +52,7 @@ returns-2 c = (
   sym
       (by-ratings (c .before .before)
       ∙ ap₂ (λ (b d : Bool). pick b second (pick d first neither)) (c .before .if1 .left) (c .if2 .taken)),
-  c .before .before .before .before .before .before .rate .ensures .1,
+  c .before .before .before .before .before .rate-both .ensures .1 .1,
 )
 
 returns-3 : tie.Need-returns-3
@@ -63,16 +61,15 @@ returns-3 c = (
   sym
       (by-ratings (c .before .before)
       ∙ ap₂ (λ (b d : Bool). pick b second (pick d first neither)) (c .before .if1 .left) (c .if2 .left)),
-  c .before .before .before .before .before .before .rate .ensures .1,
+  c .before .before .before .before .before .rate-both .ensures .1 .1,
 )
 
 pub choose-spec : {M : Type 1} → statement M
 choose-spec =
     tie.close
     (tie.spec
-    rate-requires
+    rate-both-requires
     rating-from-requires
-    rate-requires-2
     rating-from-requires-2
     is-above-requires
     returns
