@@ -2,11 +2,10 @@
 //! nobody but the wrapper makes a best.
 
 use crate::sections;
-use crate::sections::network::Network;
 use crate::sections::sheets::Marked;
 use crate::sections::walk::{Answer, Walked};
 use crate::sections::wanted::{self, Sought};
-use engine::{Counts, Ground, Mark, Rating, Refusal, Searched, Wanted};
+use engine::{Better, Counts, Ground, Mark, Rating, Refusal, Searched, Wanted};
 
 pub fn refusal(paper: sections::network::Refusal) -> Refusal {
     let number = u32::from(paper.number);
@@ -29,13 +28,20 @@ pub fn rating_or_refusal(
     paper.map(rated).map_err(refusal)
 }
 
-pub fn counts(net: &Network) -> Counts {
-    let counts = net.counts();
+pub fn counts(paper: sections::network::Counts) -> Counts {
     Counts {
-        lines: counts.lines as u32,
-        served_stops: counts.served_stops as u32,
-        calls: counts.calls as u32,
-        cycle: counts.cycle,
+        lines: paper.lines as u32,
+        served_stops: paper.served_stops as u32,
+        calls: paper.calls as u32,
+        cycle: paper.cycle,
+    }
+}
+
+pub fn better(paper: sections::sheets::Better) -> Better {
+    match paper {
+        sections::sheets::Better::First => Better::First,
+        sections::sheets::Better::Second => Better::Second,
+        sections::sheets::Better::Neither => Better::Neither,
     }
 }
 

@@ -3,6 +3,7 @@
 
 mod archive;
 mod best;
+mod cycle;
 mod given;
 mod loops;
 mod network;
