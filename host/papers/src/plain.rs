@@ -1,29 +1,87 @@
-//! Rate as one writes it by hand to be quick, for the benchmark alone: what the
-//! engine's time is measured by. [`crate::sections`] is written to be read beside
-//! document 01 and says nothing about speed. Everything lies in rows of fixed
-//! length, so that a call takes nothing from the heap.
+//! The calls of a hall as one writes them by hand to be quick, for the benchmark
+//! alone: what the engine's time is measured by. [`crate::sections`] is written to
+//! be read beside document 01 and says nothing about speed. Everything lies in rows
+//! of fixed length, so that reading and rating take nothing from the heap; only the
+//! walk of a mark does.
 
 use crate::sections::network::{
-    Refusal, CALL, END, FOLLOW, LINE, MAX_CALLS, MAX_CYCLE, MAX_LINES, MAX_OFFSET, MAX_PERIOD,
-    STOPS,
+    self, Call, Counts, Refusal, CALL, END, FOLLOW, LINE, MAX_CALLS, MAX_CYCLE, MAX_LINES,
+    MAX_OFFSET, MAX_PERIOD, STOPS,
 };
 use crate::sections::rating::Rating;
+use crate::sections::sheets::{Better, Marked};
+use crate::sections::walk::Walked;
 
 /// A number for each line.
 type LineRow = [u32; MAX_LINES];
 
-/// Rates a sheet of 4 bytes for each start, or refuses on the grounds of
-/// document 01.
+/// The greatest common divisors of the periods of each two lines.
+type Divisors = [LineRow; MAX_LINES];
+
+const WRONG_LENGTH: Refusal = Refusal {
+    number: 15,
+    place: 0,
+};
+
+/// Counts what a file has, or refuses it on the grounds of document 01.
+pub fn read(file: &[u8]) -> Result<Counts, Refusal> {
+    let mut net = Network::empty();
+    net.read(file)?;
+    Ok(net.counts())
+}
+
+/// Rates a sheet of 4 bytes for each start, or refuses as [`read`] does and then
+/// by ground 15.
 pub fn rate(file: &[u8], sheet: &[u8]) -> Result<Rating, Refusal> {
     let mut net = Network::empty();
     net.read(file)?;
-    if sheet.len() != 4 * net.lines {
-        return Err(Refusal {
-            number: 15,
-            place: 0,
-        });
+    if !net.fits(sheet) {
+        return Err(WRONG_LENGTH);
     }
-    Ok(net.rating(&net.starts(sheet)))
+    Ok(net.rating(&net.starts(sheet), &net.divisors()))
+}
+
+/// Says which of two sheets is the better. The file is read once, and where only
+/// one sheet fits nothing is rated.
+pub fn better(file: &[u8], first: &[u8], second: &[u8]) -> Better {
+    let mut net = Network::empty();
+    if net.read(file).is_err() {
+        return Better::Neither;
+    }
+    match (net.fits(first), net.fits(second)) {
+        (true, true) => {
+            let divisors = net.divisors();
+            let [one, other] =
+                [first, second].map(|sheet| net.rating(&net.starts(sheet), &divisors));
+            if other > one {
+                Better::Second
+            } else {
+                Better::First
+            }
+        }
+        (true, false) => Better::First,
+        (false, true) => Better::Second,
+        (false, false) => Better::Neither,
+    }
+}
+
+/// Marks a sheet by a walk over the papers' network, which is made of what was
+/// read here, so that the file is read once. Which walk is quick depends on its
+/// length: that of [`crate::strong`] fills tables first, which only many tries
+/// make up for.
+pub fn mark_by(
+    walk: impl Fn(&network::Network, u32) -> Walked,
+    file: &[u8],
+    sheet: &[u8],
+    budget: u32,
+) -> Result<Marked, Refusal> {
+    let mut net = Network::empty();
+    net.read(file)?;
+    if !net.fits(sheet) {
+        return Err(WRONG_LENGTH);
+    }
+    let rating = net.rating(&net.starts(sheet), &net.divisors());
+    Ok(Marked::by(rating, walk(&net.of_papers(), budget).answer))
 }
 
 /// What has been read of a file.
@@ -152,6 +210,38 @@ impl Network {
         }
         Ok(())
     }
+
+    fn counts(&self) -> Counts {
+        Counts {
+            lines: self.lines,
+            served_stops: self.last.iter().filter(|&&last| last != 0).count(),
+            calls: self.count,
+            cycle: self.cycle,
+        }
+    }
+
+    /// The same network as the papers have it, its calls in their order.
+    fn of_papers(&self) -> network::Network {
+        let mut calls: Vec<Call> = (0..STOPS).flat_map(|stop| self.calls_at(stop)).collect();
+        calls.sort_unstable();
+        network::Network {
+            periods: self.periods[..self.lines].to_vec(),
+            calls,
+            cycle: self.cycle,
+        }
+    }
+
+    /// The calls at a stop, the latest first.
+    fn calls_at(&self, stop: usize) -> impl Iterator<Item = Call> + '_ {
+        let numbered = |number: u16| (number != 0).then(|| usize::from(number) - 1);
+        let latest = numbered(self.last[stop]);
+        let all = std::iter::successors(latest, move |&at| numbered(self.before[at]));
+        all.map(move |at| Call {
+            line: self.calls[at] as usize / 65_536,
+            stop,
+            offset: self.calls[at] % 65_536,
+        })
+    }
 }
 
 fn number(high: u8, low: u8) -> u32 {
@@ -170,6 +260,11 @@ fn divisor(mut a: u32, mut b: u32) -> u32 {
 // ---------------------------------------------------------------------------
 
 impl Network {
+    /// Whether a sheet has one start for each line.
+    fn fits(&self, sheet: &[u8]) -> bool {
+        sheet.len() == 4 * self.lines
+    }
+
     /// The sheet's starts, each less than its line's period, so that no
     /// arrival has a sign. Whole periods change no gap.
     fn starts(&self, sheet: &[u8]) -> LineRow {
@@ -181,15 +276,14 @@ impl Network {
         starts
     }
 
-    fn rating(&self, starts: &LineRow) -> Rating {
-        let divisors = self.divisors();
+    fn rating(&self, starts: &LineRow, divisors: &Divisors) -> Rating {
         let mut rating = Rating {
             least: u32::MAX,
             sum: 0,
         };
         for stop in 0..STOPS {
             if self.last[stop] != 0 {
-                let gap = self.stop_gap(stop, starts, &divisors);
+                let gap = self.stop_gap(stop, starts, divisors);
                 rating.least = rating.least.min(gap);
                 rating.sum += gap;
             }
@@ -199,7 +293,7 @@ impl Network {
 
     /// The greatest common divisors of the periods of each two lines, and of one
     /// line its period. Two lines may meet at many stops.
-    fn divisors(&self) -> [LineRow; MAX_LINES] {
+    fn divisors(&self) -> Divisors {
         let mut divisors = [[0; MAX_LINES]; MAX_LINES];
         for line in 0..self.lines {
             divisors[line][line] = self.periods[line];
@@ -215,7 +309,7 @@ impl Network {
     /// A lone call's period, else the least by theorem 3.1.2 over the pairs of
     /// calls. Of the difference of two arrivals the sign doesn't matter: it
     /// exchanges d and g-d.
-    fn stop_gap(&self, stop: usize, starts: &LineRow, divisors: &[LineRow; MAX_LINES]) -> u32 {
+    fn stop_gap(&self, stop: usize, starts: &LineRow, divisors: &Divisors) -> u32 {
         let call = |number: u16| {
             let at = usize::from(number) - 1;
             let (line, offset) = (self.calls[at] / 65_536, self.calls[at] % 65_536);

@@ -7,9 +7,9 @@
 //! least of some look-ups, and a try that falls by it is dropped before any stop
 //! is touched. For the others a second table has the gaps at those stops.
 
-use crate::sections::caps::{caps, upper_rating};
+use crate::sections::caps::caps;
 use crate::sections::network::{Call, Network, STOPS};
-use crate::sections::rating::{divisor, nearer, remainder, Rating};
+use crate::sections::rating::{divisor, nearer, rating_of_gaps, remainder, Rating};
 use crate::sections::walk::{Answer, Walked};
 
 /// A number for each stop, or for each stop of a line.
@@ -70,10 +70,15 @@ pub fn walk(net: &Network, budget: u32) -> Walked {
 impl Walker {
     fn new(net: &Network, budget: u32) -> Walker {
         let lines = net.lines();
+        let caps = caps(net);
+        let served: Vec<u32> = net.served_stops().iter().map(|&stop| caps[stop]).collect();
+        let calls = calls_of_stops(net);
         Walker {
-            lines: (0..lines).map(|line| Line::new(net, line)).collect(),
-            uppers: vec![caps(net).map(|cap| cap as u16); lines + 1],
-            ratings: vec![upper_rating(net, 0, &[]); lines + 1],
+            lines: (0..lines)
+                .map(|line| Line::new(net, &calls, line))
+                .collect(),
+            uppers: vec![caps.map(|cap| cap as u16); lines + 1],
+            ratings: vec![rating_of_gaps(&served); lines + 1],
             starts: vec![0; lines],
             best: None,
             best_starts: vec![0; lines],
@@ -168,19 +173,31 @@ impl Walker {
     }
 }
 
+/// The calls of each stop, in one pass: short walks take hardly longer than what
+/// goes before them.
+fn calls_of_stops(net: &Network) -> Vec<Vec<Call>> {
+    let mut calls = vec![Vec::new(); STOPS];
+    for &call in &net.calls {
+        calls[call.stop].push(call);
+    }
+    calls
+}
+
 impl Line {
-    fn new(net: &Network, line: usize) -> Line {
-        let calls_at = |line: usize, stop: usize| {
-            let there = |call: &Call| (call.line, call.stop) == (line, stop);
-            net.calls.iter().any(there)
-        };
+    /// The calls are those of each stop.
+    fn new(net: &Network, calls: &[Vec<Call>], line: usize) -> Line {
+        let calls_at = |line: usize, stop: usize| calls[stop].iter().any(|call| call.line == line);
         let meets = |stop: usize| (0..line).any(|earlier| calls_at(earlier, stop));
         let stops: Vec<usize> = (0..STOPS)
             .filter(|&stop| calls_at(line, stop) && meets(stop))
             .collect();
         let meetings = (0..line)
             .filter(|&earlier| stops.iter().any(|&stop| calls_at(earlier, stop)))
-            .map(|earlier| Meeting::new(net, earlier, line, &stops))
+            .map(|earlier| {
+                let g = divisor(net.periods[line], net.periods[earlier]);
+                let differences = |&stop: &usize| differences(&calls[stop], line, earlier);
+                Meeting::new(earlier, g, stops.iter().map(differences).collect())
+            })
             .collect();
         Line {
             choices: if line == 0 { 1 } else { net.periods[line] },
@@ -191,8 +208,8 @@ impl Line {
 }
 
 impl Meeting {
-    fn new(net: &Network, earlier: usize, line: usize, stops: &[usize]) -> Meeting {
-        let g = divisor(net.periods[line], net.periods[earlier]);
+    /// The shifts are, for each stop, the differences of the two lines' offsets.
+    fn new(earlier: usize, g: u32, shifts: Vec<Vec<i64>>) -> Meeting {
         let mut meeting = Meeting {
             earlier,
             g: g as usize,
@@ -200,10 +217,6 @@ impl Meeting {
             gaps: Vec::new(),
             apart: 0,
         };
-        let shifts: Vec<Vec<i64>> = stops
-            .iter()
-            .map(|&stop| differences(net, line, earlier, stop))
-            .collect();
         for apart in 0..i64::from(g) {
             let gap = |shift: &i64| nearer(remainder(apart + shift, g), g) as u16;
             let mut least = u16::MAX;
@@ -218,9 +231,8 @@ impl Meeting {
     }
 }
 
-/// Each offset of the line at a stop less each of the earlier line's.
-fn differences(net: &Network, line: usize, earlier: usize, stop: usize) -> Vec<i64> {
-    let calls = net.calls_at(stop);
+/// Of a stop's calls each offset of the line less each of the earlier line's.
+fn differences(calls: &[Call], line: usize, earlier: usize) -> Vec<i64> {
     let offsets = |line: usize| {
         let of_line = calls.iter().filter(move |call| call.line == line);
         of_line.map(|call| i64::from(call.offset))

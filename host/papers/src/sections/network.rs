@@ -68,9 +68,8 @@ impl Network {
 
     /// The calls at a stop by line, those of one line by offset.
     pub fn calls_at(&self, stop: usize) -> Vec<Call> {
-        let mut calls = self.calls.clone();
-        calls.retain(|call| call.stop == stop);
-        calls
+        let there = |call: &&Call| call.stop == stop;
+        self.calls.iter().filter(there).copied().collect()
     }
 
     /// The period of a call's line.

@@ -27,6 +27,23 @@ pub enum Marked {
     Undecided { sheet: Rating, tries: u32 },
 }
 
+impl Marked {
+    /// The mark of a sheet of this rating after a search.
+    pub fn by(sheet: Rating, searched: Answer) -> Marked {
+        match searched {
+            Answer::Finished { best, tries } => Marked::Decided {
+                sheet,
+                best,
+                equal: sheet == best,
+                tries,
+            },
+            Answer::Stopped { tries, .. } | Answer::StoppedWithNone { tries } => {
+                Marked::Undecided { sheet, tries }
+            }
+        }
+    }
+}
+
 /// Reads the file, then tests the sheet's length.
 fn read_both(file: &[u8], sheet: &[i32]) -> Result<Network, Refusal> {
     let net = read(file)?;
@@ -72,17 +89,7 @@ pub fn better_of_two<'a>(file: &[u8], first: &'a [i32], second: &'a [i32]) -> &'
 pub fn mark(file: &[u8], sheet: &[i32], budget: u32) -> Result<Marked, Refusal> {
     let net = read_both(file, sheet)?;
     let sheet = rating(&net, &whole(sheet));
-    Ok(match walk(&net, budget).answer {
-        Answer::Finished { best, tries } => Marked::Decided {
-            sheet,
-            best,
-            equal: sheet == best,
-            tries,
-        },
-        Answer::Stopped { tries, .. } | Answer::StoppedWithNone { tries } => {
-            Marked::Undecided { sheet, tries }
-        }
-    })
+    Ok(Marked::by(sheet, walk(&net, budget).answer))
 }
 
 /// Rate as the hall's host program calls it, the sheet as bytes.
