@@ -9,8 +9,8 @@
 //! * [`files`] makes network files and sheets, good and bad, from a seed, and
 //!   [`small`] networks so small that every timetable can be rated.
 //! * [`answers`] has the papers' answers in the types of the engine's wrapper.
-//! * [`plain`] is rate in quick Rust by hand, [`strong`] the walk, and [`measure`]
-//!   measures the engine's rate call beside the one.
+//! * [`plain`] is a hall's calls in quick Rust by hand, [`strong`] the walk, and
+//!   [`measure`] measures the engine's calls beside the former.
 //! * [`program`] runs the proved engine's program `best`, and [`child`] ends a
 //!   process that hangs.
 

@@ -1,17 +1,26 @@
-//! Measures the proved engine's program `best` beside the walk of `strong` on
-//! fixed generated networks of 4, 8, 16 lines and 8, 32, 64 stops whose searches
-//! stop at the budget of 1,000,000 tries. Both must print the papers' line.
-//! Prints one row for each network with the processor time per try of both, in
-//! nanoseconds, the least of some runs, and at last the geometric mean of the
-//! ratios.
-//! Behind that, a row for each network with the processor time per rate call of
-//! the engine's library and of `plain::rate`, and with the weighted rating's
-//! time over the rate call's, and the geometric means of the ratios. A ratio
-//! below 1 says that the engine is quicker.
+//! Prints three tables, or the one that is named: `walk`, `rates` or `hall`. Each
+//! ends with the geometric means of its ratios; one below 1 says that the engine
+//! is quicker.
 //!
-//! Run with `cargo run --release --offline --bin bench`, after `.ci/run`.
+//! `walk` measures the proved engine's program `best` beside the walk of `strong`
+//! on fixed generated networks of 4, 8, 16 lines and 8, 32, 64 stops whose searches
+//! stop at the budget of 1,000,000 tries. Both must print the papers' line. It has
+//! a row for each network with the processor time per try of both, in nanoseconds,
+//! the least of some runs.
+//!
+//! `rates` has a row for each network with the processor time per rate call of the
+//! engine's library and of `plain::rate`, and with the weighted rating's time over
+//! the rate call's.
+//!
+//! `hall` has two rows for each network, one for the engine's library and one for
+//! `plain`, with the read, rate, better and mark calls per second, and with the time
+//! of a read in per cent of that of the others.
+//!
+//! Run with `cargo run --release --offline --bin bench`, after `.ci/run`, or with
+//! `-- hall` behind it for one table.
 
 use papers::files::{dense_file, Dice};
+use papers::measure;
 use papers::program;
 use papers::sections::best::{best, best_by};
 use papers::sections::network::read;
@@ -34,21 +43,53 @@ struct Times {
 }
 
 fn main() {
+    let words = std::env::args_os().skip(1);
+    let words: Vec<String> = words
+        .map(|word| word.to_string_lossy().into_owned())
+        .collect();
+    match words.iter().map(String::as_str).collect::<Vec<_>>()[..] {
+        [] => print_all(),
+        ["walk"] => print_walks(),
+        ["rates"] => print_rates(),
+        ["hall"] => print_hall(),
+        _ => {
+            eprintln!("usage: bench [walk | rates | hall]");
+            exit(2);
+        }
+    }
+}
+
+fn print_all() {
+    print_walks();
+    println!();
+    print_rates();
+    println!();
+    print_hall();
+}
+
+fn print_rates() {
+    let clock = Instant::now();
+    measure::print_rates(|| time_of_thread(&clock));
+}
+
+fn print_hall() {
+    let clock = Instant::now();
+    measure::print_hall(|| time_of_thread(&clock));
+}
+
+fn print_walks() {
     println!("lines stops calls seed  engine ns/try  rust ns/try  ratio");
     let mut logarithms = Vec::new();
     for lines in [4, 8, 16] {
         for stops in [8, 32, 64] {
             let (seed, file) = long_search(lines, stops);
-            let times = measure(&file);
+            let times = both_times(&file);
             print_row(seed, &file, times);
             logarithms.push((times.engine / times.rust).ln());
         }
     }
     let mean = logarithms.iter().sum::<f64>() / logarithms.len() as f64;
     println!("geometric mean {:41.2}", mean.exp());
-    println!();
-    let clock = Instant::now();
-    papers::measure::print_rates(|| time_of_thread(&clock));
 }
 
 /// The file of the first seed whose search takes more than 1,000,000 tries.
@@ -77,7 +118,7 @@ fn print_row(seed: u64, file: &[u8], times: Times) {
 
 /// The least times of some runs. The two take turns, so that other work on the
 /// machine hits both.
-fn measure(file: &[u8]) -> Times {
+fn both_times(file: &[u8]) -> Times {
     let line = best(file);
     let mut least = Times {
         engine: f64::INFINITY,
