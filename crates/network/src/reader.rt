@@ -371,15 +371,14 @@ pub fn read(file: &[u8]) -> ReadAnswer
     ensures bytes { λ _. ⌜ IsBytes (now (file .entry)) ⌝ }
 {
     let step = read_network(file);
-    let network = step.network;
     let check = step.check;
     match check {
         Check::Refused { number, place } => ReadAnswer::Refused { number, place },
         Check::Passes => ReadAnswer::Accepted {
-            lines: network.lines as u32,
-            stops: served_stops(&network.list, network.count),
-            calls: network.count as u32,
-            cycle: network.cycle,
+            lines: step.network.lines as u32,
+            stops: served_stops(&step.network.list, step.network.count),
+            calls: step.network.count as u32,
+            cycle: step.network.cycle,
         },
     }
 }

@@ -40,7 +40,7 @@ cast-t9 : tie.Need-cast-t9
 cast-t9 c = search needs
 
 served-stops-requires : tie.Need-served-stops-requires
-served-stops-requires c κs = let s = c .before .before .before .before .before .read-network .ensures .0 in (s .calls, s .list-row)
+served-stops-requires c κs = let s = c .before .before .before .before .read-network .ensures .0 in (s .calls, s .list-row)
 
 cast-t14 : tie.Need-cast-t14
 cast-t14 c = search needs
@@ -48,20 +48,20 @@ cast-t14 c = search needs
 returns : tie.Need-returns
 unfolding readAnswer readOutcome readingOf
 returns c =
-    let r = c .before .before .before .before .read-network in (
+    let r = c .before .before .before .read-network in (
       sym (ap readOutcome (sym (r .ensures .1) ∙ ap (λ (k : Check). readingOf k (r .result .network)) (c .before .check .given .1))),
-      bytes-here (c .before .before .before .before),
+      bytes-here (c .before .before .before),
     )
 
 returns-2 : tie.Need-returns-2
 unfolding readAnswer readOutcome readingOf servedStops netOf
 returns-2 c =
     let t = c .before .before .before in
-    let r = t .before .before .before .read-network in
+    let r = t .before .before .read-network in
     let n = r .result .network in (
       values-are n (c .served-stops .result) (r .ensures .0) (c .served-stops .ensures)
           ∙ sym (ap readOutcome (sym (r .ensures .1) ∙ ap (λ (k : Check). readingOf k n) (t .enum-told .given .1))),
-      bytes-here (t .before .before .before),
+      bytes-here (t .before .before),
     )
 
 pub read-spec : {M : Type 1} → statement M
