@@ -105,3 +105,11 @@ pub use Rattle.examination.proofs.ExportWanted.{wanted-export-beside-se
 -- Found and none are the same under every larger budget
 pub use Rattle.search.proofs.WantedGap.{wanted-with-more-tries}
 pub use Rattle.examination.proofs.ExportWanted.{wanted-export-with-more-tries}
+-- ---- Document 02, A.4
+
+-- "it is to keep a running value, brought forward at each `4C` from that value and the new period alone. After each accepted `4C` it is the least common
+-- multiple of all periods so far": by divisibility, at every place to which reading comes; and so is the number that the reader's loop keeps, at every
+-- turn. "Every answer is as before": the demands above, in the words they had
+pub use Rattle.network.proofs.RunningCycle.{running-cycle, no-other-cycle, one-before-the-first, line-brings-forward, others-keep-it}
+pub use Rattle.network.proofs.RunningCycle.{refused-line-keeps-nothing, every-turn}
+pub use Rattle.network.proofs.RunningCycle.{cycles-on-the-way, eleven-is-refused, line-behind-calls}
