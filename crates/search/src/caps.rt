@@ -6,6 +6,7 @@ use network::gaps::gap;
 ghost use mathlib.Core.Path.{_≡_};
 ghost use mathlib.Core.List.{map, _++_, _∷_, []};
 ghost use Prim.Native.Nat.{ℕ, _/_, _<_, _≤_};
+ghost use lib.Dec.{ltb};
 ghost use lib.IntN.{pos, _-ℤ_};
 ghost use lib.ListN.{length, getD};
 ghost use Rattle.network.specs.Network as net;
@@ -128,14 +129,17 @@ fn cap_of(network: Network, stop: u8) -> u32
     }
 }
 
-// The caps of all stops, 0 for those that are not served.
-pub fn cap_row(network: Network) -> [u16; Network::STOPS]
+// The caps of all stops: those that aren't served, most of them in a small network, have 0 and aren't looked at.
+pub fn cap_row(network: Network, served: [u8; Network::STOPS]) -> [u16; Network::STOPS]
     requires { ⌜ Sound network × Valid (netOf network) ⌝ }
+    requires { ⌜ ((stop : ℕ) → stop < net.stopCount → ltb 0 (getD served stop 0) ≡ net.isServed stop (netOf network .calls)) ⌝ }
     ensures { λ r. ⌜ ((stop : ℕ) → stop < net.stopCount → getD r stop 0 ≡ cap (netOf network) stop) ⌝ }
 {
     let mut row = [0u16; Network::STOPS];
     for stop in 0..Network::STOPS {
-        row[stop] = cap_of(network, stop as u8) as u16;
+        if 0 < served[stop] {
+            row[stop] = cap_of(network, stop as u8) as u16;
+        }
     }
     row
 }

@@ -44,8 +44,8 @@ fn unplaced(network: Network) -> Placed
     requires { ⌜ Sound network × Valid (netOf network) ⌝ }
     ensures { λ r. ⌜ rows.Represents (netOf network) 0 r ⌝ }
 {
-    let caps = cap_row(network);
     let served = served_row(network);
+    let caps = cap_row(network, served);
     let weights = [1u16; Network::STOPS];
     let wide = widened(&caps);
     let upper = rating_over(&wide, &served, &weights);

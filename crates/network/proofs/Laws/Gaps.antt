@@ -12,7 +12,7 @@ pub use Rattle.network.proofs.Laws.Pairs.{gapOfStop-le-pair, gapOfStop-
 pub use Rattle.network.proofs.Laws.Pairs.{leastFrom-pairGaps-few, leastFrom-pairGaps-more}
 pub use Rattle.network.proofs.Laws.Permuted.{gapOfStop-permuted}
 -- the calls of a stop
-pub use Rattle.network.proofs.Laws.StopGap.{callsOfStop-is, callsOfStop-stated, callsOfStop-period-pos, served-of-call, stopGap-is, IsStopGap-unique}
+pub use Rattle.network.proofs.Laws.StopGap.{callsOfStop-is, callsOfStop-unserved, callsOfStop-stated, callsOfStop-period-pos, served-of-call, stopGap-is, IsStopGap-unique}
 -- those among the first calls, and the row that leads back through them
 pub use Rattle.network.proofs.Laws.Scan.{callsBefore-none, callsBefore-is, callsBefore-all, callsBefore-hit, callsBefore-miss}
 pub use Rattle.network.proofs.Laws.Scan.{length-callsBefore, callsOfStop-held, leastFrom-pairGaps-snoc}

@@ -12,7 +12,7 @@ use native.Mathlib.Omega.{arith}
 use lib.ListN.{length, getD, take, length-append, length-take, take-append-drop}
 use lib.Seq.{take-suc, getD-take}
 use Rattle.network.specs.Lists.{pick, any, keep, pairsOf}
-use Rattle.network.proofs.Laws.Lists.{zero-ne-one, or-left, or-right, map-same-places}
+use Rattle.network.proofs.Laws.Lists.{zero-ne-one, or-left, or-right, or-neither, map-same-places}
 
 -- ---- by places; `d` is what is read behind a list's end
 
@@ -119,6 +119,11 @@ module _ {A : Type 0} where
     unfolding keep
     keep-none f [] = refl
     keep-none f (x ∷ xs) = rw (f x) (keep-none f xs)
+
+    pub keep-of-any-false : (xs : List A) → any p xs ≡ false → keep p xs ≡ []
+    unfolding any keep
+    keep-of-any-false [] e = refl
+    keep-of-any-false (x ∷ xs) e = let (none, others) = or-neither (p x) (any p xs) e in rw none (keep-of-any-false xs others)
 
     pub keep-every : (xs : List A) → ((a : A) → List·Memᴰ a xs → p a ≡ true) → keep p xs ≡ xs
     unfolding keep

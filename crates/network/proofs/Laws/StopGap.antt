@@ -2,8 +2,8 @@
 -- least over the pairs of calls is attained by one of them. Assumes nothing.
 use Prim.Native.Nat.{ℕ, zero, suc, _≤_, _<_}
 use mathlib.Core.Path.{_≡_, refl, sym, ap, ap₂, subst, subst₂, _∙_}
-use mathlib.Core.Bool.{Bool, true}
-use mathlib.Core.List.{List, List·Memᴰ}
+use mathlib.Core.Bool.{Bool, true, false}
+use mathlib.Core.List.{List, [], List·Memᴰ}
 use native.Mathlib.Nat.{le-antisymm}
 use native.Mathlib.Omega.{arith}
 use native.Mathlib.Decide.{decLt}
@@ -19,7 +19,7 @@ use Rattle.network.specs.Valid.{noCall, Valid}
 use Rattle.network.specs.Rating.{periodOf, CallsThere, IsCallsGap, IsStopGap, least-of-calls, period-of-call}
 use Rattle.network.specs.Rating.{gapOfCalls, gapOfStop, callsOfStop, stopGap}
 use Rattle.network.proofs.Laws.Members.{HasPair, All, AllPairs, keep-all, keep-pairs, keep-has-pair, any-of-member, keep-of-member}
-use Rattle.network.proofs.Laws.Members.{member-of-any, member-of-place, place-of-member}
+use Rattle.network.proofs.Laws.Members.{member-of-any, keep-of-any-false, member-of-place, place-of-member}
 use Rattle.network.proofs.Laws.Valid.{cycle-multiple}
 use Rattle.network.proofs.Laws.Gap.{theorem-3-1-2, IsGap-unique}
 use Rattle.network.proofs.Laws.Pairs.{gapOfCalls-symmetric, gapOfStop-le-pair, gapOfStop-attained, gapOfStop-single}
@@ -53,6 +53,10 @@ module _ (n : Net) (stop : ℕ) where
       let (c, m, f) = member-of-any (isAt stop) (n .calls) e in
       let (k, h, d) = place-of-member (n .calls) noCall m in
       (k, number-of-call k h (ap (isAt stop) d ∙ f) .0)
+
+  pub callsOfStop-unserved : isServed stop (n .calls) ≡ false → callsOfStop n stop ≡ []
+  unfolding isServed callsOfStop
+  callsOfStop-unserved = keep-of-any-false (isAt stop) (n .calls)
 
   pub callsOfStop-member : {k : ℕ} → CallsThere n stop k → List·Memᴰ (callAt n k) (callsOfStop n stop)
   unfolding callsOfStop

@@ -12,7 +12,7 @@ use lib.ListN.{length, getD}
 use Rattle.network.specs.declared.Call.{Call}
 use Rattle.network.specs.Lists.{pick, leastOf, leastFrom}
 use Rattle.network.specs.Loops.{ownGap}
-use Rattle.network.specs.Network.{Net, cycle, maxPeriod}
+use Rattle.network.specs.Network.{Net, isServed, cycle, maxPeriod}
 use Rattle.network.specs.Rating.{periodOf, callsOfStop}
 use Rattle.network.specs.Engine.Scan.{callsBefore}
 use Rattle.network.specs.Valid.{Valid, noCall}
@@ -21,7 +21,7 @@ use Rattle.network.proofs.Laws.Least.{leastFrom-le, leastFrom-leastOf, leastFro
 use Rattle.network.proofs.Laws.Least.{leastOf-le}
 use Rattle.network.proofs.Laws.Sums.{le-sumOf, sumOf-le, sumOf-nil, sumOf-snoc}
 use Rattle.network.proofs.Laws.Divisor.{gcd-le-left, quotient-pos}
-use Rattle.network.proofs.Laws.Gaps.{callsBefore-hit, callsBefore-miss, cycle-pos, callsBefore-none, callsOfStop-stated}
+use Rattle.network.proofs.Laws.Gaps.{callsBefore-hit, callsBefore-miss, cycle-pos, callsBefore-none, callsOfStop-unserved, callsOfStop-stated}
 use Rattle.network.proofs.Laws.Gaps.{period-divides-cycle, periodOf-le, periodOf-pos, ownGap-half}
 use Rattle.search.specs.Caps.{halfOf, pairCap, pairCaps, evenSpacing, capOfCalls, cap}
 use Rattle.search.specs.Engine.CapScan.{visitsOf, leastPairCap, boundsOf}
@@ -131,6 +131,11 @@ module _ (n : Net) where
   unfolding leastPairCap
   leastPairCap-le most [] f = omega arith
   leastPairCap-le most (c ∷ cs) f = le-trans (leastFrom-le (periodOf n c) _) (f (zero-lt-suc _))
+
+-- A stop that isn't served has the cap 0
+pub cap-unserved : (n : Net) (stop : ℕ) → isServed stop (n .calls) ≡ false → cap n stop ≡ 0
+unfolding cap capOfCalls
+cap-unserved n stop e = ap (capOfCalls n) (callsOfStop-unserved n stop e)
 
 -- The stops of an accepted network
 module _ (n : Net) (valid : Valid n) (stop : ℕ) where

@@ -17,13 +17,13 @@ ones-are stop h = getD-replicate 64 stop 1 0 h
 
 -- The row as numbers of a rating holds the caps
 wide-is : (c : tie.After-widened) (stop : ℕ) → stop < 64 → getD (c .widened .result) stop 0 ≡ cap (netOf (c .before .before .before .before .args .network)) stop
-wide-is c stop h = c .widened .ensures stop h ∙ c .before .before .before .cap-row .ensures stop h
-
-cap-row-requires : tie.Need-cap-row-requires
-cap-row-requires c κs = search needs
+wide-is c stop h = c .widened .ensures stop h ∙ c .before .before .cap-row .ensures stop h
 
 served-row-requires : tie.Need-served-row-requires
 served-row-requires c κs = search needs
+
+cap-row-requires : tie.Need-cap-row-requires
+cap-row-requires c κs = (c .before .pre, c .served-row .ensures)
 
 widened-requires : tie.Need-widened-requires
 widened-requires c κs = search needs
@@ -38,12 +38,13 @@ returns : tie.Need-returns
 returns c =
     let w = c .before .before .before .before in
     let s = w .before .before .before .before in
-    let caps = w .before .before .before .cap-row in
+    let caps = w .before .before .cap-row in
+    let served = w .before .before .before .served-row in
     unplaced-represents (netOf (s .args .network)) (s .pre .1) (caps .result) (c .rating-over .result) (caps .ok .1 .0 .1) (caps .ensures)
     (c .rating-over .ensures
-    ∙ caps-rating (netOf (s .args .network)) (s .pre .1) (w .widened .result) (w .before .before .served-row .result) (replicate 64 1) (wide-is w) (w .before .before .served-row .ensures) ones-are)
+    ∙ caps-rating (netOf (s .args .network)) (s .pre .1) (w .widened .result) (served .result) (replicate 64 1) (wide-is w) (served .ensures) ones-are)
 
 pub unplaced-spec : {M : Type 1} → statement M
 unplaced-spec =
     tie.close
-    (tie.spec cap-row-requires served-row-requires widened-requires rating-over-requires returns)
+    (tie.spec served-row-requires cap-row-requires widened-requires rating-over-requires returns)
