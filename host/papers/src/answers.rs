@@ -2,6 +2,7 @@
 //! nobody but the wrapper makes a best.
 
 use crate::sections;
+use crate::sections::network::Network;
 use crate::sections::sheets::Marked;
 use crate::sections::walk::{Answer, Walked};
 use crate::sections::wanted::{self, Sought};
@@ -28,7 +29,11 @@ pub fn rating_or_refusal(
     paper.map(rated).map_err(refusal)
 }
 
-pub fn counts(paper: sections::network::Counts) -> Counts {
+pub fn counts(net: &Network) -> Counts {
+    counted(net.counts())
+}
+
+pub fn counted(paper: sections::network::Counts) -> Counts {
     Counts {
         lines: paper.lines as u32,
         served_stops: paper.served_stops as u32,

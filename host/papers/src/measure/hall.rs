@@ -1,9 +1,8 @@
-//! A hall's calls on both sides, and how much of them a read is. The engine's
-//! better reads the file for each of its sheets, and its mark for the rating and for
-//! the search; in plain Rust each call reads it once.
+//! A hall's calls on both sides, each of which reads the file once, and how much of
+//! them a read is.
 
 use super::times::{geometric_mean, in_turn, mean_times, sheets, Calls, SHEETS};
-use crate::answers::{better, counts, marked, rating_or_refusal, refusal};
+use crate::answers::{better, counted, marked, rating_or_refusal, refusal};
 use crate::files::{dense_file, Dice};
 use crate::plain;
 use crate::sections::network::{read, Network};
@@ -133,7 +132,7 @@ fn compare(paper: &Paper, [first, second]: [&Vec<u8>; 2]) {
     let [one, other] = [first, second].map(|bytes| Sheet::of_bytes(bytes.clone()));
     let found = engine::read(file);
     assert!(found.is_ok());
-    assert_eq!(found, plain::read(file).map(counts).map_err(refusal));
+    assert_eq!(found, plain::read(file).map(counted).map_err(refusal));
     let found = engine::rate(file, &one);
     assert!(found.is_ok());
     assert_eq!(found, rating_or_refusal(plain::rate(file, first)));

@@ -10,7 +10,7 @@ use papers::sections::network::{read_counts, Refusal, MAX_PERIOD};
 /// The common cycle that papers and engine read, or the refusal.
 fn cycle(file: &[u8]) -> Result<u32, Refusal> {
     let paper = read_counts(file);
-    let expected = paper.map(answers::counts).map_err(answers::refusal);
+    let expected = paper.map(answers::counted).map_err(answers::refusal);
     assert_eq!(engine::read(file), expected);
     paper.map(|counts| counts.cycle)
 }

@@ -1,14 +1,14 @@
 //! Every call on seeded files and sheets of every kind.
 
 use engine::{Mark, Refusal, Sheet};
-use papers::answers::{better, counts, marked, rating_or_refusal, refusal, sought, walked};
+use papers::answers::{counts, marked, rating_or_refusal, refusal, sought, walked};
 use papers::files::{
     any_budget, any_file, any_gap, any_sheet_bytes, random_bytes, roomy_file, sheet_bytes, Dice,
 };
 use papers::sections;
 use papers::sections::archive::archive_form;
 use papers::sections::network::{read, Network};
-use papers::sections::sheets::{better_bytes, mark_bytes, rate_bytes, weighted_bytes};
+use papers::sections::sheets::{better_bytes, mark_bytes, rate_bytes, weighted_bytes, Better};
 use papers::sections::walk::{walk, Answer};
 use papers::sections::wanted::{seek, Wanted};
 use std::fmt::Debug;
@@ -59,8 +59,10 @@ fn case(number: usize) -> Kind {
         very_long: file.len() >= 10_000,
         ..Kind::default()
     };
-    let read = net.as_ref().map(|net| counts(net.counts()));
-    assert_eq!(engine::read(&file), read.map_err(|&why| why));
+    assert_eq!(
+        engine::read(&file),
+        net.as_ref().map(counts).map_err(|&why| why)
+    );
     compare_classes(&file, &net, &mut kind);
     compare_search(&mut dice, &file, &net, &mut kind);
     compare_wanted(&mut dice, &file, &net, &mut kind);
@@ -140,9 +142,13 @@ fn compare_sheets(
     assert_eq!(engine::rate(file, &one), paper);
     let paper = rating_or_refusal(weighted_bytes(file, first));
     assert_eq!(engine::weighted(file, &one), paper);
-    let paper = better_bytes(file, first, second);
-    assert_eq!(engine::better(file, &one, &other), better(paper));
-    kind.better = paper as usize;
+    let (expected, at) = match better_bytes(file, first, second) {
+        Better::First => (engine::Better::First, 0),
+        Better::Second => (engine::Better::Second, 1),
+        Better::Neither => (engine::Better::Neither, 2),
+    };
+    assert_eq!(engine::better(file, &one, &other), expected);
+    kind.better = at;
     let budget = any_budget(dice);
     compare_mark(file, first, budget, kind);
     // Candidates hand in the best timetable more often than chance does.
