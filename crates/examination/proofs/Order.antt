@@ -108,8 +108,8 @@ pub use Rattle.examination.proofs.ExportWanted.{wanted-export-with-more
 -- ---- Document 02, A.4
 
 -- "it is to keep a running value, brought forward at each `4C` from that value and the new period alone. After each accepted `4C` it is the least common
--- multiple of all periods so far": by divisibility, at every place to which reading comes; and so is the number that the reader's loop keeps, at every
--- turn. "Every answer is as before": the demands above, in the words they had
+-- multiple of all periods so far": by divisibility, at every place to which reading comes; and so is the number that the reader keeps, at every turn
+-- of its loop and when it returns. "Every answer is as before": the demands above, in the words they had
 pub use Rattle.network.proofs.RunningCycle.{running-cycle, no-other-cycle, one-before-the-first, line-brings-forward, others-keep-it}
-pub use Rattle.network.proofs.RunningCycle.{refused-line-keeps-nothing, every-turn}
+pub use Rattle.network.proofs.RunningCycle.{refused-line-keeps-nothing, every-turn, every-return}
 pub use Rattle.network.proofs.RunningCycle.{cycles-on-the-way, eleven-is-refused, line-behind-calls}

@@ -5,6 +5,10 @@ use Prim.Native.Nat.{ℕ, zero, suc, _+_, _-_, _≤_}
 use mathlib.Core.Path.{_≡_, refl, sym, ap, subst, subst₂, _∙_}
 use mathlib.Core.List.{List, [], _∷_, _++_}
 use native.Mathlib.Omega.{arith}
+use borrow.Fn.World.{ArgsD, ResD}
+use borrow.Fn.Kinds.{endedOf}
+use contract.Lifetimes.{Lfts}
+use denote.Triple.Clauses.{AtExit}
 use lib.ListN.{length, take, drop}
 use Rattle.network.specs.declared.Check.the-variants.{Passes, Refused}
 use Rattle.network.specs.declared.Network.{Network}
@@ -16,11 +20,14 @@ use Rattle.network.specs.Grounds.{first, cutOff, periodOutOfRange, someL
 use Rattle.network.specs.Reading.{proceed, readFrom, readFile, refused, readOutcome, values}
 use Rattle.network.specs.Gives.{Reached, next, Gives, refuses}
 use Rattle.network.proofs.Laws.Divisor.{least-common-multiple-unique, one-divides}
-use Rattle.network.proofs.Laws.Grounds.{line-refused-place}
+use Rattle.network.proofs.Laws.Grounds.{line-not-end, line-refused-place}
 use Rattle.network.proofs.Laws.Reading.{gives-what-is-read, reached-not-behind}
-use Rattle.network.proofs.Laws.RunningCycle.{reached-cycle, line-not-end, periods-of-line, cycle-of-line, cycle-of-line-le, kept-by-others}
+use Rattle.network.proofs.Laws.RunningCycle.{reached-cycle, periods-of-line, cycle-of-line, cycle-of-line-le, others-state-no-line}
 use Rattle.network.proofs.Laws.Stored.{held-periods}
-use Rattle.network.proofs.Laws.ReaderRows.{Turn}
+use Rattle.network.proofs.Laws.ReaderRows.{ReaderTurn}
+use Rattle.network.proofs.reader.read_network as reader
+use Rattle.network.proofs.reader.read_network.Kinds as reader-kinds
+use Rattle.network.proofs.reader.read_network.Reads as reader-contract
 
 -- ---- Of every file, at every place `p` to which reading comes, `f` being what has been read before it
 
@@ -69,9 +76,10 @@ line-brings-forward {file} {f} {p} {b} {behind} r is passes =
         → Reached file (extend statesLine f behind) (p + 3) (drop 2 behind)
     at-place q = subst (λ (k : ℕ). Reached file (extend statesLine f behind) k (drop 2 behind)) (omega arith) q
 
--- No other command changes it
-pub others-keep-it : (c : Command) (f : SoFar) (behind : List ℕ) → (c ≡ statesLine → ⊥) → cycle (extend c f behind .network) ≡ cycle (f .network)
-others-keep-it c f behind h = kept-by-others f behind c h .1
+-- No other command states a period or changes it
+pub others-keep-it : (c : Command) (f : SoFar) (behind : List ℕ) → (c ≡ statesLine → ⊥)
+    → (extend c f behind .network .periods ≡ f .network .periods) × (cycle (extend c f behind .network) ≡ cycle (f .network))
+others-keep-it c f behind = others-state-no-line f behind c
 
 -- A refused `4C` keeps nothing: the file gives its refusal and no network, and reading comes to no place behind it
 pub refused-line-keeps-nothing : {file : List ℕ} {f : SoFar} {p b : ℕ} {behind : List ℕ} {number place : ℕ} → Reached file f p (b ∷ behind)
@@ -82,10 +90,10 @@ refused-line-keeps-nothing {file} {f} {p} {b} {behind} {number} {place} r is e =
     let gives : Gives file (refused number p) = subst (λ (q : ℕ). Gives file (refused number q)) own (refuses r e) in
     (gives, λ g q rest other. reached-not-behind other (gives-what-is-read gives))
 
--- ---- Of the reader's loop in src/reader.rt: what it keeps where a turn begins, `rest` being the part of the file that is left and `n` the network,
--- with its row of periods, its number of lines and its cycle
+-- ---- Of the reader, `read_network` in src/reader.rt: what it keeps where the part `rest` of the file is left, `n` being the network with its row of
+-- periods, its number of lines and its cycle
 
-pub record AtTurn (file rest : List ℕ) (n : Network) : Type 0 where
+pub record Keeps (file rest : List ℕ) (n : Network) : Type 0 where
   -- reading comes here with `so-far`, whose periods stand in the row, and the number kept is the definition's
   pub so-far : SoFar
   pub comes-here : Reached file so-far (length file - length rest) rest
@@ -94,17 +102,27 @@ pub record AtTurn (file rest : List ℕ) (n : Network) : Type 0 where
   -- .. so that it is the least common multiple of the periods that are kept
   pub is-least-common-multiple : IsLeastCommonMultiple (take (n .lines) (n .periods)) (n .cycle)
 
--- At every turn: `Turn` is the loop's invariant, so that it holds before the first turn and each turn keeps it (`Inv-loop`, `loop-holds` and
--- `loop-again` of proofs/reader/read_network/Proof.antt)
-pub every-turn : {file rest : List ℕ} {n : Network} {often latest : List ℕ} → Turn file n often latest rest → AtTurn file rest n
-every-turn {n = n} t =
+keeps : {file rest : List ℕ} {n : Network} (f : SoFar) → Reached file f (length file - length rest) rest
+    → take (n .lines) (n .periods) ≡ f .network .periods → n .cycle ≡ cycle (f .network) → Keeps file rest n
+keeps f here periods is =
     record {
-      so-far = _;
-      comes-here = t .comes-here;
-      periods-are = sym (held-periods n);
-      cycle-is = t .rows .sound .cycle-is;
-      is-least-common-multiple = subst₂ IsLeastCommonMultiple (held-periods n) (sym (t .rows .sound .cycle-is)) (running-cycle (t .comes-here));
+      so-far = f;
+      comes-here = here;
+      periods-are = periods;
+      cycle-is = is;
+      is-least-common-multiple = subst₂ IsLeastCommonMultiple (sym periods) (sym is) (running-cycle here);
     }
+
+-- At every turn of its loop: `ReaderTurn` is the invariant by which it is proved, so that it holds before the first turn and each turn keeps it
+-- (`Inv-loop`, `loop-holds` and `loop-again` of proofs/reader/read_network/Proof.antt)
+pub every-turn : {file rest : List ℕ} {n : Network} {often latest : List ℕ} → ReaderTurn file n often latest rest → Keeps file rest n
+every-turn {n = n} t = keeps _ (t .comes-here) (sym (held-periods n)) (t .rows .sound .cycle-is)
+
+-- .. and of the network that it hands over when it returns, with a file that is accepted, cut off or refused: of a refused `4C` nothing is in it
+module _ (κs : Lfts 1) (a : ArgsD reader.signature κs) (r : ResD reader.signature κs) (s : AtExit (endedOf 1 reader-kinds.ps reader-kinds.r) κs)
+    (kept : reader-contract.Post κs a r s) where
+  pub every-return : (rest : List ℕ) × Keeps (a .0 .now) rest (r .network)
+  every-return = let (rest, here) = kept .2 in (rest, keeps _ here (sym (held-periods (r .network))) (kept .0 .cycle-is))
 
 -- ---- The values on the way of some files, by the definitions: each side computes
 

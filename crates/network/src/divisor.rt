@@ -12,7 +12,7 @@ pub fn gcd(a: u32, b: u32) -> u32
     if b == 0 { a } else { gcd(b, a % b) }
 }
 
-// The running common cycle, brought forward by a line's period: the least common multiple of the two, of which nothing else is needed.
+// The running common cycle, brought forward by a line's period: the least common multiple of the two. No earlier period is looked at again.
 pub fn brought_forward(cycle: u32, period: u16) -> u32
     requires { ⌜ (0 < cycle) × (cycle ≤ net.maxCycle) × (0 < period) × (period ≤ net.maxPeriod) ⌝ }
     ensures { λ r. ⌜ divisor.IsLeastCommonMultiple (cycle ∷ period ∷ []) r ⌝ }

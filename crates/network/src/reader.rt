@@ -9,7 +9,8 @@ use crate::Totals;
 use crate::divisor::brought_forward;
 use crate::ratings::served_by;
 ghost use mathlib.Core.Path.{_≡_};
-ghost use Prim.Native.Nat.{_+_, _*_, _^_, _<_, _≤_};
+ghost use mathlib.Core.List.{List};
+ghost use Prim.Native.Nat.{ℕ, _+_, _*_, _^_, _<_, _≤_};
 ghost use lib.Dec.{ltb};
 ghost use lib.ListN.{length, getD, drop, take};
 ghost use Rattle.network.specs.Lists as lists;
@@ -17,7 +18,7 @@ ghost use Rattle.network.specs.Network as net;
 ghost use Rattle.network.specs.Grounds as ground;
 ghost use Rattle.network.specs.Reading as reading;
 ghost use Rattle.network.specs.declared.Check.{Check};
-ghost use Rattle.network.specs.Engine.Stored.{callsIn, Sound, HasTotals, Latest, Often, IsParsed, readingOf};
+ghost use Rattle.network.specs.Engine.Stored.{callsIn, Sound, HasTotals, Latest, Often, IsParsed, readingOf, ComesTo};
 ghost use Rattle.network.specs.Valid.{IsBytes};
 
 // A number of two bytes from a place on, most significant byte first.
@@ -309,9 +310,9 @@ fn read_command(
 
 // The whole file: the network, or the first ground that applies. The loop carries the part behind the command just read, and writes what a
 // command states into the rows where they stand. Beside the network it keeps how often each line calls at each stop, and each line's latest
-// offset, so that no ground goes over the calls before.
+// offset, so that no ground goes over the calls before. With a refusal too the network is what was read up to there.
 pub fn read_network(file: &[u8]) -> Step
-    ensures { λ r. ⌜ Sound (r .network) × (readingOf (r .check) (r .network) ≡ reading.readFile (now (file .entry))) ⌝ }
+    ensures { λ r. ⌜ Sound (r .network) × (readingOf (r .check) (r .network) ≡ reading.readFile (now (file .entry))) × ((rest : List ℕ) × ComesTo (now (file .entry)) rest (r .network)) ⌝ }
 {
     let mut network = Network::new();
     let mut often = [0u8; Network::TABLE];

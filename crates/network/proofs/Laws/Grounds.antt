@@ -76,6 +76,9 @@ not-cut-off : (c : Command) (behind : List ℕ) → cutOff c behind ≡ false �
 unfolding cutOff
 not-cut-off c behind = ltb-false (length behind) (operandBytes c)
 
+pub line-not-end : statesLine ≡ ends → ⊥
+line-not-end e = zero-ne-one (cc)
+
 pub record LineFits (n : Net) (behind : List ℕ) : Type 0 where
   pub operands : 2 ≤ length behind
   pub room : length (n .periods) < maxLines

@@ -1,14 +1,13 @@
 -- Laws of what the reader keeps: the network, how often each line calls at each stop and each line's latest offset agree, and stay so with
 -- one line or one call more; and what its loop keeps from turn to turn. Assumes nothing.
-use Prim.Native.Nat.{ℕ, _*_, _+_, _-_, _<_, _≤_}
+use Prim.Native.Nat.{ℕ, _*_, _+_, _<_, _≤_}
 use mathlib.Core.Path.{_≡_, sym, ap, subst, _∙_}
 use mathlib.Core.List.{List, [], _∷_, _++_}
 use lib.ListN.{length, getD, set, length-set}
 use Rattle.network.specs.declared.Call.{Call}
 use Rattle.network.specs.declared.Network.{Network}
-use Rattle.network.specs.Network.{Net, soFar, maxLines, maxCycle, maxStop, maxCalls, cycle, withLine, withCall}
-use Rattle.network.specs.Gives.{Reached}
-use Rattle.network.specs.Engine.Stored.{netOf, packed, callIn, Sound, Latest, Often}
+use Rattle.network.specs.Network.{Net, maxLines, maxCycle, maxStop, maxCalls, cycle, withLine, withCall}
+use Rattle.network.specs.Engine.Stored.{netOf, packed, callIn, Sound, Latest, Often, ComesTo}
 use Rattle.network.proofs.Laws.Stored.{lineAdded, callAdded, sound-line, sound-call, call-added}
 use Rattle.network.proofs.Laws.Latest.{latest-call}
 use Rattle.network.proofs.Laws.Often.{often-call}
@@ -21,10 +20,10 @@ pub record ReaderRows (n : Network) (often latest : List ℕ) : Type 0 where
   pub latest-is : Latest latest (netOf n .calls)
 
 -- The invariant of the reader's loop, `rest` being the part of the file that is left: reading comes there with this network
-pub record Turn (file : List ℕ) (n : Network) (often latest rest : List ℕ) : Type 0 where
+pub record ReaderTurn (file : List ℕ) (n : Network) (often latest rest : List ℕ) : Type 0 where
   pub rows : ReaderRows n often latest
   pub left : length rest ≤ length file
-  pub comes-here : Reached file (soFar (netOf n)) (length file - length rest) rest
+  pub comes-here : ComesTo file rest n
 
 module _ (n : Network) (often latest : List ℕ) (k : ReaderRows n often latest) where
   pub rows-with-line : (period common : ℕ) → n .lines < maxLines → 0 < common → common ≤ maxCycle → common ≡ cycle (withLine (netOf n) period)

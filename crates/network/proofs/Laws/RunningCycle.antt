@@ -10,7 +10,6 @@ use Rattle.network.specs.Divisor.{IsLeastCommonMultiple}
 use Rattle.network.specs.Network.{SoFar, Command, statesLine, callsByOffset, callsByRide, ends, unknown, word, cycle, maxCycle, withLine, withCall, command, extend}
 use Rattle.network.specs.Grounds.{first, grounds}
 use Rattle.network.specs.Gives.{Reached, start, next}
-use Rattle.network.proofs.Laws.Lists.{zero-ne-one}
 use Rattle.network.proofs.Laws.Members.{all-snoc}
 use Rattle.network.proofs.Laws.Divisor.{lcm-is-least-common-multiple, commonCycle-is-least-common-multiple}
 use Rattle.network.proofs.Laws.Network.{cycle-withLine}
@@ -37,9 +36,6 @@ module _ {file : List ℕ} where
   unfolding cycle
   reached-cycle {f = f} r = commonCycle-is-least-common-multiple (f .network .periods) (reached-positive r)
 
-pub line-not-end : statesLine ≡ ends → ⊥
-line-not-end e = zero-ne-one (cc)
-
 module _ (f : SoFar) (behind : List ℕ) where
   pub periods-of-line : extend statesLine f behind .network .periods ≡ f .network .periods ++ (word behind 0 ∷ [])
   unfolding extend withLine
@@ -57,11 +53,11 @@ module _ (f : SoFar) (behind : List ℕ) where
   cycle-of-line-le p e = rw (cycle-withLine (f .network) (word behind 0)) (line-passes f p behind e .cycle-max)
 
   -- no other command states a line
-  pub kept-by-others : (c : Command) → (c ≡ statesLine → ⊥)
+  pub others-state-no-line : (c : Command) → (c ≡ statesLine → ⊥)
       → (extend c f behind .network .periods ≡ f .network .periods) × (cycle (extend c f behind .network) ≡ cycle (f .network))
   unfolding extend withCall cycle
-  kept-by-others statesLine h = absurd (h refl)
-  kept-by-others callsByOffset h = (refl, refl)
-  kept-by-others callsByRide h = (refl, refl)
-  kept-by-others ends h = (refl, refl)
-  kept-by-others unknown h = (refl, refl)
+  others-state-no-line statesLine h = absurd (h refl)
+  others-state-no-line callsByOffset h = (refl, refl)
+  others-state-no-line callsByRide h = (refl, refl)
+  others-state-no-line ends h = (refl, refl)
+  others-state-no-line unknown h = (refl, refl)

@@ -22,7 +22,7 @@ use Rattle.network.specs.Engine.Stored.{netOf, packed, callIn, callsIn, 
 use Rattle.network.proofs.Laws.Lists.{zero-ne-one, map-set, take-set-next}
 use Rattle.network.proofs.Laws.Divisor.{lcm-pos}
 use Rattle.network.proofs.Laws.Network.{cycle-withLine}
-use Rattle.network.proofs.Laws.Grounds.{CallFits, line-passes, offset-passes, ride-passes}
+use Rattle.network.proofs.Laws.Grounds.{CallFits, line-not-end, line-passes, offset-passes, ride-passes}
 
 pub held-lines : (n : Network) → Sound n → length (netOf n .periods) ≡ n .lines
 unfolding netOf
@@ -142,16 +142,13 @@ line-of-parsed c f p behind period common pos (passes, is, stated, made) =
     let fits = line-passes f p behind (ap (λ (d : Command). first (grounds d f p behind)) (sym is) ∙ passes) in
     record {
       passes = passes;
-      onward = λ e. apart (sym is ∙ e);
+      onward = λ e. line-not-end (sym is ∙ e);
       extended = ap (λ (m : ℕ). withNetwork f (withLine (f .network) m)) stated ∙ ap (λ (d : Command). extend d f behind) (sym is);
       room = fits .room;
       cycle-is = made ∙ sym (cycle-withLine (f .network) (word behind 0)) ∙ ap (λ (m : ℕ). cycle (withLine (f .network) m)) (sym stated);
       cycle-pos = rw made (lcm-pos _ _ pos (fits .period-pos));
       cycle-le = rw made (fits .cycle-max);
     }
-  where
-    apart : statesLine ≡ ends → ⊥
-    apart e = zero-ne-one (cc)
 
 pub record CallParsed (c : Command) (f : SoFar) (p : ℕ) (behind : List ℕ) (call : Call) : Type 0 where
   pub passes : first (grounds c f p behind) ≡ Passes

@@ -1,5 +1,5 @@
 -- How the engine holds a network: rows of fixed length of which the first places count, and the common cycle beside them.
-use Prim.Native.Nat.{ℕ, suc, _+_, _*_, _/_, _%_, _≤_, _<_}
+use Prim.Native.Nat.{ℕ, suc, _+_, _*_, _-_, _/_, _%_, _≤_, _<_}
 use mathlib.Core.Path.{_≡_}
 use mathlib.Core.List.{List, map}
 use mathlib.Core.Logic.{_⊎_}
@@ -13,10 +13,11 @@ use Rattle.network.specs.declared.Parsed.{Parsed}
 use Rattle.network.specs.declared.Parsed.the-variants as parsed
 use Rattle.network.specs.Divisor.{lcm}
 use Rattle.network.specs.Lists.{pick}
-use Rattle.network.specs.Network.{Net, netWith, SoFar, Command, statesLine, callsByOffset, callsByRide, ends, maxLines, maxStop, maxCalls, maxCycle, cycle}
+use Rattle.network.specs.Network.{Net, netWith, SoFar, soFar, Command, statesLine, callsByOffset, callsByRide, ends, maxLines, maxStop, maxCalls, maxCycle, cycle}
 use Rattle.network.specs.Network.{callsAnywhere, howOftenAt, latestOffset, word, callOf, statedOffset, rideOffset}
 use Rattle.network.specs.Grounds.{first, grounds}
 use Rattle.network.specs.Reading.{Reading, accepted, refused}
+use Rattle.network.specs.Gives.{Reached}
 
 -- A call as one number: the line counts above the stop and that above the offset, so that the numbers are in the order of the calls
 unfoldable pub packed : Call → ℕ
@@ -68,6 +69,10 @@ IsParsed c f p behind (parsed.Calls call) =
     (first (grounds c f p behind) ≡ Passes)
     × (((c ≡ callsByOffset) × (call ≡ callOf behind (statedOffset behind))) ⊎ ((c ≡ callsByRide) × (call ≡ callOf behind (rideOffset (f .network) behind))))
 IsParsed c f p behind parsed.End = (first (grounds c f p behind) ≡ Passes) × (c ≡ ends)
+
+-- Reading comes to the part `rest` of a file with this network: it is what has been read before that part
+abbrev pub ComesTo : List ℕ → List ℕ → Network → Type 0
+ComesTo file rest n = Reached file (soFar (netOf n)) (length file - length rest) rest
 
 -- What reading a whole file gives
 unfoldable pub readingOf : Check → Network → Reading

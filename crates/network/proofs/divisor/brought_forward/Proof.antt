@@ -1,6 +1,5 @@
 -- `network::divisor::brought_forward` meets its contract: the divisor of a positive number is positive, a quotient is at most what was divided,
 -- and what is computed is the least common multiple. Assumes nothing.
-use Prim.Native.Nat.{_<_}
 use native.Mathlib.Nat.{div-le-self, mul-le-mul, lt-of-le-of-lt, le-trans}
 use lib.Dec.{lit<}
 use Rattle.network.specs.Divisor as divisor

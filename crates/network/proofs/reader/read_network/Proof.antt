@@ -1,4 +1,4 @@
--- `network::reader::read_network` meets its contract. The loop's invariant is `Turn`: the network, its running cycle among it, how often each line
+-- `network::reader::read_network` meets its contract. The loop's invariant is `ReaderTurn`: the network, its running cycle among it, how often each line
 -- calls at each stop and the latest offsets agree, and reading comes to the part that is left with this network. Assumes nothing.
 use Prim.Native.Nat.{ℕ, _+_, _*_, _-_, _<_, _≤_}
 use mathlib.Core.Path.{_≡_, refl, sym, ap, ap₂, subst, _∙_}
@@ -19,19 +19,19 @@ use Rattle.network.specs.Grounds.{first, grounds}
 use Rattle.network.specs.Reading.{readFile, refused}
 use Rattle.network.specs.Gives.{Reached, start, runs-out, refuses, accepts}
 use Rattle.network.specs.Gives as gives
-use Rattle.network.specs.Engine.Stored.{netOf, Often, IsParsed, readingOf}
+use Rattle.network.specs.Engine.Stored.{netOf, Often, IsParsed, readingOf, ComesTo}
 use Rattle.network.proofs.Laws.Lists.{take-rest, getD-zeros}
 use Rattle.network.proofs.Laws.Reading.{passes-operands, gives-what-is-read}
 use Rattle.network.proofs.Laws.Often.{often-none}
 use Rattle.network.proofs.Laws.Stored.{LineParsed, CallParsed, held-lines, held-calls, has-totals, line-added, call-added, line-of-parsed}
 use Rattle.network.proofs.Laws.Stored.{call-of-parsed}
 use Rattle.network.proofs.Laws.Latest.{latest-none}
-use Rattle.network.proofs.Laws.ReaderRows.{ReaderRows, Turn, rows-with-line, rows-with-call}
+use Rattle.network.proofs.Laws.ReaderRows.{ReaderRows, ReaderTurn, rows-with-line, rows-with-call}
 use Rattle.network.proofs.reader.read_network.Statement.{statement}
 use Rattle.network.proofs.reader.read_network.Tie as tie
 
 abbrev Inv-loop : tie.InvT-loop
-Inv-loop file network₀ often₀ latest₀ rest₀ network often latest rest = Turn file network often latest rest
+Inv-loop file network₀ often₀ latest₀ rest₀ network often latest rest = ReaderTurn file network often latest rest
 
 abbrev μ-loop : tie.MeasureT-loop
 μ-loop file network₀ often₀ latest₀ rest₀ network often latest rest = length rest
@@ -71,8 +71,11 @@ module _ (r : tie.After-read-command Inv-loop μ-loop) where
   length-behind : length rest ≡ length behind + 1
   length-behind = omega (arith, ap length rest-is)
 
+  comes-here : ComesTo file rest network
+  comes-here = r .before .before .before .before .before .before .loop .inv .comes-here
+
   reached-here : Reached file (soFar (netOf network)) place (getD rest 0 0 ∷ behind)
-  reached-here = subst (Reached file (soFar (netOf network)) place) rest-is (r .before .before .before .before .before .before .loop .inv .comes-here)
+  reached-here = subst (Reached file (soFar (netOf network)) place) rest-is comes-here
 
   -- what the command parsed-here, once it is known which it is
   parsed-here : (t : Parsed) → result ≡ t → IsParsed code (soFar (netOf network)) place behind t
@@ -201,6 +204,7 @@ returns c =
       rw (c .refused .ensures .1) (kept r .sound),
       ap₂ readingOf (c .refused .ensures .0) refl
           ∙ sym (gives-what-is-read (refuses (reached-here r) (parsed-here r _ (c .before .before .parsed .given .1)))),
+      (rest r, rw (c .refused .ensures .1) (comes-here r)),
     )
 
 enum-told : tie.Need-enum-told Inv-loop μ-loop
@@ -217,6 +221,7 @@ returns-2 c =
       rw (c .passed .ensures .1) (kept r .sound),
       ap₂ readingOf (c .passed .ensures .0) (c .passed .ensures .1)
           ∙ sym (gives-what-is-read (accepts (reached-here r) (t .1) (t .0))),
+      (rest r, rw (c .passed .ensures .1) (comes-here r)),
     )
 
 enum-known-parsed-2 : tie.Need-enum-known-parsed-2 Inv-loop μ-loop
@@ -318,6 +323,7 @@ returns-3 c =
       rw (c .refused2 .ensures .1) (l .inv .rows .sound),
       ap₂ readingOf (c .refused2 .ensures .0) refl
           ∙ runs-out-here file (soFar (netOf (l .network))) (l .rest .now) (omega (arith, c .before .loop-test .left)) (l .inv .comes-here),
+      (l .rest .now, rw (c .refused2 .ensures .1) (l .inv .comes-here)),
     )
 
 pub read-network-spec : {M : Type 1} → statement M
