@@ -12,7 +12,7 @@ use Rattle.network.specs.declared.Call.{Call}
 use Rattle.network.specs.declared.Check.the-variants.{Passes, Refused}
 use Rattle.network.specs.declared.Network.{Network}
 use Rattle.network.specs.declared.Parsed.the-variants as parsed
-use Rattle.network.specs.Network.{Net, netWith, SoFar, withNetwork, Command, statesLine, callsByOffset, callsByRide, ends, extend}
+use Rattle.network.specs.Network.{Net, netWith, SoFar, withNetwork, Command, callsByOffset, callsByRide, ends, extend}
 use Rattle.network.specs.Network.{maxLines, maxCycle, maxStop, maxCalls, maxCallsAtStop, cycle, howOftenAt, word, callOf, withLine, withCall}
 use Rattle.network.specs.Valid.{Valid, IsBytes, noCall}
 use Rattle.network.specs.Reading.{accepted, refused}
