@@ -1,6 +1,6 @@
 -- What document 02, A.4, "Common cycle carried along", asks of the reader: the number that it keeps is at every place to which it comes the least
--- common multiple of all periods so far, by divisibility. First of the definitions, for every file, then of the number in the reader's loop, whose
--- invariant it is. Assumes nothing.
+-- common multiple of all periods so far, by divisibility. First of the definitions, for every file, then of the number in the code, at every turn of
+-- the reader's loop, whose invariant it is, and at every return, by the reader's contract. Assumes nothing.
 use Prim.Native.Nat.{ℕ, zero, suc, _+_, _-_, _≤_}
 use mathlib.Core.Path.{_≡_, refl, sym, ap, subst, subst₂, _∙_}
 use mathlib.Core.List.{List, [], _∷_, _++_}

@@ -15,7 +15,7 @@ use Rattle.network.proofs.Laws.Divisor.{lcm-is-least-common-multiple, c
 use Rattle.network.proofs.Laws.Network.{cycle-withLine}
 use Rattle.network.proofs.Laws.Grounds.{line-passes}
 
-abbrev Positive : List ℕ → Type 0
+abbrev pub Positive : List ℕ → Type 0
 Positive periods = (i : ℕ) → i < length periods → 0 < getD periods i 0
 
 positive-next : (c : Command) (f : SoFar) (p : ℕ) (behind : List ℕ) → first (grounds c f p behind) ≡ Passes → Positive (f .network .periods)
@@ -28,7 +28,7 @@ positive-next ends f p behind e h = h
 positive-next unknown f p behind e h = h
 
 module _ {file : List ℕ} where
-  reached-positive : {f : SoFar} {p : ℕ} {rest : List ℕ} → Reached file f p rest → Positive (f .network .periods)
+  pub reached-positive : {f : SoFar} {p : ℕ} {rest : List ℕ} → Reached file f p rest → Positive (f .network .periods)
   reached-positive start = λ i h. absurd (omega arith)
   reached-positive (next {f = f} {p = p} {b = b} {behind = behind} r e c) = positive-next (command b) f p behind e (reached-positive r)
 

@@ -22,11 +22,11 @@ use Rattle.network.proofs.Laws.Members.{all-snoc}
 use Rattle.network.proofs.Laws.Divisor.{commonCycle-snoc, period-divides-commonCycle, commonCycle-least, commonCycle-pos}
 use Rattle.network.proofs.Laws.Grounds.{LineFits, CallFits, line-passes, offset-passes, ride-passes, end-passes}
 use Rattle.network.proofs.Laws.Reading.{reached-within, readFile-gives}
+use Rattle.network.proofs.Laws.RunningCycle.{reached-positive}
 use Rattle.network.proofs.Laws.Often.{often-more}
 
--- What `Valid` asks of a network on the way, besides the numbers of lines and calls
+-- What `Valid` asks of a network on the way, besides the numbers of lines and calls, and that periods are positive
 record ValidSoFar (n : Net) : Type 0 where
-  period-pos : (i : ℕ) → i < length (n .periods) → 0 < getD (n .periods) i 0
   period : (i : ℕ) → i < length (n .periods) → getD (n .periods) i 0 ≤ maxPeriod
   cycle-max : cycle n ≤ maxCycle
   call-line : (k : ℕ) → k < length (n .calls) → getD (n .calls) k noCall .line < length (n .periods)
@@ -43,7 +43,6 @@ unfolding withLine cycle
 validSoFar-line n behind f s =
     let t : ℕ = word behind 0 in
     record {
-      period-pos = all-snoc 0 (λ q. 0 < q) (n .periods) (s .period-pos) (f .period-pos);
       period = all-snoc 0 (λ q. q ≤ maxPeriod) (n .periods) (s .period) (f .period);
       cycle-max = rw (commonCycle-snoc (n .periods) t) (f .cycle-max);
       call-line = λ k h. omega (arith, s .call-line k h, length-append (n .periods) (t ∷ []));
@@ -58,7 +57,6 @@ unfolding withCall callOf cycle
 validSoFar-call c n behind offset f o s =
     let call : Call = callOf behind offset in
     record {
-      period-pos = s .period-pos;
       period = s .period;
       cycle-max = s .cycle-max;
       call-line = all-snoc noCall (λ d. d .line < length (n .periods)) (n .calls) (s .call-line) (f .line);
@@ -101,7 +99,7 @@ module _ {file : List ℕ} (bytes : IsBytes file) where
       record {
         some-line = end .some-line;
         lines = reached-within r .lines;
-        period-pos = s .period-pos;
+        period-pos = reached-positive r;
         period = s .period;
         cycle-max = s .cycle-max;
         calls = reached-within r .calls;
