@@ -1,4 +1,5 @@
 // What the calls hand back and answer, in words and numbers.
+use crate::hundreds::show_hundred;
 use cases_typed::show::show_number;
 use cases_typed::show::show_rating;
 use cases_typed::show::show_refusal;
@@ -24,6 +25,8 @@ pub fn show_mark(answer: MarkAnswer) {
             best_least,
             best_sum,
             equal,
+            mark,
+            remainder,
             tries,
         } => {
             io::write_all(STDOUT_FILENO, b" decided");
@@ -31,6 +34,7 @@ pub fn show_mark(answer: MarkAnswer) {
             io::write_all(STDOUT_FILENO, b" best");
             show_rating(best_least, best_sum);
             show_equal(equal);
+            show_hundred(mark, remainder);
             show_tries(tries);
         }
         MarkAnswer::Undecided { least, sum, tries } => {

@@ -98,7 +98,7 @@ wanted-status-code e number place f = e ∙ rw f refl
 pub mark-status-tells : (o : MarkOutcome) {returned : ℕ} → returned ≡ markStatus o
     → ((number : ℕ) × (place : ℕ) × (o ≡ sheets.refusal number place)) ⊎ (returned < placeLimit)
 unfolding markStatus
-mark-status-tells (decided l s m u b t) e = inr (omega (arith, e))
+mark-status-tells (decided l s m u b q r t) e = inr (omega (arith, e))
 mark-status-tells (undecided l s t) e = inr (omega (arith, e))
 mark-status-tells (sheets.refusal number place) e = inl (number, place, refl)
 

@@ -71,7 +71,7 @@ archive-export-asks-nothing κs a = tt
 
 -- ---- Read
 
-row-as-found : {o : Outcome} {number place : ℕ} (row : List ℕ) → o ≡ refusal number place → rowAfter o row ≡ row
+pub row-as-found : {o : Outcome} {number place : ℕ} (row : List ℕ) → o ≡ refusal number place → rowAfter o row ≡ row
 unfolding rowAfter
 row-as-found row e = rw e refl
 

@@ -17,11 +17,12 @@ use Rattle.network.specs.Network.{Net, maxPeriod}
 use Rattle.network.specs.Reading.{Reading, refusal, accepted, readFile}
 use Rattle.network.specs.Refusals.{Refuses, by-file, after-file, Unfit, Demand1}
 use Rattle.network.specs.Rating.{IsRating}
+use Rattle.network.specs.Valid.{IsBytes}
 use Rattle.network.proofs.Laws.Lists.{zero-ne-one}
 use Rattle.search.specs.Search.{SearchOutcome, finished, stopped, stoppedWithNone, searchOutcome}
 use Rattle.search.specs.Search as search
 use Rattle.search.proofs.Demands.{Searches, demandedBound, Demand3, WalkedStarts, Answers, demand-1, demand-3, answers, answered-alike, left-alike}
-use Rattle.examination.specs.Bytes.{starts, byBytes, BytesUnfit}
+use Rattle.examination.specs.Bytes.{markBytes, BytesUnfit}
 use Rattle.examination.specs.Exports.{TellsRefusal, searchStatus, searchRow, oneIf, markStatus, markRow}
 use Rattle.examination.specs.Sheets.{MarkOutcome, decided, undecided, markOutcome}
 use Rattle.examination.specs.Sheets as sheets
@@ -230,7 +231,7 @@ module _ {n : Net} {sheet : List ℤ} {budget : ℕ} (fit : length sheet ≡ len
   hall-mark : (o : MarkOutcome) (before : List ℕ) → ((number place : ℕ) → o ≡ sheets.refusal number place → ⊥)
       → MarkMeans n sheet budget o → HallMark n sheet budget (markStatus o) (markRow o before)
   unfolding markStatus markRow oneIf
-  hall-mark (decided l u m v true t) before answers d =
+  hall-mark (decided l u m v true q r t) before answers d =
       record {
         returns = inl refl;
         its-rating = d .decided-rating refl;
@@ -245,7 +246,7 @@ module _ {n : Net} {sheet : List ℤ} {budget : ℕ} (fit : length sheet ≡ len
         ranges = d .decided-range refl;
         undecided-has-zeros = λ e. absurd (omega (arith, e));
       }
-  hall-mark (decided l u m v false t) before answers d =
+  hall-mark (decided l u m v false q r t) before answers d =
       record {
         returns = inl refl;
         its-rating = d .decided-rating refl;
@@ -272,15 +273,34 @@ module _ {n : Net} {sheet : List ℤ} {budget : ℕ} (fit : length sheet ≡ len
         unequal-is-beaten = λ e. absurd (omega (arith, e));
         tries-at-most = (q .0, omega (arith, q .1));
         undecided-at-budget = λ e. q .1;
-        decides = λ h. let (a, b, c, x, y, z, e) = d .decides fit h in absurd (zero-ne-one (cc));
+        decides = λ h. let (a, b, c, x, y, q, r, z, e) = d .decides fit h in absurd (zero-ne-one (cc));
         ranges = (d .undecided-range refl, (omega arith, omega arith));
         undecided-has-zeros = λ e. (refl, refl, refl);
       }
   hall-mark (sheets.refusal number place) before answers d = absurd (answers number place refl)
 
-mark-row-as-found : {o : MarkOutcome} {number place : ℕ} (row : List ℕ) → o ≡ sheets.refusal number place → markRow o row ≡ row
+pub mark-row-as-found : {o : MarkOutcome} {number place : ℕ} (row : List ℕ) → o ≡ sheets.refusal number place → markRow o row ≡ row
 unfolding markRow
 mark-row-as-found row e = rw e refl
+
+-- On the bytes of a sheet that fits, the answer is that on the sheet
+pub mark-told : (file : List ℕ) {n : Net} → readFile file ≡ accepted n → (sheet : List ℤ) → All32 sheet → length sheet ≡ length (n .periods) → {bytes : List ℕ}
+    → bytes ≡ bytesOf sheet → (budget : ℕ) → markBytes budget (readFile file) bytes ≡ markOutcome (readFile file) sheet budget
+mark-told file reads sheet in32 fit lent budget =
+    ap (markBytes budget (readFile file)) lent
+    ∙ on-its-bytes (λ (read : Reading) (starts : List ℤ). markOutcome read starts budget) sheets.refusal (readFile file) reads sheet in32 fit
+
+-- Of every export that returns a mark's status and leaves its row
+pub hall-mark-of : (file : List ℕ) → IsBytes file → {n : Net} → readFile file ≡ accepted n → (sheet : List ℤ) → All32 sheet → length sheet ≡ length (n .periods)
+    → {bytes : List ℕ} → bytes ≡ bytesOf sheet → (budget : ℕ) (before : List ℕ) {returned : ℕ} {answer : List ℕ}
+    → returned ≡ markStatus (markBytes budget (readFile file) bytes) → answer ≡ markRow (markBytes budget (readFile file) bytes) before
+    → HallMark n sheet budget returned answer
+hall-mark-of file is-bytes reads sheet in32 fit lent budget before e f =
+    let told = mark-told file reads sheet in32 fit lent budget in
+    rw (e ∙ ap markStatus told, f ∙ ap (λ (o : MarkOutcome). markRow o before) told)
+    (hall-mark fit (markOutcome (readFile file) sheet budget) before
+    (λ number place g. fit-answers sheet reads fit (mark-refuses-only file sheet budget is-bytes g))
+    (mark-means (record { bytes = is-bytes; answered = refl }) reads))
 
 module _ (κs : Lfts 3) (a : ArgsD mark.signature κs) (r : ResD mark.signature κs) (s : AtExit (endedOf 3 mark-kinds.ps mark-kinds.r) κs)
     (kept : mark-contract.Post κs a r s) where
@@ -298,10 +318,4 @@ module _ (κs : Lfts 3) (a : ArgsD mark.signature κs) (r : ResD mark.signature 
   pub mark-export-means : {n : Net} → readFile (a .0 .now) ≡ accepted n → (sheet : List ℤ) → All32 sheet → length sheet ≡ length (n .periods)
       → a .1 .0 .now ≡ bytesOf sheet → HallMark n sheet (a .1 .1 .0) r (s .1 .1 .1 .0 .now)
   mark-export-means {n} reads sheet in32 fit lent =
-      let call : Reading → List ℤ → MarkOutcome = λ read starts. markOutcome read starts (a .1 .1 .0) in
-      let told : byBytes call sheets.refusal (readFile (a .0 .now)) (a .1 .0 .now) ≡ markOutcome (readFile (a .0 .now)) sheet (a .1 .1 .0) =
-      ap (byBytes call sheets.refusal (readFile (a .0 .now))) lent ∙ on-its-bytes call sheets.refusal (readFile (a .0 .now)) reads sheet in32 fit in
-      rw (kept .0 ∙ ap markStatus told, kept .1 .0 ∙ ap (λ (o : MarkOutcome). markRow o (a .1 .1 .1 .0 .now)) told)
-      (hall-mark fit (markOutcome (readFile (a .0 .now)) sheet (a .1 .1 .0)) (a .1 .1 .1 .0 .now)
-      (λ number place e. fit-answers sheet reads fit (mark-refuses-only (a .0 .now) sheet (a .1 .1 .0) (kept .1 .1) e))
-      (mark-means (record { bytes = kept .1 .1; answered = refl }) reads))
+      hall-mark-of (a .0 .now) (kept .1 .1) reads sheet in32 fit lent (a .1 .1 .0) (a .1 .1 .1 .0 .now) (kept .0) (kept .1 .0)

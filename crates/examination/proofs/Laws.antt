@@ -1,4 +1,5 @@
 -- The laws of the definitions of `specs/`.
 pub mod Bytes
 pub mod Chosen
+pub mod Hundred
 pub mod Refusals

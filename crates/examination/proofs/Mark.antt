@@ -22,40 +22,50 @@ use Rattle.network.proofs.Laws.Lists.{zero-ne-one}
 use Rattle.search.specs.Search.{SearchOutcome, finished, stopped, stoppedWithNone, triesOf, searchOutcome, startRowAfter}
 use Rattle.search.specs.Search as search
 use Rattle.search.proofs.Demands.{Searches, demandedBound, Demand3, Answers, demand-3, answers}
+use Rattle.examination.specs.Hundred.{markOf, remainderOf}
 use Rattle.examination.specs.Sheets.{MarkOutcome, decided, undecided, refusal, fits, marked, markOutcome}
 
 -- ---- What is demanded, of an accepted network, the sheet and the budget as lent, and the answer
 
 pub record MarkMeans (n : Net) (sheet : List ℤ) (budget : ℕ) (answer : MarkOutcome) : Type 0 where
   -- the sheet's rating is its own
-  pub decided-rating : {least sum bestLeast bestSum : ℕ} {equal : Bool} {tries : ℕ} → answer ≡ decided least sum bestLeast bestSum equal tries
+  pub decided-rating : {least sum bestLeast bestSum : ℕ} {equal : Bool} {mark remainder tries : ℕ} → answer ≡ decided least sum bestLeast bestSum equal mark remainder tries
       → IsRating n sheet least sum
   pub undecided-rating : {least sum tries : ℕ} → answer ≡ undecided least sum tries → IsRating n sheet least sum
+  -- a sheet that is decided on has one start for each line
+  pub decided-fits : {least sum bestLeast bestSum : ℕ} {equal : Bool} {mark remainder tries : ℕ} → answer ≡ decided least sum bestLeast bestSum equal mark remainder tries
+      → length sheet ≡ length (n .periods)
   -- the best rating is that of some whole-number starts, and of no choice of them is the rating above it
-  pub best-is-attained : {least sum bestLeast bestSum : ℕ} {equal : Bool} {tries : ℕ} → answer ≡ decided least sum bestLeast bestSum equal tries
+  pub best-is-attained : {least sum bestLeast bestSum : ℕ} {equal : Bool} {mark remainder tries : ℕ} → answer ≡ decided least sum bestLeast bestSum equal mark remainder tries
       → (starts : List ℤ) × (length starts ≡ length (n .periods)) × IsRating n starts bestLeast bestSum
-  pub best-is-unbeaten : {least sum bestLeast bestSum : ℕ} {equal : Bool} {tries : ℕ} → answer ≡ decided least sum bestLeast bestSum equal tries
+  pub best-is-unbeaten : {least sum bestLeast bestSum : ℕ} {equal : Bool} {mark remainder tries : ℕ} → answer ≡ decided least sum bestLeast bestSum equal mark remainder tries
       → (starts : List ℤ) → length starts ≡ length (n .periods) → {least′ sum′ : ℕ} → IsRating n starts least′ sum′
       → (least′ < bestLeast) ⊎ ((least′ ≡ bestLeast) × (sum′ ≤ bestSum))
+  -- .. so that the sheet's own least gap isn't above the best one
+  pub not-above-best : {least sum bestLeast bestSum : ℕ} {equal : Bool} {mark remainder tries : ℕ} → answer ≡ decided least sum bestLeast bestSum equal mark remainder tries
+      → least ≤ bestLeast
   -- equal: no choice of whole-number starts rates above this sheet
-  pub equal-is-unbeaten : {least sum bestLeast bestSum tries : ℕ} → answer ≡ decided least sum bestLeast bestSum true tries
+  pub equal-is-unbeaten : {least sum bestLeast bestSum mark remainder tries : ℕ} → answer ≡ decided least sum bestLeast bestSum true mark remainder tries
       → (starts : List ℤ) → length starts ≡ length (n .periods) → {least′ sum′ : ℕ} → IsRating n starts least′ sum′
       → (least′ < least) ⊎ ((least′ ≡ least) × (sum′ ≤ sum))
   -- not equal: some do, and the best rating is theirs
-  pub unequal-is-beaten : {least sum bestLeast bestSum tries : ℕ} → answer ≡ decided least sum bestLeast bestSum false tries
+  pub unequal-is-beaten : {least sum bestLeast bestSum mark remainder tries : ℕ} → answer ≡ decided least sum bestLeast bestSum false mark remainder tries
       → (least < bestLeast) ⊎ ((least ≡ bestLeast) × (sum < bestSum))
+  -- mark and remainder are document 02's, of these two least gaps
+  pub mark-is : {least sum bestLeast bestSum : ℕ} {equal : Bool} {mark remainder tries : ℕ} → answer ≡ decided least sum bestLeast bestSum equal mark remainder tries
+      → (mark ≡ markOf least bestLeast) × (remainder ≡ remainderOf least bestLeast)
   -- the tries are within demand 3's bound and the budget; undecided, they are the budget
-  pub decided-tries : {least sum bestLeast bestSum : ℕ} {equal : Bool} {tries : ℕ} → answer ≡ decided least sum bestLeast bestSum equal tries
+  pub decided-tries : {least sum bestLeast bestSum : ℕ} {equal : Bool} {mark remainder tries : ℕ} → answer ≡ decided least sum bestLeast bestSum equal mark remainder tries
       → (tries ≤ demandedBound n) × (tries ≤ budget)
   pub undecided-tries : {least sum tries : ℕ} → answer ≡ undecided least sum tries → (tries ≤ demandedBound n) × (tries ≡ budget)
   -- the ratings' numbers
-  pub decided-range : {least sum bestLeast bestSum : ℕ} {equal : Bool} {tries : ℕ} → answer ≡ decided least sum bestLeast bestSum equal tries
+  pub decided-range : {least sum bestLeast bestSum : ℕ} {equal : Bool} {mark remainder tries : ℕ} → answer ≡ decided least sum bestLeast bestSum equal mark remainder tries
       → ((least ≤ maxPeriod) × (sum ≤ 92160)) × ((bestLeast ≤ maxPeriod) × (bestSum ≤ 92160))
   pub undecided-range : {least sum tries : ℕ} → answer ≡ undecided least sum tries → (least ≤ maxPeriod) × (sum ≤ 92160)
   -- under a budget of at least the bound it is never undecided
   pub decides : length sheet ≡ length (n .periods) → demandedBound n ≤ budget
-      → (least : ℕ) × (sum : ℕ) × (bestLeast : ℕ) × (bestSum : ℕ) × (equal : Bool) × (tries : ℕ)
-      × (answer ≡ decided least sum bestLeast bestSum equal tries)
+      → (least : ℕ) × (sum : ℕ) × (bestLeast : ℕ) × (bestSum : ℕ) × (equal : Bool) × (mark : ℕ) × (remainder : ℕ) × (tries : ℕ)
+      × (answer ≡ decided least sum bestLeast bestSum equal mark remainder tries)
 
 -- ---- A mark by its definition
 
@@ -71,9 +81,12 @@ record SearchTells (n : Net) (sheet : List ℤ) (budget least sum : ℕ) (search
   its-sum : rating n sheet .sum ≡ sum
   found : searchOutcome (accepted n) (length sheet) budget ≡ searched
 
-abbrev ToldDecided : Net → List ℤ → ℕ → ℕ → ℕ → ℕ → ℕ → Bool → ℕ → Type 0
-ToldDecided n sheet budget least sum bestLeast bestSum equal tries =
-    SearchTells n sheet budget least sum (finished bestLeast bestSum tries) × ((eqb least bestLeast && eqb sum bestSum) ≡ equal)
+abbrev ToldDecided : Net → List ℤ → ℕ → ℕ → ℕ → ℕ → ℕ → Bool → ℕ → ℕ → ℕ → Type 0
+ToldDecided n sheet budget least sum bestLeast bestSum equal mark remainder tries =
+    SearchTells n sheet budget least sum (finished bestLeast bestSum tries)
+    × ((eqb least bestLeast && eqb sum bestSum) ≡ equal)
+    × (mark ≡ markOf least bestLeast)
+    × (remainder ≡ remainderOf least bestLeast)
 
 abbrev ToldUndecided : Net → List ℤ → ℕ → ℕ → ℕ → ℕ → Type 0
 ToldUndecided n sheet budget least sum tries =
@@ -94,18 +107,19 @@ module _ (n : Net) (sheet : List ℤ) (budget : ℕ) where
       go true f = fit (eqb-true _ _ f) _ refl
       go false f = unfit
 
-  told-of-decided : {least sum bestLeast bestSum : ℕ} {equal : Bool} {tries : ℕ}
-      → markOutcome (accepted n) sheet budget ≡ decided least sum bestLeast bestSum equal tries
-      → ToldDecided n sheet budget least sum bestLeast bestSum equal tries
+  told-of-decided : {least sum bestLeast bestSum : ℕ} {equal : Bool} {mark remainder tries : ℕ}
+      → markOutcome (accepted n) sheet budget ≡ decided least sum bestLeast bestSum equal mark remainder tries
+      → ToldDecided n sheet budget least sum bestLeast bestSum equal mark remainder tries
   unfolding marked
-  told-of-decided {least} {sum} {bestLeast} {bestSum} {equal} {tries} =
-      mark-cases (λ m. m ≡ decided least sum bestLeast bestSum equal tries → ToldDecided n sheet budget least sum bestLeast bestSum equal tries)
+  told-of-decided {least} {sum} {bestLeast} {bestSum} {equal} {mark} {remainder} {tries} =
+      mark-cases
+      (λ m. m ≡ decided least sum bestLeast bestSum equal mark remainder tries → ToldDecided n sheet budget least sum bestLeast bestSum equal mark remainder tries)
       (λ e. absurd (zero-ne-one (cc))) go
     where
       go : length sheet ≡ length (n .periods) → (o : SearchOutcome) → searchOutcome (accepted n) (length sheet) budget ≡ o
-          → marked (rating n sheet .least) (rating n sheet .sum) o ≡ decided least sum bestLeast bestSum equal tries
-          → ToldDecided n sheet budget least sum bestLeast bestSum equal tries
-      go f (finished l s t) q e = (record { fit = f; its-least = cc; its-sum = cc; found = q ∙ cc }, cc)
+          → marked (rating n sheet .least) (rating n sheet .sum) o ≡ decided least sum bestLeast bestSum equal mark remainder tries
+          → ToldDecided n sheet budget least sum bestLeast bestSum equal mark remainder tries
+      go f (finished l s t) q e = (record { fit = f; its-least = cc; its-sum = cc; found = q ∙ cc }, cc, cc, cc)
       go f (stopped l s t) q e = absurd (zero-ne-one (cc))
       go f (stoppedWithNone t) q e = absurd (zero-ne-one (cc))
       go f (search.refusal k p) q e = absurd (zero-ne-one (cc))
@@ -130,6 +144,10 @@ below-or-equal : (least sum bestLeast bestSum : ℕ) → (eqb least bestLeast &&
 below-or-equal least sum bestLeast bestSum e (inl h) = inl h
 below-or-equal least sum bestLeast bestSum e (inr h) =
     inr (h .0, omega (arith, h .1, eqb-false sum bestSum (sym (ap (λ (b : Bool). b && eqb sum bestSum) (eq-eqb _ _ (h .0))) ∙ e)))
+
+least-not-above : {least sum bestLeast bestSum : ℕ} → (least < bestLeast) ⊎ ((least ≡ bestLeast) × (sum ≤ bestSum)) → least ≤ bestLeast
+least-not-above (inl h) = omega (arith, h)
+least-not-above (inr h) = omega (arith, h .0)
 
 and-eq : (a b c d : ℕ) → (eqb a b && eqb c d) ≡ true → (a ≡ b) × (c ≡ d)
 and-eq a b c d = go (eqb a b) (eqb c d) refl refl
@@ -189,8 +207,8 @@ module _ {file : List ℕ} {sheet : List ℤ} {budget : ℕ} {answer : MarkOutco
   -- Where the search finishes, the mark is decided
   decided-of-finished : length sheet ≡ length (n .periods)
       → (least : ℕ) × (sum : ℕ) × (tries : ℕ) × (searchOutcome (readFile file) (length sheet) budget ≡ finished least sum tries)
-      → (least : ℕ) × (sum : ℕ) × (bestLeast : ℕ) × (bestSum : ℕ) × (equal : Bool) × (tries : ℕ)
-      × (answer ≡ decided least sum bestLeast bestSum equal tries)
+      → (least : ℕ) × (sum : ℕ) × (bestLeast : ℕ) × (bestSum : ℕ) × (equal : Bool) × (mark : ℕ) × (remainder : ℕ) × (tries : ℕ)
+      × (answer ≡ decided least sum bestLeast bestSum equal mark remainder tries)
   unfolding markOutcome fits marked onSheet
   decided-of-finished fit (bestLeast, bestSum, tries, e) = (
     rating n sheet .least,
@@ -198,6 +216,8 @@ module _ {file : List ℕ} {sheet : List ℤ} {budget : ℕ} {answer : MarkOutco
     bestLeast,
     bestSum,
     eqb (rating n sheet .least) bestLeast && eqb (rating n sheet .sum) bestSum,
+    markOf (rating n sheet .least) bestLeast,
+    remainderOf (rating n sheet .least) bestLeast,
     tries,
     call .answered
         ∙ rw (reads, eq-eqb _ _ fit, sym (ap (λ (read : Reading). searchOutcome read (length sheet) budget) reads) ∙ e) refl,
@@ -208,10 +228,14 @@ module _ {file : List ℕ} {sheet : List ℤ} {budget : ℕ} {answer : MarkOutco
       record {
         decided-rating = λ e. rated (told-of-decided n sheet budget (answer-is e) .0);
         undecided-rating = undecided-is-rated;
+        decided-fits = λ e. told-of-decided n sheet budget (answer-is e) .0 .fit;
         best-is-attained = λ e.
             let q = of-search .finished-has-its-rating (found-is (told-of-decided n sheet budget (answer-is e) .0 .found)) in
             (startRowAfter (readFile file) budget sheet, q .0, q .1);
         best-is-unbeaten = λ e. of-search .finished-is-best (found-is (told-of-decided n sheet budget (answer-is e) .0 .found));
+        not-above-best = λ {least} {sum} {bestLeast} {bestSum} e.
+            let t = told-of-decided n sheet budget (answer-is e) in
+            least-not-above (of-search .finished-is-best (found-is (t .0 .found)) sheet (t .0 .fit) (rated (t .0)));
         equal-is-unbeaten = λ {least} {sum} {bestLeast} {bestSum} e starts f q.
             let t = told-of-decided n sheet budget (answer-is e) in
             let same = and-eq least bestLeast sum bestSum (t .1) in
@@ -219,6 +243,7 @@ module _ {file : List ℕ} {sheet : List ℤ} {budget : ℕ} {answer : MarkOutco
         unequal-is-beaten = λ {least} {sum} {bestLeast} {bestSum} e.
             let t = told-of-decided n sheet budget (answer-is e) in
             below-or-equal least sum bestLeast bestSum (t .1) (of-search .finished-is-best (found-is (t .0 .found)) sheet (t .0 .fit) (rated (t .0)));
+        mark-is = λ e. let t = told-of-decided n sheet budget (answer-is e) in (t .2, t .3);
         decided-tries = λ e. tries-are (told-of-decided n sheet budget (answer-is e) .0 .found);
         undecided-tries = undecided-at-budget;
         decided-range = λ e.

@@ -1,13 +1,13 @@
 -- The bytes of a sheet mean the integers that they should: every list of integers of 32 bits comes back from its bytes, both ends included.
 -- Assumes nothing.
-use Prim.Native.Nat.{ℕ, _+_, _*_, _-_, _/_, _%_, _<_}
+use Prim.Native.Nat.{ℕ, suc, _+_, _*_, _-_, _/_, _%_, _<_}
 use mathlib.Core.Path.{_≡_, refl, ap, ap₂, _∙_}
 use mathlib.Core.Bool.{Bool}
 use mathlib.Core.List.{List, [], _∷_}
 use native.Mathlib.Omega.{arith}
 use borrow.Author.Tests.{lt-ltb, le-ltb}
 use lib.IntN.{ℤ, pos, negsuc, _-ℤ_}
-use lib.ListN.{length}
+use lib.ListN.{length, getD}
 use Rattle.network.specs.Lists.{pick}
 use Rattle.network.proofs.Laws.Integers.{difference, difference-pos, difference-sub, eq-of-difference}
 use Rattle.examination.specs.Bytes.{signed, starts}
@@ -40,6 +40,11 @@ joined m = omega arith
 pub data All32 : List ℤ → Type 0 where
   none : All32 []
   next : {x : ℤ} {rest : List ℤ} → In32 x → All32 rest → All32 (x ∷ rest)
+
+-- .. place by place
+pub all32 : (sheet : List ℤ) → ((i : ℕ) → i < length sheet → In32 (getD sheet i (pos 0))) → All32 sheet
+all32 [] each = none
+all32 (x ∷ rest) each = next (each 0 (omega arith)) (all32 rest (λ i h. each (suc i) (omega (arith, h))))
 
 pub starts-of-bytes : (sheet : List ℤ) → All32 sheet → starts (bytesOf sheet) ≡ sheet
 unfolding starts bytesOf

@@ -4,14 +4,17 @@ use Prim.Native.Nat.{ℕ, _+_, _*_}
 use mathlib.Core.Path.{_≡_}
 use mathlib.Core.Bool.{Bool}
 use mathlib.Core.List.{List, [], _∷_}
+use mathlib.Core.Logic.{_⊎_}
 use lib.Dec.{eqb, ltb}
 use lib.IntN.{ℤ, pos, _-ℤ_}
 use lib.ListN.{length}
 use Rattle.network.specs.Lists.{pick}
 use Rattle.network.specs.Network.{Net}
 use Rattle.network.specs.Rating.{rating}
-use Rattle.network.specs.Reading.{Reading, accepted, refused}
-use Rattle.examination.specs.Sheets.{Better, neither, betterBy}
+use Rattle.network.specs.Reading.{Reading, accepted, refused, Outcome, refusal}
+use Rattle.examination.specs.Hundred.{keyOutcome}
+use Rattle.examination.specs.Sheets.{Better, neither, betterBy, MarkOutcome, markOutcome}
+use Rattle.examination.specs.Sheets as sheets
 
 -- Two's complement in 32 bits: a number of 2^31 or more stands for itself less 2^32
 unfoldable pub signed : ℕ → ℤ
@@ -38,8 +41,25 @@ unfoldable pub byBytes : {A : Type 0} → (Reading → List ℤ → A) → (ℕ 
 byBytes call refuses (refused number place) bytes = refuses number place
 byBytes call refuses (accepted n) bytes = pick (bytesFit n bytes) (call (accepted n) (starts bytes)) (refuses 15 0)
 
+-- Mark, the sheet being handed over as bytes
+abbrev pub markBytes : ℕ → Reading → List ℕ → MarkOutcome
+markBytes budget = byBytes (λ (read : Reading) (sheet : List ℤ). markOutcome read sheet budget) sheets.refusal
+
 -- Better-of-two, both sheets being handed over as bytes
 unfoldable pub betterBytes : Reading → List ℕ → List ℕ → Better
 betterBytes (refused number place) one other = neither
 betterBytes (accepted n) one other =
     betterBy (bytesFit n one) (bytesFit n other) (rating n (starts one)) (rating n (starts other))
+
+-- Document 02, A.5, by a key: sheet and key being handed over as bytes
+unfoldable pub keyBytes : Reading → List ℕ → List ℕ → Outcome
+keyBytes read sheet key =
+    byBytes
+    (λ (r : Reading) (starts : List ℤ). byBytes (λ (f : Reading) (best : List ℤ). keyOutcome f starts best) refusal r key)
+    refusal
+    read
+    sheet
+
+-- 15: there aren't 4 bytes for each line, of the sheet or of the key
+abbrev pub EitherBytesUnfit : List ℕ → List ℕ → Net → Type 0
+EitherBytesUnfit sheet key n = BytesUnfit sheet n ⊎ BytesUnfit key n

@@ -73,7 +73,7 @@ betterStatus neither = 0
 -- A mark: 0 decided, 1 undecided; the sheet's rating, the best rating, 1 if they are equal and 0 if not, and the tries; undecided has 0 in
 -- the places of what is not known
 unfoldable pub markStatus : MarkOutcome → ℕ
-markStatus (decided least sum bestLeast bestSum equal tries) = 0
+markStatus (decided least sum bestLeast bestSum equal mark remainder tries) = 0
 markStatus (undecided least sum tries) = 1
 markStatus (sheets.refusal number place) = refusalCode number place
 
@@ -82,7 +82,13 @@ oneIf true = 1
 oneIf false = 0
 
 unfoldable pub markRow : MarkOutcome → List ℕ → List ℕ
-markRow (decided least sum bestLeast bestSum equal tries) row =
+markRow (decided least sum bestLeast bestSum equal mark remainder tries) row =
     least ∷ sum ∷ bestLeast ∷ bestSum ∷ oneIf equal ∷ tries ∷ []
 markRow (undecided least sum tries) row = least ∷ sum ∷ 0 ∷ 0 ∷ 0 ∷ tries ∷ []
 markRow (sheets.refusal number place) row = row
+
+-- Document 02, A.5: the mark out of a hundred and its remainder, in a row of their own; undecided has 0 in both places
+unfoldable pub hundredRow : MarkOutcome → List ℕ → List ℕ
+hundredRow (decided least sum bestLeast bestSum equal mark remainder tries) row = mark ∷ remainder ∷ []
+hundredRow (undecided least sum tries) row = 0 ∷ 0 ∷ []
+hundredRow (sheets.refusal number place) row = row

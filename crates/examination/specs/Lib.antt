@@ -1,3 +1,4 @@
+pub mod Hundred
 pub mod Sheets
 pub mod Bytes
 pub mod Exports

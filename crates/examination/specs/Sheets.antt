@@ -14,6 +14,7 @@ use Rattle.network.specs.Rate.{onSheet}
 use Rattle.network.specs.Reading.{Reading, accepted, refused}
 use Rattle.search.specs.Search.{SearchOutcome, searchOutcome}
 use Rattle.search.specs.Search as search
+use Rattle.examination.specs.Hundred.{markOf, remainderOf}
 use Rattle.examination.specs.declared.Choice.{Choice}
 use Rattle.examination.specs.declared.Choice.the-variants as choice
 use Rattle.examination.specs.declared.MarkAnswer.{MarkAnswer}
@@ -52,23 +53,32 @@ betterOf (accepted n) one other = betterBy (fits n one) (fits n other) (rating n
 
 -- ---- Mark
 
--- What a mark answers, as the paper has it: decided, with the sheet's rating, the best rating, whether they are equal, and the tries;
--- undecided, with the sheet's rating and the tries; or the number and place of a refusal
+-- What a mark answers, as the papers have it: decided, with the sheet's rating, the best rating, whether they are equal, document 02's mark and
+-- remainder, and the tries; undecided, with the sheet's rating and the tries; or the number and place of a refusal
 pub data MarkOutcome : Type 0 where
-  decided : (least sum bestLeast bestSum : ℕ) (equal : Bool) (tries : ℕ) → MarkOutcome
+  decided : (least sum bestLeast bestSum : ℕ) (equal : Bool) (mark remainder tries : ℕ) → MarkOutcome
   undecided : (least sum tries : ℕ) → MarkOutcome
   refusal : (number place : ℕ) → MarkOutcome
 
 -- The mark call's enum, case by case
 unfoldable pub markAnswer : MarkAnswer → MarkOutcome
-markAnswer (answer.Decided least sum bestLeast bestSum equal tries) = decided least sum bestLeast bestSum equal tries
+markAnswer (answer.Decided least sum bestLeast bestSum equal mark remainder tries) =
+    decided least sum bestLeast bestSum equal mark remainder tries
 markAnswer (answer.Undecided least sum tries) = undecided least sum tries
 markAnswer (answer.Refused number place) = refusal number place
 
--- A sheet of this rating beside what the search answers: if the search stops, undecided
+-- A sheet of this rating beside what the search answers: if the search stops, undecided, and without a mark
 unfoldable pub marked : (least sum : ℕ) → SearchOutcome → MarkOutcome
 marked least sum (search.finished bestLeast bestSum tries) =
-    decided least sum bestLeast bestSum (eqb least bestLeast && eqb sum bestSum) tries
+    decided
+    least
+    sum
+    bestLeast
+    bestSum
+    (eqb least bestLeast && eqb sum bestSum)
+    (markOf least bestLeast)
+    (remainderOf least bestLeast)
+    tries
 marked least sum (search.stopped bestLeast bestSum tries) = undecided least sum tries
 marked least sum (search.stoppedWithNone tries) = undecided least sum tries
 marked least sum (search.refusal number place) = refusal number place

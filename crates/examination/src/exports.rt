@@ -1,8 +1,10 @@
 // The exports: the calls for programs in other languages, as docs/ABI.md sets them down.
 use crate::Choice;
+use crate::KeyAnswer;
 use crate::MarkAnswer;
 use crate::better::choose;
 use crate::bytes::sheet_of;
+use crate::hundred::by_key;
 use crate::marking::mark;
 use network::ArchiveAnswer;
 use network::ClassAnswer;
@@ -18,14 +20,12 @@ use search::WantedAnswer;
 use search::entry::search;
 use search::wanted::wanted;
 ghost use mathlib.Core.Path.{_≡_};
-ghost use mathlib.Core.List.{List};
 ghost use Prim.Native.Nat.{ℕ, _<_};
-ghost use lib.IntN.{ℤ};
 ghost use lib.ListN.{length};
 ghost use Rattle.network.specs.Archive as form;
 ghost use Rattle.network.specs.ClassCall as call;
 ghost use Rattle.network.specs.Rate.{rateAnswer, rateOutcome};
-ghost use Rattle.network.specs.Reading.{Reading, readFile, readOutcome, refusal};
+ghost use Rattle.network.specs.Reading.{readFile, readOutcome, refusal};
 ghost use Rattle.network.specs.Valid.{IsBytes};
 ghost use Rattle.search.specs.Search.{searchOutcome, startRowAfter};
 ghost use Rattle.search.specs.Wanted.{wantedOutcome, wantedRowAfter};
@@ -237,22 +237,23 @@ pub extern "C" fn examination_better(file: &[u8], first: &[u8], second: &[u8]) -
     }
 }
 
-// Mark, the sheet as bytes.
-#[no_mangle]
-pub extern "C" fn examination_mark(
-    file: &[u8],
-    sheet: &[u8],
-    budget: u32,
-    answer: &mut [u32; 6],
-) -> u32
-    ensures returned { λ r. ⌜ r ≡ export.markStatus (bytes.byBytes (λ (f : Reading) (s : List ℤ). sheets.markOutcome f s budget) sheets.refusal (readFile (now (file .entry))) (now (sheet .entry))) ⌝ }
-    ensures row { λ _. ⌜ now (answer .exit) ≡ export.markRow (bytes.byBytes (λ (f : Reading) (s : List ℤ). sheets.markOutcome f s budget) sheets.refusal (readFile (now (file .entry))) (now (sheet .entry))) (now (answer .entry)) ⌝ }
+// Mark on a sheet's bytes.
+fn mark_bytes(file: &[u8], sheet: &[u8], budget: u32) -> MarkAnswer
+    ensures answer { λ r. ⌜ sheets.markAnswer r ≡ bytes.markBytes budget (readFile (now (file .entry))) (now (sheet .entry)) ⌝ }
     ensures bytes { λ _. ⌜ IsBytes (now (file .entry)) ⌝ }
 {
     let taken = sheet_of(sheet);
     let starts = taken.starts;
     let count = taken.count;
-    let told = mark(file, &starts[..count], budget);
+    mark(file, &starts[..count], budget)
+}
+
+// A mark's six numbers into the answer row, or a refusal; and what the export returns.
+fn put_mark(told: MarkAnswer, answer: &mut [u32; 6]) -> u32
+    requires { ⌜ ((number place : ℕ) → sheets.markAnswer told ≡ sheets.refusal number place → place < export.placeLimit) ⌝ }
+    ensures returned { λ r. ⌜ r ≡ export.markStatus (sheets.markAnswer told) ⌝ }
+    ensures row { λ _. ⌜ now (answer .exit) ≡ export.markRow (sheets.markAnswer told) (now (answer .entry)) ⌝ }
+{
     match told {
         MarkAnswer::Refused { number, place } => refusal_code(number, place),
         MarkAnswer::Undecided { least, sum, tries } => {
@@ -265,10 +266,100 @@ pub extern "C" fn examination_mark(
             best_least,
             best_sum,
             equal,
+            mark,
+            remainder,
             tries,
         } => {
             let same = one_if(equal);
             *answer = [least, sum, best_least, best_sum, same, tries];
+            0
+        }
+    }
+}
+
+// A mark out of a hundred and its remainder into a row of their own; a refusal leaves the row.
+fn put_hundred(told: MarkAnswer, hundred: &mut [u32; 2])
+    ensures { λ _. ⌜ now (hundred .exit) ≡ export.hundredRow (sheets.markAnswer told) (now (hundred .entry)) ⌝ }
+{
+    match told {
+        MarkAnswer::Refused { number, place } => {}
+        MarkAnswer::Undecided { least, sum, tries } => {
+            *hundred = [0, 0];
+        }
+        MarkAnswer::Decided {
+            least,
+            sum,
+            best_least,
+            best_sum,
+            equal,
+            mark,
+            remainder,
+            tries,
+        } => {
+            *hundred = [mark, remainder];
+        }
+    }
+}
+
+// Mark, the sheet as bytes.
+#[no_mangle]
+pub extern "C" fn examination_mark(
+    file: &[u8],
+    sheet: &[u8],
+    budget: u32,
+    answer: &mut [u32; 6],
+) -> u32
+    ensures returned { λ r. ⌜ r ≡ export.markStatus (bytes.markBytes budget (readFile (now (file .entry))) (now (sheet .entry))) ⌝ }
+    ensures row { λ _. ⌜ now (answer .exit) ≡ export.markRow (bytes.markBytes budget (readFile (now (file .entry))) (now (sheet .entry))) (now (answer .entry)) ⌝ }
+    ensures bytes { λ _. ⌜ IsBytes (now (file .entry)) ⌝ }
+{
+    let told = mark_bytes(file, sheet, budget);
+    put_mark(told, answer)
+}
+
+// Mark out of a hundred, the sheet as bytes: what the export of mark answers, and mark and remainder in a row of their own, so that a host
+// that lends six places to that one keeps them.
+#[no_mangle]
+pub extern "C" fn examination_hundred(
+    file: &[u8],
+    sheet: &[u8],
+    budget: u32,
+    answer: &mut [u32; 6],
+    hundred: &mut [u32; 2],
+) -> u32
+    ensures as_mark { λ r. ⌜ r ≡ export.markStatus (bytes.markBytes budget (readFile (now (file .entry))) (now (sheet .entry))) ⌝ }
+    ensures row { λ _. ⌜ now (answer .exit) ≡ export.markRow (bytes.markBytes budget (readFile (now (file .entry))) (now (sheet .entry))) (now (answer .entry)) ⌝ }
+    ensures hundred { λ _. ⌜ now (hundred .exit) ≡ export.hundredRow (bytes.markBytes budget (readFile (now (file .entry))) (now (sheet .entry))) (now (hundred .entry)) ⌝ }
+    ensures bytes { λ _. ⌜ IsBytes (now (file .entry)) ⌝ }
+{
+    let told = mark_bytes(file, sheet, budget);
+    put_hundred(told, hundred);
+    put_mark(told, answer)
+}
+
+// Mark out of a hundred by a key, sheet and key as bytes.
+#[no_mangle]
+pub extern "C" fn examination_by_key(
+    file: &[u8],
+    sheet: &[u8],
+    key: &[u8],
+    hundred: &mut [u32; 2],
+) -> u32
+    ensures returned { λ r. ⌜ r ≡ export.status (bytes.keyBytes (readFile (now (file .entry))) (now (sheet .entry)) (now (key .entry))) ⌝ }
+    ensures row { λ _. ⌜ now (hundred .exit) ≡ export.rowAfter (bytes.keyBytes (readFile (now (file .entry))) (now (sheet .entry)) (now (key .entry))) (now (hundred .entry)) ⌝ }
+    ensures bytes { λ _. ⌜ IsBytes (now (file .entry)) ⌝ }
+{
+    let taken = sheet_of(sheet);
+    let starts = taken.starts;
+    let count = taken.count;
+    let best = sheet_of(key);
+    let best_starts = best.starts;
+    let best_count = best.count;
+    let told = by_key(file, &starts[..count], &best_starts[..best_count]);
+    match told {
+        KeyAnswer::Refused { number, place } => refusal_code(number, place),
+        KeyAnswer::Marked { mark, remainder } => {
+            *hundred = [mark, remainder];
             0
         }
     }

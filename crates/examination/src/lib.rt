@@ -1,7 +1,8 @@
-// The examination: better-of-two, mark, and the exports for the host.
+// The examination: better-of-two, mark, marks out of a hundred, and the exports for the host.
 pub mod better;
 pub mod bytes;
 pub mod exports;
+pub mod hundred;
 pub mod marking;
 
 // Which of two sheets is the better.
@@ -11,8 +12,8 @@ pub enum Choice {
     Neither,
 }
 
-// What the mark call answers: decided, the sheet's rating, the best rating, whether they are equal, and the tries; undecided, the sheet's
-// rating and the tries; or a refusal.
+// What the mark call answers: decided, the sheet's rating, the best rating, whether they are equal, the mark out of a hundred with its
+// remainder, and the tries; undecided, the sheet's rating and the tries, and no mark; or a refusal.
 pub enum MarkAnswer {
     Decided {
         least: u32,
@@ -20,6 +21,8 @@ pub enum MarkAnswer {
         best_least: u32,
         best_sum: u32,
         equal: bool,
+        mark: u32,
+        remainder: u32,
         tries: u32,
     },
     Undecided {
@@ -31,6 +34,18 @@ pub enum MarkAnswer {
         number: u8,
         place: usize,
     },
+}
+
+// A mark out of a hundred: the whole part, and what is left.
+pub struct OutOfHundred {
+    pub mark: u32,
+    pub remainder: u32,
+}
+
+// What the call by a key answers: the mark out of a hundred with its remainder, or a refusal.
+pub enum KeyAnswer {
+    Marked { mark: u32, remainder: u32 },
+    Refused { number: u8, place: usize },
 }
 
 // A sheet taken apart: how many starts it has, and the starts. More starts than any network has lines stand for a byte count that is no

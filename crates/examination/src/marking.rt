@@ -1,10 +1,13 @@
 // The mark call.
 use crate::MarkAnswer;
+use crate::hundred::out_of_hundred;
 use network::RateAnswer;
 use network::Rating;
 use search::SearchAnswer;
 use search::entry::rate_and_search;
 ghost use mathlib.Core.Path.{_≡_};
+ghost use Prim.Native.Nat.{_≤_};
+ghost use Rattle.network.specs.Network.{maxPeriod};
 ghost use Rattle.network.specs.Reading.{readFile};
 ghost use Rattle.network.specs.Valid.{IsBytes};
 ghost use Rattle.search.specs.Search.{searchAnswer};
@@ -12,6 +15,7 @@ ghost use Rattle.examination.specs.Sheets as sheets;
 
 // A sheet of this rating beside what the search answers.
 fn marked(least: u32, sum: u32, answer: SearchAnswer) -> MarkAnswer
+    requires { ⌜ least ≤ maxPeriod ⌝ }
     ensures { λ r. ⌜ sheets.markAnswer r ≡ sheets.marked least sum (searchAnswer answer) ⌝ }
 {
     match answer {
@@ -31,12 +35,15 @@ fn marked(least: u32, sum: u32, answer: SearchAnswer) -> MarkAnswer
                 sum: best_sum,
             };
             let equal = rating.is_equal(best);
+            let hundred = out_of_hundred(least, best_least);
             MarkAnswer::Decided {
                 least,
                 sum,
                 best_least,
                 best_sum,
                 equal,
+                mark: hundred.mark,
+                remainder: hundred.remainder,
                 tries,
             }
         }
@@ -50,7 +57,8 @@ fn marked(least: u32, sum: u32, answer: SearchAnswer) -> MarkAnswer
     }
 }
 
-// Mark: a file, a sheet and a budget; the sheet's rating beside the best one, or undecided where the search stops, or the refusal of rate.
+// Mark: a file, a sheet and a budget; the sheet's rating beside the best one, with the mark out of a hundred, or undecided where the search
+// stops, or the refusal of rate.
 pub fn mark(file: &[u8], sheet: &[i32], budget: u32) -> MarkAnswer
     ensures answer { λ r. ⌜ sheets.markAnswer r ≡ sheets.markOutcome (readFile (now (file .entry))) (now (sheet .entry)) budget ⌝ }
     ensures bytes { λ _. ⌜ IsBytes (now (file .entry)) ⌝ }

@@ -17,7 +17,8 @@ use Rattle.network.specs.Rate.{onSheet, ratedOnSheet}
 use Rattle.network.specs.Reading.{Reading, accepted, refused, refusal, readFile}
 use Rattle.network.specs.Valid.{IsBytes}
 use Rattle.network.proofs.Laws.Gaps.{accepted-valid}
-use Rattle.examination.specs.Bytes.{signed, starts, bytesFit, byBytes, betterBytes}
+use Rattle.examination.specs.Bytes.{signed, starts, bytesFit, byBytes, markBytes, betterBytes, keyBytes}
+use Rattle.examination.specs.Hundred.{besideKey, keyOutcome}
 use Rattle.examination.specs.Sheets.{fits, betterBy, betterOf, markOutcome}
 use Rattle.examination.specs.Sheets as sheets
 use Rattle.examination.specs.Engine.Taken.{startAt, isWhole, sheetOf}
@@ -129,10 +130,38 @@ pub rated-on-bytes : (rates : Net → List ℤ → Rating) (file : List ℕ) →
 rated-on-bytes rates = onSheet-on-bytes _ refusal
 
 pub mark-on-bytes : (budget : ℕ) (file : List ℕ) → IsBytes file → (bytes : List ℕ)
-    → markOutcome (readFile file) (sheetOf bytes) budget
-    ≡ byBytes (λ (read : Reading) (sheet : List ℤ). markOutcome read sheet budget) sheets.refusal (readFile file) bytes
+    → markOutcome (readFile file) (sheetOf bytes) budget ≡ markBytes budget (readFile file) bytes
 unfolding markOutcome
 mark-on-bytes budget = onSheet-on-bytes _ sheets.refusal
+
+-- By a key: both sheets' bytes, the one after the other
+module _ (sheet key : List ℤ) (n : Net) where
+  pub key-of-unfit-sheet : fits n sheet ≡ false → keyOutcome (accepted n) sheet key ≡ refusal 15 0
+  unfolding keyOutcome onSheet fits
+  key-of-unfit-sheet e =
+      ap (λ (b : Bool). pick b (onSheet (λ (m : Net) (best : List ℤ). besideKey m sheet best) refusal (accepted n) key) (refusal 15 0)) e
+
+  pub key-of-unfit-key : fits n key ≡ false → keyOutcome (accepted n) sheet key ≡ refusal 15 0
+  unfolding keyOutcome onSheet fits
+  key-of-unfit-key e = go (eqb (length sheet) (length (n .periods)))
+    where
+      go : (b : Bool) → pick b (pick (eqb (length key) (length (n .periods))) (besideKey n sheet key) (refusal 15 0)) (refusal 15 0) ≡ refusal 15 0
+      go true = ap (λ (b : Bool). pick b (besideKey n sheet key) (refusal 15 0)) e
+      go false = refl
+
+pub key-on-bytes : (file : List ℕ) → IsBytes file → (sheet key : List ℕ)
+    → keyOutcome (readFile file) (sheetOf sheet) (sheetOf key) ≡ keyBytes (readFile file) sheet key
+unfolding keyBytes keyOutcome onSheet byBytes
+key-on-bytes file is-bytes sheet key =
+    call-on-bytes (λ (f : Reading) (best : List ℤ). keyOutcome f (sheetOf sheet) best) refusal (λ number place best. refl)
+    (λ n best e. key-of-unfit-key (sheetOf sheet) best n e) file is-bytes key
+    ∙ call-on-bytes (λ (r : Reading) (one : List ℤ). byBytes (λ (f : Reading) (best : List ℤ). keyOutcome f one best) refusal r key) refusal
+    (λ number place one. refl) (λ n one e. either n one e (bytesFit n key)) file is-bytes sheet
+  where
+    either : (n : Net) (one : List ℤ) → fits n one ≡ false → (b : Bool)
+        → pick b (keyOutcome (accepted n) one (starts key)) (refusal 15 0) ≡ refusal 15 0
+    either n one e true = key-of-unfit-sheet one (starts key) n e
+    either n one e false = refl
 
 -- Better-of-two on the sheets that the bytes stand for is better-of-two on the bytes
 better-of-fit : (n : Net) (one other one′ other′ : List ℤ) (a b : Bool) → (a ≡ true → one ≡ one′) → (b ≡ true → other ≡ other′)

@@ -1,6 +1,6 @@
--- What rate answers of a sheet, as the two calls on sheets use it: two sheets are compared as document 01 wants by the ratings that rate
--- answers, and a sheet that rate rates fits its file's network. Assumes nothing.
-use Prim.Native.Nat.{ℕ}
+-- What rate answers of a sheet, as the calls on sheets use it: two sheets are compared as document 01 wants by the ratings that rate
+-- answers, a sheet that rate rates fits its file's network, and its least gap is divided by that of a key. Assumes nothing.
+use Prim.Native.Nat.{ℕ, _≤_}
 use mathlib.Core.Path.{_≡_, refl, sym, ap, ap₂, _∙_}
 use mathlib.Core.Bool.{Bool, true, false}
 use mathlib.Core.List.{List, [], _∷_}
@@ -11,14 +11,16 @@ use lib.ListN.{length}
 use Rattle.network.specs.declared.RateAnswer.{RateAnswer}
 use Rattle.network.specs.declared.RateAnswer.the-variants as answer
 use Rattle.network.specs.Lists.{pick}
-use Rattle.network.specs.Network.{Net}
+use Rattle.network.specs.Network.{Net, maxPeriod}
 use Rattle.network.specs.Rate.{rateAnswer, ratingValues, onSheet, rateOutcome}
 use Rattle.network.specs.Rating.{noRating, rating, isAbove}
-use Rattle.network.specs.Reading.{Reading, accepted, refused, values, refusal}
+use Rattle.network.specs.Reading.{Reading, accepted, refused, values, refusal, readFile}
+use Rattle.network.specs.Valid.{IsBytes}
 use Rattle.network.proofs.Laws.Lists.{zero-ne-one}
-use Rattle.network.proofs.Laws.Gaps.{rating-some, isAbove-none, none-is-not-above, rating-numbers}
+use Rattle.network.proofs.Laws.Gaps.{accepted-valid, rating-is-rating, IsRating-range, rating-some, isAbove-none, none-is-not-above, rating-numbers}
 use Rattle.search.specs.Search.{searchOutcome}
 use Rattle.examination.specs.Engine.Chosen.{ratingFrom, ratingOn, betterFrom}
+use Rattle.examination.specs.Hundred.{markOf, remainderOf, besideKey, keyOutcome}
 use Rattle.examination.specs.Sheets.{first, second, neither, fits, betterBy, betterOf, marked, markOutcome}
 use Rattle.examination.specs.Sheets as sheets
 
@@ -43,6 +45,12 @@ rated-on (accepted n) sheet {least} {sum} e = go (eqb (length sheet) (length (n 
         → RatedOn (accepted n) sheet least sum
     go false f e = absurd (zero-ne-one (cc))
     go true f e = record { net = n; reads = refl; fit = eqb-true _ _ f; its-least = cc; its-sum = cc }
+
+-- .. of which the least gap is at most 1,440, as that of every timetable on an accepted network is
+pub rated-least : (file : List ℕ) → IsBytes file → {sheet : List ℤ} {least sum : ℕ} → RatedOn (readFile file) sheet least sum → least ≤ maxPeriod
+rated-least file is-bytes {sheet} r =
+    let valid = accepted-valid file (r .net) is-bytes (r .reads) in
+    rw (r .its-least) (IsRating-range valid (rating-is-rating (r .net) valid sheet) .0)
 
 -- ---- better-of-two
 
@@ -95,3 +103,38 @@ pub mark-rated : (read : Reading) (sheet : List ℤ) (budget : ℕ) {least sum :
     → marked least sum (searchOutcome read (length sheet) budget) ≡ markOutcome read sheet budget
 unfolding markOutcome fits onSheet
 mark-rated read sheet budget r = rw (r .reads, r .its-least, r .its-sum, eq-eqb _ _ (r .fit)) refl
+
+-- ---- by a key
+
+-- It refuses as rate on the sheet, ..
+pub key-sheet-refused : (read : Reading) (sheet key : List ℤ) {number place : ℕ} → refusal number place ≡ rateOutcome read sheet
+    → refusal number place ≡ keyOutcome read sheet key
+unfolding keyOutcome rateOutcome onSheet ratingValues
+key-sheet-refused (refused k p) sheet key e = e
+key-sheet-refused (accepted n) sheet key {number} {place} e = go (eqb (length sheet) (length (n .periods))) e
+  where
+    go : (b : Bool) → refusal number place ≡ pick b (values (rating n sheet .least ∷ rating n sheet .sum ∷ [])) (refusal 15 0)
+        → refusal number place ≡ pick b (pick (eqb (length key) (length (n .periods))) (besideKey n sheet key) (refusal 15 0)) (refusal 15 0)
+    go true e = absurd (zero-ne-one (cc))
+    go false e = e
+
+-- .. then as rate on the key, ..
+pub key-refused : (read : Reading) (sheet key : List ℤ) {least sum number place : ℕ} → RatedOn read sheet least sum
+    → refusal number place ≡ rateOutcome read key → refusal number place ≡ keyOutcome read sheet key
+unfolding keyOutcome rateOutcome onSheet ratingValues
+key-refused read sheet key {least} {sum} {number} {place} r e =
+    rw (r .reads, eq-eqb _ _ (r .fit)) (go (eqb (length key) (length (r .net .periods))) (rw (r .reads) at e))
+  where
+    go : (b : Bool) → refusal number place ≡ pick b (values (rating (r .net) key .least ∷ rating (r .net) key .sum ∷ [])) (refusal 15 0)
+        → refusal number place ≡ pick b (besideKey (r .net) sheet key) (refusal 15 0)
+    go true e = absurd (zero-ne-one (cc))
+    go false e = e
+
+-- .. and otherwise divides the two least gaps
+pub key-rated : (read : Reading) (sheet key : List ℤ) {least sum best bestSum : ℕ} → RatedOn read sheet least sum → RatedOn read key best bestSum
+    → values (markOf least best ∷ remainderOf least best ∷ []) ≡ keyOutcome read sheet key
+unfolding keyOutcome onSheet besideKey
+key-rated read sheet key r k =
+    let same : k .net ≡ r .net = cc in
+    let fit : length key ≡ length (r .net .periods) = k .fit ∙ ap (λ (n : Net). length (n .periods)) same in
+    rw (r .reads, eq-eqb _ _ (r .fit), eq-eqb _ _ fit, r .its-least, k .its-least, same) refl

@@ -6,7 +6,7 @@ use Rattle.network.specs.Rate.{rateAnswer}
 use Rattle.network.specs.Reading.{readFile}
 use Rattle.search.specs.Search.{SearchOutcome}
 use Rattle.examination.specs.Sheets as sheets
-use Rattle.examination.proofs.Laws.Chosen.{RatedOn, rated-on, mark-refused, mark-rated}
+use Rattle.examination.proofs.Laws.Chosen.{RatedOn, rated-on, rated-least, mark-refused, mark-rated}
 use Rattle.examination.proofs.marking.mark.Statement.{statement}
 use Rattle.examination.proofs.marking.mark.Tie as tie
 
@@ -25,8 +25,9 @@ enum-known-rated c = search needs
 enum-known-rated-2 : tie.Need-enum-known-rated-2
 enum-known-rated-2 c = search needs
 
+-- Least gaps of accepted networks fit
 marked-requires : tie.Need-marked-requires
-marked-requires c κs = search needs
+marked-requires c κs = rated-least (c .before .before .before .before .before .args .file .now) (c .before .before .before .rate-and-search .ensures .1 .1) (rated-here (c .before))
 
 returns : tie.Need-returns
 unfolding sheets.markAnswer rateAnswer
