@@ -11,11 +11,13 @@
 //! | `best.rs`     | Edges and cases: what the program `best` prints     |
 //! | `archive.rs`  | document 02, A.1: the archive form; ground 18       |
 //! | `wanted.rs`   | document 02, A.3: a wanted gap; ground 16           |
+//! | `hundred.rs`  | document 02, A.5: marks out of a hundred            |
 
 pub mod archive;
 pub mod best;
 pub mod caps;
 pub mod classes;
+pub mod hundred;
 pub mod network;
 pub mod rating;
 pub mod sheets;
