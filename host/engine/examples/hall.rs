@@ -7,7 +7,7 @@
 //! The network is typed; a sheet has a whole number for each line, in line
 //! order, with `#` comments.
 
-use engine::{typed, Mark, Rating, Sheet};
+use engine::{typed, Hundred, Mark, Rating, Sheet};
 use std::error::Error;
 
 /// So many tries at most for each mark.
@@ -59,8 +59,14 @@ fn shown(mark: Mark) -> String {
         Mark::Decided {
             sheet, equal: true, ..
         } => format!("{}, the best there is", rating(sheet)),
-        Mark::Decided { sheet, best, .. } => {
-            format!("{}, the best is {}", rating(sheet), rating(best))
+        Mark::Decided {
+            sheet,
+            best,
+            hundred: Hundred { mark, remainder },
+            ..
+        } => {
+            let (sheet, best) = (rating(sheet), rating(best));
+            format!("{sheet}, the best is {best}, mark {mark} remainder {remainder}")
         }
         Mark::Undecided { sheet, .. } => format!("{}, the best isn't known", rating(sheet)),
     }

@@ -344,6 +344,28 @@ pub enum Better {
     Neither,
 }
 
+/// A mark out of a hundred: the whole part of 100 times the sheet's least gap over
+/// that of the key, and the remainder. Mark times the key's least gap plus
+/// remainder is 100 times the sheet's, and the remainder is smaller than the key's
+/// least gap; where that is 0, the mark is 100 and the remainder 0. Sums don't enter.
+///
+/// The order is that by which sheets are ranked: the mark first, then the remainder.
+///
+/// ```
+/// use engine::Hundred;
+///
+/// let [more, less] = [2, 1].map(|remainder| Hundred { mark: 66, remainder });
+/// assert!(more > less && less > Hundred { mark: 33, remainder: 1 });
+/// ```
+#[derive(Clone, Copy, Debug, PartialEq, Eq, PartialOrd, Ord)]
+pub struct Hundred {
+    /// The whole part: beside the best timetable 0 to 100, and beside another key
+    /// 0 to 144,000.
+    pub mark: u32,
+    /// What is left, 0 to 1,439.
+    pub remainder: u32,
+}
+
 /// What marking a sheet answers.
 ///
 /// ```
@@ -365,6 +387,9 @@ pub enum Mark {
         best: Rating,
         /// Whether the two ratings are equal.
         equal: bool,
+        /// The mark out of a hundred. It may be 100 and the ratings not equal: of
+        /// two equal least gaps the sums differ, or the best least gap is 0.
+        hundred: Hundred,
         /// The tries that the search took.
         tries: u32,
     },

@@ -1,9 +1,9 @@
-//! One function for each export of docs/ABI.md. Nothing is computed here; every
-//! number is the engine's.
+//! A function for each export of docs/ABI.md, of both marks one. Nothing is computed
+//! here; every number is the engine's.
 
 use crate::answers::{
-    Best, Better, Classes, Counts, Mark, Rating, RowSearched, RowWanted, Searched, SoFar, Wanted,
-    STOPS,
+    Best, Better, Classes, Counts, Hundred, Mark, Rating, RowSearched, RowWanted, Searched, SoFar,
+    Wanted, STOPS,
 };
 use crate::exports;
 use crate::ground::Ground;
@@ -294,7 +294,7 @@ pub fn better(file: &[u8], first: &Sheet, second: &Sheet) -> Better {
 /// tries at most.
 ///
 /// ```
-/// use engine::{typed, Mark, Rating, Sheet};
+/// use engine::{typed, Hundred, Mark, Rating, Sheet};
 ///
 /// let network = typed::read(b"4C000F 4C0014 4300000008 4301000011 45")?;
 /// let mark = engine::mark(network.bytes(), &Sheet::of_starts(&[0, 0]), 1_000_000);
@@ -302,15 +302,16 @@ pub fn better(file: &[u8], first: &Sheet, second: &Sheet) -> Better {
 ///     sheet: Rating { least: 1, sum: 1 },
 ///     best: Rating { least: 2, sum: 2 },
 ///     equal: false,
+///     hundred: Hundred { mark: 50, remainder: 0 },
 ///     tries: 21,
 /// };
 /// assert_eq!(mark, Ok(expected));
 /// # Ok::<(), typed::Mistyped>(())
 /// ```
 pub fn mark(file: &[u8], sheet: &Sheet, budget: u32) -> Result<Mark, Refusal> {
-    const EXPORT: &str = "examination_mark";
-    let mut answer = [0; 6];
-    let returned = exports::mark(file, sheet.bytes(), budget, &mut answer);
+    const EXPORT: &str = "examination_hundred";
+    let (mut answer, mut row) = ([0; 6], [0; 2]);
+    let returned = exports::hundred(file, sheet.bytes(), budget, &mut answer, &mut row);
     let returned = answered(EXPORT, returned)?;
     let [least, sum, best_least, best_sum, equal, tries] = answer;
     let sheet = rating(least, sum);
@@ -319,9 +320,39 @@ pub fn mark(file: &[u8], sheet: &Sheet, budget: u32) -> Result<Mark, Refusal> {
             sheet,
             best: rating(best_least, best_sum),
             equal: equal == 1,
+            hundred: hundred(row),
             tries,
         }),
         1 => Ok(Mark::Undecided { sheet, tries }),
+        other => unknown(EXPORT, other),
+    }
+}
+
+/// The mark out of a hundred of a sheet beside a key, without a search. Beside the
+/// starts of a finished one it is that of [`mark`], so that one search is enough for
+/// many sheets. Beside another key it may be above 100.
+///
+/// ```
+/// use engine::{typed, Ground, Hundred, Sheet};
+///
+/// let network = typed::read(b"4C000A 4C000A 4C000A 4300000000 4301000000 4302000000 45")?;
+/// let [sheet, key] = [[0, 2, 5], [0, 3, 6]].map(|starts| Sheet::of_starts(&starts));
+/// let mark = engine::mark_by_key(network.bytes(), &sheet, &key);
+/// assert_eq!(mark, Ok(Hundred { mark: 66, remainder: 2 }));
+/// let turned = engine::mark_by_key(network.bytes(), &key, &sheet);
+/// assert_eq!(turned, Ok(Hundred { mark: 150, remainder: 0 }));
+///
+/// // A key that doesn't fit is refused as a sheet is.
+/// let refusal = engine::mark_by_key(network.bytes(), &sheet, &Sheet::of_starts(&[0]));
+/// assert_eq!(refusal.unwrap_err().ground, Ground::SheetLength);
+/// # Ok::<(), typed::Mistyped>(())
+/// ```
+pub fn mark_by_key(file: &[u8], sheet: &Sheet, key: &Sheet) -> Result<Hundred, Refusal> {
+    const EXPORT: &str = "examination_by_key";
+    let mut row = [0; 2];
+    let returned = exports::by_key(file, sheet.bytes(), key.bytes(), &mut row);
+    match answered(EXPORT, returned)? {
+        0 => Ok(hundred(row)),
         other => unknown(EXPORT, other),
     }
 }
@@ -368,6 +399,10 @@ pub fn archive_into(file: &[u8], row: &mut [u8]) -> Result<usize, Refusal> {
 
 fn rating(least: u32, sum: u32) -> Rating {
     Rating { least, sum }
+}
+
+fn hundred([mark, remainder]: [u32; 2]) -> Hundred {
+    Hundred { mark, remainder }
 }
 
 /// Tells a refusal from an answer.

@@ -1,5 +1,5 @@
-//! The engine's exports as docs/ABI.md declares them, and beside each a
-//! function over slices. This is the only module of the crate with raw
+//! The engine's exports as docs/ABI.md declares them, and beside each that is
+//! called a function over slices. This is the only module of the crate with raw
 //! pointers: `deny(unsafe_code)` holds for all others.
 //!
 //! Why the calls are sound: a slice's pointer is valid for its length and never
@@ -8,6 +8,9 @@
 
 #![allow(unsafe_code)]
 
+// All are declared, and `examination_mark` isn't called: `examination_hundred`
+// answers all that it does.
+#[allow(dead_code)]
 #[link(name = "examination", kind = "static")]
 extern "C" {
     fn examination_read(file: *const u8, file_len: usize, answer: *mut [u32; 4]) -> u32;
@@ -66,6 +69,24 @@ extern "C" {
         sheet_len: usize,
         budget: u32,
         answer: *mut [u32; 6],
+    ) -> u32;
+    fn examination_hundred(
+        file: *const u8,
+        file_len: usize,
+        sheet: *const u8,
+        sheet_len: usize,
+        budget: u32,
+        answer: *mut [u32; 6],
+        hundred: *mut [u32; 2],
+    ) -> u32;
+    fn examination_by_key(
+        file: *const u8,
+        file_len: usize,
+        sheet: *const u8,
+        sheet_len: usize,
+        key: *const u8,
+        key_len: usize,
+        hundred: *mut [u32; 2],
     ) -> u32;
     fn examination_archive(file: *const u8, file_len: usize, row: *mut u8, row_len: usize) -> u32;
 }
@@ -170,16 +191,38 @@ pub fn better(file: &[u8], first: &[u8], second: &[u8]) -> u32 {
     }
 }
 
-pub fn mark(file: &[u8], sheet: &[u8], budget: u32, answer: &mut [u32; 6]) -> u32 {
+pub fn hundred(
+    file: &[u8],
+    sheet: &[u8],
+    budget: u32,
+    answer: &mut [u32; 6],
+    hundred: &mut [u32; 2],
+) -> u32 {
     // SAFETY: see above.
     unsafe {
-        examination_mark(
+        examination_hundred(
             file.as_ptr(),
             file.len(),
             sheet.as_ptr(),
             sheet.len(),
             budget,
             answer,
+            hundred,
+        )
+    }
+}
+
+pub fn by_key(file: &[u8], sheet: &[u8], key: &[u8], hundred: &mut [u32; 2]) -> u32 {
+    // SAFETY: see above.
+    unsafe {
+        examination_by_key(
+            file.as_ptr(),
+            file.len(),
+            sheet.as_ptr(),
+            sheet.len(),
+            key.as_ptr(),
+            key.len(),
+            hundred,
         )
     }
 }

@@ -1,6 +1,6 @@
-//! The proved engine, safe to call from a program of the hall's own: one function
-//! for each export of docs/ABI.md, and the readers of networks as people write
-//! them: [`plan`], with names and decimal numbers, and [`typed`], in hexadecimal,
+//! The proved engine, safe to call from a program of the hall's own: a function for
+//! each export of docs/ABI.md, of both marks one, and the readers of networks as
+//! people write them: [`plan`], with names and decimal numbers, and [`typed`], in hexadecimal,
 //! over [`text`], which a reader of sheets can use too. Nothing is computed here;
 //! every number is the engine's.
 //!
@@ -17,6 +17,7 @@
 //! | [`wanted`]    | a file, a gap, a budget | [`Wanted`]: a timetable with that gap   |
 //! | [`better`]    | a file, two sheets     | [`Better`]: which of them                |
 //! | [`mark`]      | a file, a sheet, a budget | [`Mark`]: the sheet beside the best   |
+//! | [`mark_by_key`] | a file, a sheet, a key | [`Hundred`]: the mark out of a hundred  |
 //! | [`archive`]   | a file                 | the one form in which a network is kept  |
 //! | [`contents`]  | a file                 | [`Contents`]: periods and calls, by that form |
 //!
@@ -102,12 +103,12 @@ pub const LIBRARY: &str = concat!(
 );
 
 pub use answers::{
-    Best, Better, Classes, Counts, Mark, Rating, RowSearched, RowWanted, Searched, SoFar, Wanted,
-    STOPS,
+    Best, Better, Classes, Counts, Hundred, Mark, Rating, RowSearched, RowWanted, Searched, SoFar,
+    Wanted, STOPS,
 };
 pub use calls::{
-    archive, archive_into, better, classes, classes_into, mark, rate, read, search, search_into,
-    wanted, wanted_into, weighted,
+    archive, archive_into, better, classes, classes_into, mark, mark_by_key, rate, read, search,
+    search_into, wanted, wanted_into, weighted,
 };
 pub use contents::{contents, Call, Contents};
 pub use ground::{Ground, NoGround};

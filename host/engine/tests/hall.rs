@@ -26,7 +26,7 @@ fn marks_of_the_samples() {
     ];
     let lines = [
         "village/perfect.sheet: gap 3 sum 126, the best there is",
-        "village/beaten.sheet: gap 3 sum 125, the best is gap 3 sum 126",
+        "village/beaten.sheet: gap 3 sum 125, the best is gap 3 sum 126, mark 100 remainder 0",
         "village/too_short.sheet: refused 15 at 0",
     ];
     assert_eq!(printed("village.hex", &sheets), lines);

@@ -2,11 +2,12 @@
 //! nobody but the wrapper makes a best.
 
 use crate::sections;
+use crate::sections::hundred;
 use crate::sections::network::Network;
 use crate::sections::sheets::Marked;
 use crate::sections::walk::{Answer, Walked};
 use crate::sections::wanted::{self, Sought};
-use engine::{Better, Counts, Ground, Mark, Rating, Refusal, Searched, Wanted};
+use engine::{Better, Counts, Ground, Hundred, Mark, Rating, Refusal, Searched, Wanted};
 
 pub fn refusal(paper: sections::network::Refusal) -> Refusal {
     let number = u32::from(paper.number);
@@ -84,6 +85,13 @@ pub fn sought(wanted: Wanted) -> Sought {
     Sought { answer, starts }
 }
 
+pub fn out_of_hundred(paper: hundred::Hundred) -> Hundred {
+    Hundred {
+        mark: paper.mark,
+        remainder: paper.remainder,
+    }
+}
+
 pub fn marked(paper: Marked) -> Mark {
     match paper {
         Marked::Decided {
@@ -95,6 +103,7 @@ pub fn marked(paper: Marked) -> Mark {
             sheet: rated(sheet),
             best: rated(best),
             equal,
+            hundred: out_of_hundred(hundred::hundred(sheet, best)),
             tries,
         },
         Marked::Undecided { sheet, tries } => Mark::Undecided {

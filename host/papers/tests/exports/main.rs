@@ -69,5 +69,23 @@ extern "C" {
         budget: u32,
         answer: *mut [u32; 6],
     ) -> u32;
+    fn examination_hundred(
+        file: *const u8,
+        file_len: usize,
+        sheet: *const u8,
+        sheet_len: usize,
+        budget: u32,
+        answer: *mut [u32; 6],
+        hundred: *mut [u32; 2],
+    ) -> u32;
+    fn examination_by_key(
+        file: *const u8,
+        file_len: usize,
+        sheet: *const u8,
+        sheet_len: usize,
+        key: *const u8,
+        key_len: usize,
+        hundred: *mut [u32; 2],
+    ) -> u32;
     fn examination_archive(file: *const u8, file_len: usize, row: *mut u8, row_len: usize) -> u32;
 }
