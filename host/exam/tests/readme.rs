@@ -133,10 +133,13 @@ fn sheets_are_as_named(network: &str) {
         exam(&["mark", network, &sheet, "--quiet", "--budget", "5000000"]).out
     };
     let perfect = marked("perfect");
-    assert!(perfect.contains(" equal tries "), "{folder}: {perfect}");
+    assert!(
+        perfect.contains(" equal mark 100 remainder 0 tries "),
+        "{folder}: {perfect}"
+    );
     if folder != "samples/one_line" {
         let beaten = marked("beaten");
-        assert!(beaten.contains(" below tries "), "{folder}: {beaten}");
+        assert!(beaten.contains(" below mark "), "{folder}: {beaten}");
     }
 }
 

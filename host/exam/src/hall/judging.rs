@@ -2,11 +2,12 @@
 //! of each sheet.
 
 use super::outcome::Row;
+use super::ranking::ranked;
 use super::record::RecordForm;
 use super::report::{folders, worse, Report};
 use super::sheets::gather;
 use crate::input::network::Network;
-use crate::line::options::{sheet_form, CSV, JSON};
+use crate::line::options::{sheet_form, CSV, JSON, RANKED};
 use crate::line::table::Request;
 use crate::output::fault::refused;
 use crate::status::{Status, Trouble};
@@ -32,6 +33,10 @@ pub fn judge(
     let of_folders = folders(&gathered);
     let rated = |named| Row::rated(network.bytes(), named);
     let rows = judged(gathered.sheets.into_iter().map(rated).collect());
+    let rows = match request.has(&RANKED) {
+        true => ranked(rows),
+        false => rows,
+    };
     let of_sheets = match (report.form, report.many, rows.as_slice()) {
         (None, false, [row]) => report.print_one(row),
         _ => report.print(&rows),

@@ -4,6 +4,7 @@
 //! |---------------|--------------------------------------------------------|
 //! | `sheets.rs`   | the sheets that operands name, files and folders       |
 //! | `outcome.rs`  | what became of a sheet                                 |
+//! | `ranking.rs`  | sheets by their marks, the best first                  |
 //! | `record.rs`   | the fields of the record, as CSV and JSON              |
 //! | `report.rs`   | all sheets: a line or a row for each, and the tally    |
 //! | `judging.rs`  | from the sheets of a request to its report             |
@@ -16,6 +17,7 @@ pub mod bound;
 pub mod checksum;
 pub mod judging;
 pub mod outcome;
+pub mod ranking;
 pub mod record;
 pub mod report;
 pub mod search;

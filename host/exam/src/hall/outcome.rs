@@ -3,7 +3,7 @@
 use super::sheets::Named;
 use crate::output::lines::{mark_line, shown};
 use crate::status::{Status, Trouble};
-use engine::{Better, Mark, Rating, Refusal, Searched, Sheet};
+use engine::{Better, Hundred, Mark, Rating, Refusal, Searched, Sheet};
 
 pub enum Outcome {
     Rated(Rating),
@@ -55,25 +55,32 @@ impl Row {
         let (Outcome::Rated(rating), Some(sheet)) = (&self.outcome, &self.sheet) else {
             return self;
         };
-        let outcome = match searched {
-            Ok(searched) => Outcome::Marked(mark(file, (sheet, *rating), searched)),
-            Err(refusal) => Outcome::Refused(*refusal),
+        let marked = match searched {
+            Ok(searched) => mark(file, (sheet, *rating), searched),
+            Err(refusal) => Err(*refusal),
         };
+        let outcome = marked.map_or_else(Outcome::Refused, Outcome::Marked);
         Row { outcome, ..self }
     }
 }
 
 /// What `engine::mark` answers with the budget of the search. Nothing is above
 /// the best of a finished search, and better-of-two has the first if equal: it
-/// answers the sheet exactly where its rating is the best one.
-fn mark(file: &[u8], (sheet, rating): (&Sheet, Rating), searched: &Searched) -> Mark {
-    match searched {
+/// answers the sheet exactly where its rating is the best one. Beside the starts of
+/// that search a sheet has its mark out of a hundred.
+fn mark(
+    file: &[u8],
+    (sheet, rating): (&Sheet, Rating),
+    searched: &Searched,
+) -> Result<Mark, Refusal> {
+    Ok(match searched {
         Searched::Finished(best) => {
             let key = Sheet::of_starts(best.starts());
             Mark::Decided {
                 sheet: rating,
                 best: best.rating(),
                 equal: engine::better(file, sheet, &key) == Better::First,
+                hundred: engine::mark_by_key(file, sheet, &key)?,
                 tries: best.tries(),
             }
         }
@@ -81,7 +88,7 @@ fn mark(file: &[u8], (sheet, rating): (&Sheet, Rating), searched: &Searched) -> 
             sheet: rating,
             tries: *tries,
         },
-    }
+    })
 }
 
 impl Outcome {
@@ -107,6 +114,14 @@ impl Outcome {
         }
     }
 
+    /// The mark out of a hundred, which only a decided mark has.
+    pub fn hundred(&self) -> Option<Hundred> {
+        match self {
+            Outcome::Marked(Mark::Decided { hundred, .. }) => Some(*hundred),
+            _ => None,
+        }
+    }
+
     pub fn status(&self) -> Status {
         match self {
             Outcome::Rated(_) | Outcome::Marked(Mark::Decided { .. }) => Status::Done,
@@ -121,23 +136,23 @@ impl Outcome {
 mod tests {
     use super::{Outcome, Row, WORDS};
     use crate::hall::sheets::Named;
-    use engine::Sheet;
+    use engine::{Hundred, Sheet};
     use papers::files::{any_budget, any_file, any_sheet_bytes, sheet, Dice};
     use papers::sections::network::read;
-    use papers::small::small_file;
+    use papers::small::{small_file, small_file_for_gaps};
     use std::collections::BTreeMap;
 
     /// Files of every kind, some with few timetables, so that sheets are equal
-    /// to the best now and then.
+    /// to the best now and then, or have a part of its least gap.
     fn file(dice: &mut Dice) -> Vec<u8> {
         match dice.once_in(2) {
             true => any_file(dice),
-            false => small_file(dice, 2_000).0,
+            false => small_file_for_gaps(dice, 2_000).0,
         }
     }
 
     /// One search for all sheets says of each what the mark call says: decided,
-    /// undecided, stopped with none and refused.
+    /// undecided, stopped with none and refused, and the mark out of a hundred.
     #[test]
     fn one_search_marks_as_the_mark_call() {
         let mut dice = Dice::new(305);
@@ -155,6 +170,9 @@ mod tests {
                 let sheet = Sheet::of_bytes(bytes);
                 let row = Row::rated(&file, named(&sheet)).marked(&file, &searched);
                 *seen.entry(row.outcome.word()).or_insert(0) += 1;
+                if let Some(hundred) = row.outcome.hundred() {
+                    *seen.entry(kind(hundred)).or_insert(0) += 1;
+                }
                 match (engine::mark(&file, &sheet, budget), row.outcome) {
                     (Ok(mark), Outcome::Marked(ours)) => assert_eq!(ours, mark),
                     (Err(refusal), Outcome::Refused(ours)) => assert_eq!(ours, refusal),
@@ -164,6 +182,18 @@ mod tests {
         }
         for word in ["equal", "below", "undecided", "refused"] {
             assert!(seen[word] > 200, "{seen:?}");
+        }
+        for kind in ["100", "0", "between", "with a remainder"] {
+            assert!(seen[kind] > 200, "{seen:?}");
+        }
+    }
+
+    fn kind(hundred: Hundred) -> &'static str {
+        match (hundred.mark, hundred.remainder) {
+            (_, 1..) => "with a remainder",
+            (100, _) => "100",
+            (0, _) => "0",
+            _ => "between",
         }
     }
 

@@ -47,7 +47,7 @@ enum Value {
 /// A field: its name, and what a row has there.
 type Field = (&'static str, fn(&Row, &About) -> Value);
 
-const FIELDS: [Field; 13] = [
+const FIELDS: [Field; 15] = [
     ("name", |row, _| text(row.name.to_string_lossy())),
     ("status", |row, _| text(row.outcome.word())),
     ("gap", |row, _| {
@@ -70,6 +70,12 @@ const FIELDS: [Field; 13] = [
     ("engine", |_, about| text(about.engine)),
     ("name_bytes", |row, _| {
         optional(bytes_where_no_text(&row.name))
+    }),
+    ("mark", |row, _| {
+        number(row.outcome.hundred().map(|it| it.mark))
+    }),
+    ("remainder", |row, _| {
+        number(row.outcome.hundred().map(|it| it.remainder))
     }),
 ];
 

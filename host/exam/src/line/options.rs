@@ -60,6 +60,12 @@ pub const SHEET: CommandOption = CommandOption::flag(
     "print the best timetable as a sheet, to be kept as the key",
 );
 
+/// `exam mark`; of several sheets.
+pub const RANKED: CommandOption = CommandOption::flag(
+    "--ranked",
+    "the best sheets first: by mark, remainder and then name",
+);
+
 pub const CSV: CommandOption =
     CommandOption::flag("--csv", "print a record with a row for each sheet, as CSV")
         .excluding(&["--json"]);

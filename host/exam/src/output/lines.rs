@@ -1,6 +1,6 @@
 //! Ratings, marks, searches and rows as they are printed, without line ends.
 
-use engine::{Mark, Rating, Searched};
+use engine::{Hundred, Mark, Rating, Searched};
 
 pub fn shown(rating: Rating) -> String {
     format!("gap {} sum {}", rating.least, rating.sum)
@@ -12,11 +12,12 @@ pub fn mark_line(mark: Mark) -> String {
             sheet,
             best,
             equal,
+            hundred: Hundred { mark, remainder },
             tries,
         } => {
             let (sheet, best) = (shown(sheet), shown(best));
             let word = if equal { "equal" } else { "below" };
-            format!("{sheet} best {best} {word} tries {tries}")
+            format!("{sheet} best {best} {word} mark {mark} remainder {remainder} tries {tries}")
         }
         Mark::Undecided { sheet, tries } => {
             format!("undecided {} tries {tries}", shown(sheet))

@@ -71,7 +71,10 @@ fn best_as_a_sheet() {
         let printed = exam(&["best", &network, "--sheet", "--quiet", "--budget", "max"]);
         let sheet = folder.file("key.sheet", &printed.out);
         let marked = exam(&["mark", &network, &sheet, "--quiet", "--budget", "max"]).out;
-        assert!(marked.contains(" equal tries "), "{marked}");
+        assert!(
+            marked.contains(" equal mark 100 remainder 0 tries "),
+            "{marked}"
+        );
         let rating = exam(&["rate", &network, &sheet]).out;
         assert!(printed
             .out

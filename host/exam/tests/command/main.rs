@@ -14,6 +14,7 @@ mod mark;
 mod pages;
 mod parsed;
 mod plan;
+mod ranked;
 mod rate;
 mod read;
 mod record;

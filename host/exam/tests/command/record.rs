@@ -24,6 +24,8 @@ fn row(values: &[(&str, &str)]) -> Fields {
         "network_crc32",
         "engine",
         "name_bytes",
+        "mark",
+        "remainder",
     ];
     let of = |name: &str| {
         let given = values.iter().find(|(given, _)| *given == name);
@@ -63,12 +65,16 @@ fn a_row_for_each_sheet() {
         ("status", "equal"),
         ("gap", "2"),
         ("sum", "2"),
+        ("mark", "100"),
+        ("remainder", "0"),
     ];
     let below = [
         ("name", "b.sheet"),
         ("status", "below"),
         ("gap", "1"),
         ("sum", "1"),
+        ("mark", "50"),
+        ("remainder", "0"),
     ];
     let refused = [
         ("name", "c.sheet"),
@@ -217,36 +223,64 @@ fn of_seeded_networks() {
 /// The fields of a row beside the mark call's answer.
 fn says(row: &Fields, mark: Result<Mark, engine::Refusal>) {
     let names = [
-        "gap", "sum", "best_gap", "best_sum", "tries", "refusal", "place",
+        "gap",
+        "sum",
+        "best_gap",
+        "best_sum",
+        "tries",
+        "mark",
+        "remainder",
+        "refusal",
+        "place",
     ];
-    let fields = names.map(|name| {
-        row[name]
-            .as_ref()
-            .map(|text| text.parse().expect("a number"))
-    });
-    let (word, expected) = match mark {
+    let field = |name: &str| {
+        let text = row[name].as_ref();
+        text.map(|text| text.parse().expect("a number"))
+    };
+    let (word, numbers, refusal) = match mark {
         Ok(Mark::Decided {
             sheet,
             best,
             equal,
+            hundred,
             tries,
         }) => {
             let [gap, sum] = [sheet.least, sheet.sum].map(Some);
-            let [best_gap, best_sum] = [best.least, best.sum].map(Some);
+            let [best_gap, best_sum, tries] = [best.least, best.sum, tries].map(Some);
+            let [mark, remainder] = [hundred.mark, hundred.remainder].map(Some);
             let word = if equal { "equal" } else { "below" };
-            (
-                word,
-                [gap, sum, best_gap, best_sum, Some(tries), None, None],
-            )
+            let numbers = [gap, sum, best_gap, best_sum, tries, mark, remainder];
+            (word, numbers, [None; 2])
         }
         Ok(Mark::Undecided { sheet, tries }) => {
-            let [gap, sum] = [sheet.least, sheet.sum].map(Some);
-            ("undecided", [gap, sum, None, None, Some(tries), None, None])
+            let [gap, sum, tries] = [sheet.least, sheet.sum, tries].map(Some);
+            let numbers = [gap, sum, None, None, tries, None, None];
+            ("undecided", numbers, [None; 2])
         }
         Err(refusal) => {
-            let [number, place] = [refusal.ground.number(), refusal.place].map(Some);
-            ("refused", [None, None, None, None, None, number, place])
+            let refusal = [refusal.ground.number(), refusal.place].map(Some);
+            ("refused", [None; 7], refusal)
         }
     };
-    assert_eq!((row["status"].as_deref(), fields), (Some(word), expected));
+    let fields: Vec<Option<u32>> = names.into_iter().map(field).collect();
+    assert_eq!(row["status"].as_deref(), Some(word));
+    assert_eq!(fields, [&numbers[..], &refusal].concat());
+}
+
+/// Where fields stand is for those that read them by place: mark and remainder come
+/// behind all that were there before them.
+#[test]
+fn marks_stand_behind_the_older_fields() {
+    let sheet = "samples/two_lines/beaten.sheet";
+    let heading = "name,status,gap,sum,best_gap,best_sum,tries,refusal,place,budget,\
+                   network_crc32,engine,name_bytes,mark,remainder\r\n";
+    let engine = engine::VERSION;
+    let row = format!("{sheet},below,1,1,2,2,21,,,1000000,aced792e,{engine},,50,0\r\n");
+    exam(&["mark", HEX, sheet, "--csv"]).printed(&format!("{heading}{row}"), 0);
+    // A rating is no mark.
+    let row = format!("{sheet},rated,1,1,,,,,,,aced792e,{engine},,,\r\n");
+    exam(&["rate", HEX, sheet, "--csv"]).printed(&format!("{heading}{row}"), 0);
+    let ran = exam(&["rate", HEX, sheet, "--json"]);
+    let end = "\"name_bytes\": null, \"mark\": null, \"remainder\": null}\n]\n";
+    assert!(ran.out.ends_with(end), "{ran:?}");
 }

@@ -25,9 +25,9 @@ fn three_sheets() -> Folder {
 #[test]
 fn mark_of_a_folder() {
     let folder = three_sheets();
-    let lines = "C.bin: gap 1 sum 1 best gap 2 sum 2 below tries 21\n\
-                 a.sheet: gap 2 sum 2 best gap 2 sum 2 equal tries 21\n\
-                 b.sheet: gap 1 sum 1 best gap 2 sum 2 below tries 21\n";
+    let lines = "C.bin: gap 1 sum 1 best gap 2 sum 2 below mark 50 remainder 0 tries 21\n\
+                 a.sheet: gap 2 sum 2 best gap 2 sum 2 equal mark 100 remainder 0 tries 21\n\
+                 b.sheet: gap 1 sum 1 best gap 2 sum 2 below mark 50 remainder 0 tries 21\n";
     exam(&["mark", HEX, &folder.name()]).said(lines, 0, "3 sheets: 1 equal, 2 below\n");
     // Hidden files aren't sheets.
     folder.file(".hidden", "x");
@@ -161,12 +161,14 @@ fn line(mark: Result<engine::Mark, engine::Refusal>) -> String {
             sheet,
             best,
             equal,
+            hundred,
             tries,
         }) => {
             let word = if equal { "equal" } else { "below" };
             let (gap, sum) = (sheet.least, sheet.sum);
             let best = format!("best gap {} sum {}", best.least, best.sum);
-            format!("gap {gap} sum {sum} {best} {word} tries {tries}")
+            let hundred = format!("mark {} remainder {}", hundred.mark, hundred.remainder);
+            format!("gap {gap} sum {sum} {best} {word} {hundred} tries {tries}")
         }
         Ok(engine::Mark::Undecided { sheet, tries }) => {
             let (gap, sum) = (sheet.least, sheet.sum);
@@ -183,9 +185,9 @@ fn sheets_and_folders_mixed() {
     let room = Folder::new();
     let [b, a] = ["b.sheet", "a.sheet"].map(|name| room.file(name, "0 0"));
     let lines = format!(
-        "{one}: gap 2 sum 2 best gap 2 sum 2 equal tries 21\n\
-         {a}: gap 1 sum 1 best gap 2 sum 2 below tries 21\n\
-         {b}: gap 1 sum 1 best gap 2 sum 2 below tries 21\n\
+        "{one}: gap 2 sum 2 best gap 2 sum 2 equal mark 100 remainder 0 tries 21\n\
+         {a}: gap 1 sum 1 best gap 2 sum 2 below mark 50 remainder 0 tries 21\n\
+         {b}: gap 1 sum 1 best gap 2 sum 2 below mark 50 remainder 0 tries 21\n\
          no.sheet: unreadable\n\
          standard input: refused 15 at 0\n"
     );
@@ -234,7 +236,7 @@ fn folders_within_folders_and_empty_ones() {
     let sheet = folder.file("a.sheet", "0 3");
     let within = folder.path().join("d.sheet");
     std::fs::create_dir(&within).expect("a folder");
-    let line = "a.sheet: gap 2 sum 2 best gap 2 sum 2 equal tries 21\n";
+    let line = "a.sheet: gap 2 sum 2 best gap 2 sum 2 equal mark 100 remainder 0 tries 21\n";
     let left_out = format!(
         "exam: {} is a folder; no sheet in it is taken\n",
         within.display()

@@ -315,6 +315,7 @@ Options:
   --sheet-bytes     a sheet is bytes, whatever its name
   --budget N        stop after N tries, 0 to 4294967295 or max (otherwise 1000000)
   --quiet           no sign of life on standard error during a long search
+  --ranked          the best sheets first: by mark, remainder and then name
   --csv             print a record with a row for each sheet, as CSV
   --json            print a record with a row for each sheet, as JSON
 
