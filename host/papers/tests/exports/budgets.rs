@@ -1,7 +1,7 @@
 //! Budgets at the bound of demand 3, at the tries that a search takes, and about
 //! them.
 
-use crate::compared::{compare_mark, compare_search, compare_wanted, Seen};
+use crate::compared::{compare_hundred, compare_mark, compare_search, compare_wanted, Seen};
 use papers::files::{
     any_gap, bytes_of, roomy_file, sheet, sheet_bytes, valid_commands_of, Dice, Size,
 };
@@ -47,7 +47,7 @@ fn budgets(net: &Network, tries: u32, bound: u32) -> BTreeSet<u32> {
     turns.into_iter().flat_map(about).collect()
 }
 
-/// Search and mark under each of these budgets beside the papers; each finishes
+/// Search and marks under each of these budgets beside the papers; each finishes
 /// exactly where the budget is no less than the tries that it takes.
 #[test]
 fn budgets_at_the_bound_and_at_the_tries() {
@@ -65,11 +65,15 @@ fn budgets_at_the_bound_and_at_the_tries() {
             let mut seen = Seen::default();
             compare_search(&mut dice, &file, net.lines(), budget, &mut seen);
             assert_eq!(seen.answers[0], finishes, "budget {budget}, tries {tries}");
-            let mut seen = Seen::default();
+            let mut seen = <[Seen; 2]>::default();
             for starts in [sheet(&mut dice, net.lines()), best.clone()] {
-                compare_mark(&mut dice, &file, &sheet_bytes(&starts), budget, &mut seen);
+                let sheet = sheet_bytes(&starts);
+                compare_mark(&mut dice, &file, &sheet, budget, &mut seen[0]);
+                compare_hundred(&mut dice, &file, &sheet, budget, &mut seen[1]);
             }
-            assert_eq!(seen.answers, [2 * finishes, 2 - 2 * finishes, 0]);
+            for one in seen {
+                assert_eq!(one.answers, [2 * finishes, 2 - 2 * finishes, 0]);
+            }
         }
     }
     println!("{at_bound} searches take all tries of the bound, {below_bound} fewer");

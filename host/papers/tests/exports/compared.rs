@@ -2,13 +2,14 @@
 
 use crate::lent::{answer_row, row_length, Lent};
 use crate::{
-    examination_archive, examination_better, examination_classes, examination_mark,
-    examination_rate, examination_read, examination_search, examination_wanted,
-    examination_weighted,
+    examination_archive, examination_better, examination_by_key, examination_classes,
+    examination_hundred, examination_mark, examination_rate, examination_read, examination_search,
+    examination_wanted, examination_weighted,
 };
 use papers::files::{any_budget, any_gap, any_sheet_bytes, bytes_of, Command, Dice};
 use papers::sections::archive::{archive, archive_form};
 use papers::sections::classes::class_call;
+use papers::sections::hundred::by_key_bytes;
 use papers::sections::network::{read, read_counts, Refusal};
 use papers::sections::rating::Rating;
 use papers::sections::sheets::{
@@ -222,11 +223,10 @@ pub fn compare_better(file: &[u8], first: &[u8], second: &[u8], seen: &mut Seen)
     seen.add(found);
 }
 
-pub fn compare_mark(dice: &mut Dice, file: &[u8], sheet: &[u8], budget: u32, seen: &mut Seen) {
-    let mut answer = answer_row::<6>(dice);
-    let before = answer.clone();
-    let (returned, expected) = match mark_bytes(file, sheet, budget) {
-        Err(refusal) => (refused(refusal), before),
+/// What a mark returns, and its answer row where it isn't refused.
+fn marked(paper: Result<Marked, Refusal>) -> (u32, Option<[u32; 6]>) {
+    match paper {
+        Err(refusal) => (refused(refusal), None),
         Ok(Marked::Decided {
             sheet,
             best,
@@ -235,13 +235,19 @@ pub fn compare_mark(dice: &mut Dice, file: &[u8], sheet: &[u8], budget: u32, see
         }) => {
             let [equal, tries] = [u32::from(equal), tries];
             let row = [sheet.least, sheet.sum, best.least, best.sum, equal, tries];
-            (0, before.holding(&row))
+            (0, Some(row))
         }
         Ok(Marked::Undecided { sheet, tries }) => {
-            let row = [sheet.least, sheet.sum, 0, 0, 0, tries];
-            (1, before.holding(&row))
+            (1, Some([sheet.least, sheet.sum, 0, 0, 0, tries]))
         }
-    };
+    }
+}
+
+pub fn compare_mark(dice: &mut Dice, file: &[u8], sheet: &[u8], budget: u32, seen: &mut Seen) {
+    let mut answer = answer_row::<6>(dice);
+    let before = answer.clone();
+    let (returned, row) = marked(mark_bytes(file, sheet, budget));
+    let expected = row.map_or(before.clone(), |row| before.holding(&row));
     let found = unsafe {
         examination_mark(
             file.as_ptr(),
@@ -253,6 +259,55 @@ pub fn compare_mark(dice: &mut Dice, file: &[u8], sheet: &[u8], budget: u32, see
         )
     };
     assert_eq!((found, answer), (returned, expected));
+    seen.add(found);
+}
+
+/// Both rows: the answer is that of a mark, and an undecided one has zeros beside it.
+pub fn compare_hundred(dice: &mut Dice, file: &[u8], sheet: &[u8], budget: u32, seen: &mut Seen) {
+    let (mut answer, mut hundred) = (answer_row::<6>(dice), answer_row::<2>(dice));
+    let (mut answer_after, mut hundred_after) = (answer.clone(), hundred.clone());
+    let paper = mark_bytes(file, sheet, budget);
+    let (returned, row) = marked(paper);
+    if let (Ok(paper), Some(row)) = (paper, row) {
+        let numbers = paper.hundred().map(|it| [it.mark, it.remainder]);
+        answer_after = answer.holding(&row);
+        hundred_after = hundred.holding(&numbers.unwrap_or([0, 0]));
+    }
+    let found = unsafe {
+        examination_hundred(
+            file.as_ptr(),
+            file.len(),
+            sheet.as_ptr(),
+            sheet.len(),
+            budget,
+            answer.pointer().cast(),
+            hundred.pointer().cast(),
+        )
+    };
+    assert_eq!((found, answer), (returned, answer_after));
+    assert_eq!(hundred, hundred_after);
+    seen.add(found);
+}
+
+pub fn compare_by_key(dice: &mut Dice, file: &[u8], sheet: &[u8], key: &[u8], seen: &mut Seen) {
+    let mut hundred = answer_row::<2>(dice);
+    let before = hundred.clone();
+    let (returned, expected) = match by_key_bytes(file, sheet, key) {
+        Err(refusal) => (refused(refusal), before),
+        Ok(paper) => (0, before.holding(&[paper.mark, paper.remainder])),
+    };
+    let found = unsafe {
+        examination_by_key(
+            file.as_ptr(),
+            file.len(),
+            sheet.as_ptr(),
+            sheet.len(),
+            key.as_ptr(),
+            key.len(),
+            hundred.pointer().cast(),
+        )
+    };
+    assert_eq!((found, hundred), (returned, expected));
     seen.add(found);
 }
 
@@ -289,12 +344,14 @@ pub struct AllSeen {
     pub wanted: Seen,
     pub better: Seen,
     pub mark: Seen,
+    pub hundred: Seen,
+    pub by_key: Seen,
     pub archive: Seen,
 }
 
 impl AllSeen {
     /// The exports that can refuse.
-    pub fn refusing(&self) -> [&Seen; 8] {
+    pub fn refusing(&self) -> [&Seen; 10] {
         [
             &self.read,
             &self.rate,
@@ -303,6 +360,8 @@ impl AllSeen {
             &self.search,
             &self.wanted,
             &self.mark,
+            &self.hundred,
+            &self.by_key,
             &self.archive,
         ]
     }
@@ -328,6 +387,8 @@ pub fn compare_all(dice: &mut Dice, file: &[u8], seen: &mut AllSeen) {
     compare_better(file, &first, &second, &mut seen.better);
     let budget = small_budget(dice);
     compare_mark(dice, file, &first, budget, &mut seen.mark);
+    compare_hundred(dice, file, &first, budget, &mut seen.hundred);
+    compare_by_key(dice, file, &first, &second, &mut seen.by_key);
     let right = archive_length(dice, file);
     let length = row_length(dice, right);
     compare_archive(dice, file, length, &mut seen.archive);

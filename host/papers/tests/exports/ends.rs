@@ -2,8 +2,8 @@
 //! the largest numbers.
 
 use crate::compared::{
-    compare_archive, compare_better, compare_classes, compare_mark, compare_rate, compare_read,
-    compare_search, compare_wanted, AllSeen, Rates,
+    compare_archive, compare_better, compare_by_key, compare_classes, compare_hundred,
+    compare_mark, compare_rate, compare_read, compare_search, compare_wanted, AllSeen, Rates,
 };
 use crate::{examination_rate, examination_wanted, examination_weighted};
 use papers::files::{bytes_of, longest_file, sheet, sheet_bytes, Command, Dice};
@@ -31,6 +31,8 @@ fn compare_with_right_rows(dice: &mut Dice, file: &[u8], lines: usize) -> AllSee
     }
     compare_better(file, &one, &other, &mut seen.better);
     compare_mark(dice, file, &one, 3_000, &mut seen.mark);
+    compare_hundred(dice, file, &one, 3_000, &mut seen.hundred);
+    compare_by_key(dice, file, &one, &other, &mut seen.by_key);
     compare_archive(dice, file, 1_329, &mut seen.archive);
     seen
 }
@@ -121,6 +123,7 @@ fn the_largest_sum() {
     let seen = compare_with_right_rows(&mut dice, &file, 1);
     assert_eq!((seen.rate.answers[0], seen.weighted.answers[0]), (1, 1));
     assert_eq!((seen.search.answers[0], seen.mark.answers[0]), (1, 1));
+    assert_eq!((seen.hundred.answers[0], seen.by_key.answers[0]), (1, 1));
     // Its period is its gap, and no more can be had.
     assert_eq!(seen.wanted.answers, [3, 2, 0]);
     assert!(seen.classes.answers[0] > 0);

@@ -5,6 +5,7 @@ mod budgets;
 mod compared;
 mod declared;
 mod ends;
+mod hundreds;
 mod lent;
 mod rows;
 mod seeded;

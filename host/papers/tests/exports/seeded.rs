@@ -1,8 +1,8 @@
 //! Every export on seeded files and sheets, and on empty parts.
 
 use crate::compared::{
-    compare_all, compare_archive, compare_better, compare_mark, compare_rate, compare_search,
-    compare_wanted, small_budget, three_lines, AllSeen, Rates, Seen,
+    compare_all, compare_archive, compare_better, compare_by_key, compare_hundred, compare_mark,
+    compare_rate, compare_search, compare_wanted, small_budget, three_lines, AllSeen, Rates, Seen,
 };
 use crate::{examination_rate, examination_weighted};
 use papers::files::{any_file, faulty_file, sheet, sheet_bytes, valid_file, Dice};
@@ -37,12 +37,16 @@ fn exports_beside_the_papers() {
     assert!(seen.search.has_exactly(&with(16)));
     assert!(seen.wanted.has_exactly(&with(16)));
     assert!(seen.mark.has_exactly(&with(15)));
+    assert!(seen.hundred.has_exactly(&with(15)));
+    assert!(seen.by_key.has_exactly(&with(15)));
     assert!(seen.archive.has_exactly(&with(18)));
     assert!(seen.better.has_exactly(&[]));
     assert!(seen.search.answers.iter().all(|&count| count >= 100));
     assert!(seen.wanted.answers.iter().all(|&count| count >= 100));
     assert!(seen.better.answers.iter().all(|&count| count >= 100));
     assert!(seen.mark.answers[..2].iter().all(|&count| count >= 100));
+    assert_eq!(seen.hundred.answers, seen.mark.answers);
+    assert!(seen.by_key.answers[0] >= 100);
     assert!(seen.archive.answers[0] >= 100);
 }
 
@@ -64,8 +68,10 @@ fn both_ends_of_32_bits() {
             compare_rate(&mut dice, weighted, &file, &sheet, &mut seen);
             let budget = small_budget(&mut dice);
             compare_mark(&mut dice, &file, &sheet, budget, &mut seen);
+            compare_hundred(&mut dice, &file, &sheet, budget, &mut seen);
             let other = sheet_bytes(&starts.map(|start| start.wrapping_neg()));
             compare_better(&file, &sheet, &other, &mut seen);
+            compare_by_key(&mut dice, &file, &sheet, &other, &mut seen);
         }
     }
     assert_eq!(seen.grounds, [0; 19]);
@@ -80,8 +86,13 @@ fn empty_parts() {
     let file = three_lines([15, 20, 12]);
     let mut one = Seen::default();
     compare_better(&file, &[], &[], &mut one);
-    compare_better(&file, &[], &sheet_bytes(&sheet(&mut dice, 3)), &mut one);
+    let right = sheet_bytes(&sheet(&mut dice, 3));
+    compare_better(&file, &[], &right, &mut one);
     compare_mark(&mut dice, &file, &[], 100, &mut one);
+    compare_hundred(&mut dice, &file, &[], 100, &mut one);
+    compare_by_key(&mut dice, &file, &[], &right, &mut one);
+    compare_by_key(&mut dice, &file, &right, &[], &mut one);
+    compare_by_key(&mut dice, &[], &[], &[], &mut one);
     compare_archive(&mut dice, &file, 0, &mut one);
     compare_archive(&mut dice, &[], 0, &mut one);
     compare_search(&mut dice, &file, 0, 100, &mut one);
@@ -89,5 +100,5 @@ fn empty_parts() {
     compare_wanted(&mut dice, &[], 0, (1, 100), &mut one);
     assert_eq!(one.answers, [1, 0, 1]);
     let grounds = [1, 15, 16, 18].map(|ground| one.grounds[ground]);
-    assert_eq!(grounds, [2, 1, 2, 1]);
+    assert_eq!(grounds, [3, 4, 2, 1]);
 }
