@@ -1,12 +1,25 @@
 //! The deepest search and the longest archive form on a small stack: 16 lines of
 //! the longest period, 256 calls, in a thread with 512 KB.
 
-use engine::{Mark, Searched, Sheet};
+use engine::{Hundred, Mark, Searched, Sheet};
 use papers::answers::sought;
 use papers::files::{bytes_of, retyped, Command, Dice, Stated};
 use papers::sections::network::read;
 use papers::sections::walk::{walk, Answer};
 use papers::sections::wanted::{seek, Wanted};
+
+#[link(name = "examination", kind = "static")]
+extern "C" {
+    /// The mark that the wrapper doesn't ask for, since it has more by another.
+    fn examination_mark(
+        file: *const u8,
+        file_len: usize,
+        sheet: *const u8,
+        sheet_len: usize,
+        budget: u32,
+        answer: *mut [u32; 6],
+    ) -> u32;
+}
 
 const STACK: usize = 512 * 1_024;
 const BUDGET: u32 = 3_000_000;
@@ -107,7 +120,8 @@ fn a_wanted_gap_on_512_kilobytes() {
     assert_eq!(compare_wanted(&deepest(jumbled), 20), stopped);
 }
 
-/// Marking goes as deep, on top of its own rows.
+/// Marking goes as deep, on top of its own rows; with the mark out of a hundred, as
+/// the wrapper asks for it, and without.
 #[test]
 fn the_deepest_mark_on_512_kilobytes() {
     let file = bytes_of(&deepest(|_| 0));
@@ -117,6 +131,37 @@ fn the_deepest_mark_on_512_kilobytes() {
         panic!("the engine says {mark:?}");
     };
     assert_eq!((sheet.least, sheet.sum, tries), (0, 0, 100_000));
+    let (returned, answer) = on_small_stack(|| {
+        let mut answer = [7; 6];
+        let (file, length) = (file.as_ptr(), file.len());
+        let zeros = [0; 64];
+        let returned =
+            unsafe { examination_mark(file, length, zeros.as_ptr(), 64, 100_000, &mut answer) };
+        (returned, answer)
+    });
+    assert_eq!((returned, answer), (1, [0, 0, 0, 0, 0, 100_000]));
+}
+
+/// A mark whose search finishes, 16 lines deep: line after line stands 45 minutes
+/// behind the one before, half of what is best.
+#[test]
+fn a_deep_mark_out_of_a_hundred() {
+    let file = bytes_of(&deepest(|_| 0));
+    let [half, best] = [45, 90].map(|gap| {
+        let starts: [i32; 16] = std::array::from_fn(|line| gap * line as i32);
+        Sheet::of_starts(&starts)
+    });
+    let mark = on_small_stack(|| engine::mark(&file, &half, BUDGET));
+    let expected = Hundred {
+        mark: 50,
+        remainder: 0,
+    };
+    assert!(
+        matches!(mark, Ok(Mark::Decided { hundred, tries: 1_836_001, .. }) if hundred == expected),
+        "the engine says {mark:?}"
+    );
+    let by_key = on_small_stack(|| engine::mark_by_key(&file, &half, &best));
+    assert_eq!(by_key, Ok(expected));
 }
 
 /// Hardly a command stands where the archive form has it.

@@ -1,11 +1,12 @@
-//! A hall's day: 200,000 calls each of rate, mark and wanted in one process. Memory
-//! stays flat, each answer is the papers' own, and the calls per second are printed
+//! A hall's day: 200,000 calls each of rate, mark, mark by a key and wanted in one
+//! process. Memory stays flat, each answer is the papers' own, and the calls per second are printed
 //! (`cargo test --release --offline --test load -- --show-output`). No other test may
 //! stand in this file: it would run beside this one and add to the memory.
 
-use engine::{Mark, Rating, Refusal, Sheet};
-use papers::answers::{marked, rating_or_refusal, refusal, sought};
+use engine::{Hundred, Mark, Rating, Refusal, Sheet};
+use papers::answers::{marked, out_of_hundred, rating_or_refusal, refusal, sought};
 use papers::files::{any_file, any_gap, any_sheet_bytes, Dice};
+use papers::sections::hundred::by_key_bytes;
 use papers::sections::network::read;
 use papers::sections::sheets::{mark_bytes, rate_bytes};
 use papers::sections::wanted::{seek, Sought};
@@ -18,28 +19,33 @@ const BUDGET: u32 = 100;
 /// 195 KB.
 const GROWTH: usize = 64 * 1_024;
 
-/// A file, a sheet and a wanted gap with the papers' answers.
+/// A file, a sheet, a key and a wanted gap with the papers' answers.
 struct Paper {
     file: Vec<u8>,
     sheet: Sheet,
+    key: Sheet,
     gap: u16,
     rating: Result<Rating, Refusal>,
     mark: Result<Mark, Refusal>,
+    by_key: Result<Hundred, Refusal>,
     sought: Result<Sought, Refusal>,
 }
 
 fn paper(dice: &mut Dice) -> Paper {
     let file = any_file(dice);
     let lines = read(&file).map_or(3, |net| net.lines());
-    let sheet = any_sheet_bytes(dice, lines);
+    let [sheet, key] = [0, 1].map(|_| any_sheet_bytes(dice, lines));
     let gap = any_gap(dice, &file);
     let mark = mark_bytes(&file, &sheet, BUDGET);
+    let by_key = by_key_bytes(&file, &sheet, &key);
     let sought = read(&file).map(|net| seek(&net, gap, BUDGET));
     Paper {
         rating: rating_or_refusal(rate_bytes(&file, &sheet)),
         mark: mark.map(marked).map_err(refusal),
+        by_key: by_key.map(out_of_hundred).map_err(refusal),
         sought: sought.map_err(refusal),
         sheet: Sheet::of_bytes(sheet),
+        key: Sheet::of_bytes(key),
         gap,
         file,
     }
@@ -83,6 +89,10 @@ fn two_hundred_thousand_calls() {
     });
     calls("mark", &papers, |paper| {
         assert_eq!(engine::mark(&paper.file, &paper.sheet, BUDGET), paper.mark);
+    });
+    calls("mark by a key", &papers, |paper| {
+        let found = engine::mark_by_key(&paper.file, &paper.sheet, &paper.key);
+        assert_eq!(found, paper.by_key);
     });
     calls("wanted", &papers, |paper| {
         let found = engine::wanted(&paper.file, paper.gap, BUDGET).map(sought);

@@ -5,6 +5,7 @@ mod archive;
 mod best;
 mod cycle;
 mod given;
+mod hundred;
 mod loops;
 mod network;
 mod paper;

@@ -34,6 +34,8 @@ fn a_byte_behind_the_longest_file() {
         let sought = engine::wanted_into(&longer, &mut [7; 16], 0, 100);
         assert_eq!(sought.map(drop), refusal);
         assert_eq!(engine::mark(&longer, &sheet, 100).map(drop), refusal);
+        let by_key = engine::mark_by_key(&longer, &sheet, &sheet);
+        assert_eq!(by_key.map(drop), refusal);
         assert_eq!(engine::archive(&longer).map(drop), refusal);
         let better = engine::better(&longer, &sheet, &sheet);
         assert_eq!(better, Better::Neither);

@@ -1,10 +1,10 @@
 //! The optimum beside every timetable of small networks.
 
-use engine::{Mark, Rating, Searched, Sheet, Wanted};
+use engine::{Hundred, Mark, Rating, Searched, Sheet, Wanted};
 use papers::answers::rated;
-use papers::files::Dice;
+use papers::files::{sheet, Dice};
 use papers::sections::network::Network;
-use papers::sections::rating::rating;
+use papers::sections::rating::{rating, whole};
 use papers::small::{every_timetable, small_file, small_file_for_gaps};
 
 /// The best rating of all timetables, each start within its period.
@@ -74,4 +74,52 @@ fn wanted_gaps_beside_every_timetable() {
     }
     // Not all are found by the first descent, and not all are above a cap.
     assert!(later > 300 && walked > 100, "{later}, {walked}");
+}
+
+/// A sheet's mark out of a hundred beside the best of every timetable: mark times best
+/// plus remainder is a hundred times the sheet's gap, with a remainder below the best;
+/// it is 100 exactly where the gaps are equal or the best is 0. Returns it with the gap.
+fn judged(file: &[u8], net: &Network, starts: &[i32], best: Rating) -> (u32, Hundred) {
+    let sheet = Sheet::of_starts(starts);
+    let gap = rating(net, &whole(starts)).least;
+    let mark = engine::mark(file, &sheet, u32::MAX);
+    let Ok(Mark::Decided { hundred, .. }) = mark else {
+        panic!("{mark:?} under the largest budget");
+    };
+    let Hundred { mark, remainder } = hundred;
+    match best.least {
+        0 => assert_eq!((mark, remainder), (100, 0)),
+        best => {
+            assert_eq!(mark * best + remainder, 100 * gap);
+            assert!(remainder < best);
+            assert_eq!(mark == 100, gap == best);
+        }
+    }
+    (gap, hundred)
+}
+
+/// Two sheets of small networks: each mark by its judge, and the order of the marks is
+/// that of the least gaps.
+#[test]
+fn marks_beside_every_timetable() {
+    let mut dice = Dice::new(100);
+    let (mut ranked, mut with_remainder) = (0, 0);
+    for number in 0..600 {
+        let (file, net) = small_file_for_gaps(&mut dice, 10_000);
+        let best = best_of_every(&net);
+        for _ in 0..4 {
+            let pair = [0, 1].map(|_| sheet(&mut dice, net.lines()));
+            let [one, other] = pair.map(|starts| judged(&file, &net, &starts, best));
+            with_remainder += usize::from(one.1.remainder > 0);
+            if best.least > 0 {
+                let by_gap = one.0.cmp(&other.0);
+                assert_eq!(one.1.cmp(&other.1), by_gap, "network {number}");
+                ranked += usize::from(by_gap.is_ne());
+            }
+        }
+    }
+    assert!(
+        ranked > 300 && with_remainder > 100,
+        "{ranked}, {with_remainder}"
+    );
 }

@@ -1,12 +1,13 @@
 //! Every call on seeded files and sheets of every kind.
 
-use engine::{Mark, Refusal, Sheet};
-use papers::answers::{counts, marked, rating_or_refusal, refusal, sought, walked};
+use engine::{Hundred, Mark, Refusal, Sheet};
+use papers::answers::{counts, marked, out_of_hundred, rating_or_refusal, refusal, sought, walked};
 use papers::files::{
     any_budget, any_file, any_gap, any_sheet_bytes, random_bytes, roomy_file, sheet_bytes, Dice,
 };
 use papers::sections;
 use papers::sections::archive::archive_form;
+use papers::sections::hundred::by_key_bytes;
 use papers::sections::network::{read, Network};
 use papers::sections::sheets::{better_bytes, mark_bytes, rate_bytes, weighted_bytes, Better};
 use papers::sections::walk::{walk, Answer};
@@ -37,6 +38,10 @@ struct Kind {
     better: usize,
     /// Decided equal, decided below, undecided.
     mark: Option<usize>,
+    /// Of a decided mark: 0, a part of the best, one with a remainder, 100.
+    hundred: Option<usize>,
+    /// The mark beside another sheet is above 100.
+    above_key: bool,
     empty: bool,
     very_long: bool,
     /// Fewer classes than served stops.
@@ -67,6 +72,9 @@ fn case(number: usize) -> Kind {
     compare_search(&mut dice, &file, &net, &mut kind);
     compare_wanted(&mut dice, &file, &net, &mut kind);
     compare_sheets(&mut dice, &file, &net, &sheets, &mut kind);
+    if dice.once_in(2) {
+        compare_roomy_mark(&mut dice, &mut kind);
+    }
     compare_archive(&mut dice, &file, &net, &sheets, &mut kind);
     kind
 }
@@ -149,6 +157,10 @@ fn compare_sheets(
     };
     assert_eq!(engine::better(file, &one, &other), expected);
     kind.better = at;
+    let by_key = by_key_bytes(file, first, second).map(out_of_hundred);
+    let by_key = by_key.map_err(refusal);
+    assert_eq!(engine::mark_by_key(file, &one, &other), by_key);
+    kind.above_key = by_key.is_ok_and(|it| it.mark > 100);
     let budget = any_budget(dice);
     compare_mark(file, first, budget, kind);
     // Candidates hand in the best timetable more often than chance does.
@@ -157,6 +169,14 @@ fn compare_sheets(
             compare_mark(file, &sheet_bytes(&starts), budget, kind);
         }
     }
+}
+
+/// Where lines can keep away from each other there are marks between 0 and 100.
+fn compare_roomy_mark(dice: &mut Dice, kind: &mut Kind) {
+    let file = roomy_file(dice);
+    let lines = read(&file).expect("a valid file").lines();
+    let (sheet, budget) = (any_sheet_bytes(dice, lines), any_budget(dice));
+    compare_mark(&file, &sheet, budget, kind);
 }
 
 fn compare_mark(file: &[u8], sheet: &[u8], budget: u32, kind: &mut Kind) {
@@ -168,6 +188,14 @@ fn compare_mark(file: &[u8], sheet: &[u8], budget: u32, kind: &mut Kind) {
         Mark::Decided { equal: false, .. } => 1,
         Mark::Undecided { .. } => 2,
     });
+    if let Ok(Mark::Decided { hundred, .. }) = paper {
+        kind.hundred = Some(match hundred {
+            Hundred { remainder: 1.., .. } => 2,
+            Hundred { mark: 0, .. } => 0,
+            Hundred { mark: 100, .. } => 3,
+            _ => 1,
+        });
+    }
 }
 
 /// The archive form beside the papers', in a row that is longer by some bytes;
@@ -213,6 +241,7 @@ fn answers(
         engine::wanted(file, gap, budget),
         engine::better(file, first, second),
         engine::mark(file, first, budget),
+        engine::mark_by_key(file, first, second),
         engine::archive(file),
     )
 }
@@ -252,6 +281,8 @@ fn seeded_files_and_sheets() {
     let wanted = [0, 1, 2].map(|end| count(&|kind| kind.wanted == Some(end)));
     let betters = [0, 1, 2].map(|at| count(&|kind| kind.better == at));
     let marks = [0, 1, 2].map(|at| count(&|kind| kind.mark == Some(at)));
+    let hundreds = [0, 1, 2, 3].map(|at| count(&|kind| kind.hundred == Some(at)));
+    let above_key = count(&|kind| kind.above_key);
     let long = count(&|kind| kind.very_long);
     let empty = count(&|kind| kind.empty);
     let alike = count(&|kind| kind.alike);
@@ -265,6 +296,7 @@ fn seeded_files_and_sheets() {
     println!("wanted gaps found, none, stopped: {wanted:?}");
     println!("better first, second, neither: {betters:?}");
     println!("marks equal, below, undecided: {marks:?}");
+    println!("marks of 0, a part, with a remainder, 100: {hundreds:?}; above a key {above_key}");
     println!("very long {long}, empty {empty}, with alike stops {alike}, untidy {untidy}");
     // The kinds that come least often are some twenty in 20,000.
     let least = cases / 1_000;
@@ -274,7 +306,8 @@ fn seeded_files_and_sheets() {
         &wanted,
         &betters,
         &marks,
-        &[long, empty, alike, untidy],
+        &hundreds,
+        &[long, empty, alike, untidy, above_key],
     ]
     .concat();
     assert!(of_kinds.iter().all(|&count| count >= least));

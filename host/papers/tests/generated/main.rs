@@ -4,6 +4,7 @@
 mod archive;
 mod classes;
 mod files;
+mod hundred;
 mod ratings;
 mod search;
 mod sheets;
