@@ -40,7 +40,7 @@ extern "C" {
 #define EXAMINATION_WANTED_NONE 1u
 #define EXAMINATION_WANTED_STOPPED 2u
 
-/* What examination_mark returns where it doesn't refuse. */
+/* What examination_mark and examination_hundred return where they don't refuse. */
 #define EXAMINATION_DECIDED 0u
 #define EXAMINATION_UNDECIDED 1u
 
@@ -56,6 +56,9 @@ extern "C" {
 #define EXAMINATION_SEARCH_PLACES 3
 #define EXAMINATION_WANTED_PLACES 1
 #define EXAMINATION_MARK_PLACES 6
+
+/* Places of the row for a mark out of a hundred: the mark, the remainder. */
+#define EXAMINATION_HUNDRED_PLACES 2
 
 /* Limits: lines of a network, places of the class row and of the weight row, an
  * unserved stop's entry in the class row, bytes of a start on a sheet, bytes of
@@ -142,6 +145,28 @@ uint32_t examination_better(const uint8_t *file, size_t file_len,
 uint32_t examination_mark(const uint8_t *file, size_t file_len,
                           const uint8_t *sheet, size_t sheet_len, uint32_t budget,
                           uint32_t answer[EXAMINATION_MARK_PLACES]);
+
+/* Marks a sheet as examination_mark does, with the mark out of a hundred beside it:
+ * the whole part of 100 x the sheet's least gap / the best least gap, and the
+ * remainder; 100 and 0 where the best least gap is 0. Sums don't enter.
+ * Returns what examination_mark returns, and leaves in the answer what that leaves.
+ * 0 decided: in the hundred row the mark, 0 to 100, and the remainder, 0 to 1,439.
+ * 1 undecided: 0 and 0, which is no mark. A refusal: both rows as they were. */
+uint32_t examination_hundred(const uint8_t *file, size_t file_len,
+                             const uint8_t *sheet, size_t sheet_len, uint32_t budget,
+                             uint32_t answer[EXAMINATION_MARK_PLACES],
+                             uint32_t hundred[EXAMINATION_HUNDRED_PLACES]);
+
+/* The mark out of a hundred of a sheet beside a key, without a search: as above, with
+ * the key's least gap for the best one. Beside the starts of a finished search it is
+ * what examination_hundred has; beside another key the mark may be above 100.
+ * Returns 0, and puts the mark (0 to 144,000) and the remainder (0 to 1,439) into the
+ * hundred row; or a refusal, grounds 1 to 14, and 15 where the sheet or the key
+ * hasn't 4 bytes for each line. Sheet and key may be the same memory. */
+uint32_t examination_by_key(const uint8_t *file, size_t file_len,
+                            const uint8_t *sheet, size_t sheet_len,
+                            const uint8_t *key, size_t key_len,
+                            uint32_t hundred[EXAMINATION_HUNDRED_PLACES]);
 
 /* Writes the archive form at the row's beginning; what lies behind it stays.
  * Returns its length, 3 x lines + 5 x calls + 1 (9 to 1,329); or a refusal, grounds

@@ -216,6 +216,62 @@ static void mark_it(const struct network *file, size_t number, const struct shee
     printf("\n");
 }
 
+static void say_hundred(const uint32_t *hundred)
+{
+    printf("mark %" PRIu32 ", remainder %" PRIu32, hundred[0], hundred[1]);
+}
+
+/* Of a refused call, whose hundred row held 7 in both places. */
+static void say_untouched(const uint32_t *hundred)
+{
+    printf("; the hundred row %s",
+           is_row_of(hundred, EXAMINATION_HUNDRED_PLACES, 7) ? "is as it was" : "has changed");
+}
+
+/* A mark with its mark out of a hundred; its answer is that of the mark alone. */
+static void mark_out_of_a_hundred(const struct network *file, size_t number,
+                                  const struct sheet *sheet, uint32_t budget)
+{
+    uint32_t alone[EXAMINATION_MARK_PLACES] = {7, 7, 7, 7, 7, 7};
+    uint32_t answer[EXAMINATION_MARK_PLACES] = {7, 7, 7, 7, 7, 7};
+    uint32_t hundred[EXAMINATION_HUNDRED_PLACES] = {7, 7};
+    const uint32_t expected = examination_mark(file->bytes, file->count, sheet->bytes,
+                                               sheet->count, budget, alone);
+    const uint32_t returned = examination_hundred(file->bytes, file->count, sheet->bytes,
+                                                  sheet->count, budget, answer, hundred);
+    printf("sheet %zu out of a hundred with a budget of %" PRIu32 ": ", number, budget);
+    if (examination_is_refused(returned)) {
+        say_refusal(returned);
+        say_untouched(hundred);
+    } else if (returned == EXAMINATION_UNDECIDED) {
+        printf("undecided, the row %" PRIu32 " %" PRIu32, hundred[0], hundred[1]);
+    } else {
+        say_hundred(hundred);
+    }
+    const int same = returned == expected && memcmp(answer, alone, sizeof alone) == 0;
+    printf("; the answer %s the mark's\n", same ? "is" : "isn't");
+}
+
+/* The sheet at one place beside that at another as the key, which may be one place. */
+static void mark_by_key(const struct network *file, const struct sheet *sheets, size_t one,
+                        size_t other)
+{
+    const struct sheet *sheet = &sheets[one];
+    const struct sheet *key = &sheets[other];
+    uint32_t hundred[EXAMINATION_HUNDRED_PLACES] = {7, 7};
+    const uint32_t returned =
+        examination_by_key(file->bytes, file->count, sheet->bytes, sheet->count, key->bytes,
+                           key->count, hundred);
+    printf("sheet %zu by sheet %zu as the key: ", one + 1, other + 1);
+    if (examination_is_refused(returned)) {
+        say_refusal(returned);
+        say_untouched(hundred);
+    } else {
+        say_hundred(hundred);
+    }
+    printf("\n");
+}
+
 static void archive_it(const struct network *file, size_t room)
 {
     uint8_t row[EXAMINATION_MOST_ARCHIVE_BYTES];
@@ -265,6 +321,13 @@ static void run(const struct network *file, const struct sheet *sheets, size_t c
     for (size_t i = 0; i < count; i++) {
         mark_it(file, i + 1, &sheets[i], 0);
         mark_it(file, i + 1, &sheets[i], BUDGET);
+        mark_out_of_a_hundred(file, i + 1, &sheets[i], 0);
+        mark_out_of_a_hundred(file, i + 1, &sheets[i], BUDGET);
+    }
+    for (size_t i = 0; i < count; i++) {
+        mark_by_key(file, sheets, i, i);
+        mark_by_key(file, sheets, i, i + 1 < count ? i + 1 : 0);
+        mark_by_key(file, sheets, i + 1 < count ? i + 1 : 0, i);
     }
     archive_it(file, 8);
     archive_it(file, EXAMINATION_MOST_ARCHIVE_BYTES);

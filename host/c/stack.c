@@ -30,6 +30,7 @@ static uint8_t file[EXAMINATION_MOST_ARCHIVE_BYTES];
 static size_t count;
 static uint8_t sheet[EXAMINATION_MOST_LINES * EXAMINATION_START_BYTES];
 static uint32_t answer[EXAMINATION_MARK_PLACES];
+static uint32_t hundred[EXAMINATION_HUNDRED_PLACES];
 static uint32_t returned;
 
 static void put(unsigned byte)
@@ -111,6 +112,17 @@ static void call_mark(void)
     returned = examination_mark(file, count, sheet, sizeof sheet, BUDGET, answer);
 }
 
+static void call_hundred(void)
+{
+    returned = examination_hundred(file, count, sheet, sizeof sheet, BUDGET, answer, hundred);
+}
+
+static void call_by_key(void)
+{
+    returned =
+        examination_by_key(file, count, sheet, sizeof sheet, sheet, sizeof sheet, hundred);
+}
+
 static void call_archive(void)
 {
     static uint8_t row[EXAMINATION_MOST_ARCHIVE_BYTES];
@@ -144,7 +156,8 @@ int main(void)
         {"examination_wanted", call_wanted},     {"examination_weighted", call_weighted},
         {"examination_classes", call_classes},   {"examination_archive", call_archive},
         {"examination_read", call_read},         {"examination_better", call_better},
-        {"examination_rate", call_rate},
+        {"examination_rate", call_rate},         {"examination_hundred", call_hundred},
+        {"examination_by_key", call_by_key},
     };
     make();
     const size_t nothing = taken(call_nothing);
