@@ -1,5 +1,5 @@
 /*
- * The nine exports over the real ones, which .ci/faults has renamed, with the
+ * The eleven exports over the real ones, which .ci/faults has renamed, with the
  * faults of faults.h. The variable EXAMINATION_FAULT has the number of the one that
  * this process is to have; unset or 0 is none. It is linked by the tests of the
  * tests alone.
@@ -21,6 +21,8 @@ extern __typeof__(examination_search) real_search;
 extern __typeof__(examination_wanted) real_wanted;
 extern __typeof__(examination_better) real_better;
 extern __typeof__(examination_mark) real_mark;
+extern __typeof__(examination_hundred) real_hundred;
+extern __typeof__(examination_by_key) real_by_key;
 extern __typeof__(examination_archive) real_archive;
 
 enum fault {
@@ -311,7 +313,7 @@ uint32_t examination_better(const uint8_t *file, size_t file_len, const uint8_t 
     return returned;
 }
 
-/* What stands in the answer behind a mark. */
+/* What stands in the answer behind a mark, the one or the other. */
 static void fault_mark(uint32_t returned, uint32_t answer[6])
 {
     static atomic_uint calls;
@@ -329,21 +331,151 @@ static void fault_mark(uint32_t returned, uint32_t answer[6])
     }
 }
 
+/* The budget that is taken for a mark's. */
+static uint32_t mark_budget(uint32_t budget)
+{
+    if (is(BUDGET_LESS) && budget > 0) return budget - 1;
+    return is(MARK_BUDGET_SIGNED) && budget > 1u << 31 ? 0 : budget;
+}
+
+/* Whether a mark that took all its budget is called undecided. */
+static int is_called_undecided(uint32_t returned, const uint32_t answer[6], uint32_t budget)
+{
+    return is(EXACT_MARK_BUDGET) && returned == EXAMINATION_DECIDED && answer[5] == budget;
+}
+
 uint32_t examination_mark(const uint8_t *file, size_t file_len, const uint8_t *sheet,
                           size_t sheet_len, uint32_t budget, uint32_t answer[6])
 {
     const size_t length = taken_length(LONG_SHEET_MARKED, file, file_len, sheet_len);
-    uint32_t taken = budget;
-    if (is(BUDGET_LESS) && budget > 0) taken--;
-    if (is(MARK_BUDGET_SIGNED) && budget > 1u << 31) taken = 0;
+    const uint32_t taken = mark_budget(budget);
     const uint32_t returned = real_mark(file, file_len, sheet, length, taken, answer);
     if (taken != budget && returned == EXAMINATION_UNDECIDED) answer[5] = budget;
     fault_mark(returned, answer);
-    if (is(EXACT_MARK_BUDGET) && returned == EXAMINATION_DECIDED && answer[5] == budget) {
+    if (is_called_undecided(returned, answer, budget)) {
         answer[2] = answer[3] = answer[4] = 0;
         return EXAMINATION_UNDECIDED;
     }
     if (is(LAST_PLACE_OF_MARK) && returned == 14 * EXAMINATION_REFUSED + 1329) return returned - 1;
+    return returns(returned, file_len);
+}
+
+/* A mark out of a hundred by other numbers; none beside 0. */
+static void divide(uint32_t hundred[2], uint32_t whole, uint32_t by)
+{
+    hundred[0] = by == 0 ? 0 : whole / by;
+    hundred[1] = by == 0 ? 0 : whole % by;
+}
+
+/* What stands in the hundred row of a decided mark. */
+static void fault_decided(const uint32_t answer[6], uint32_t hundred[2])
+{
+    static atomic_uint calls;
+    const uint32_t gap = answer[0], best = answer[2];
+    if (is(HUNDRED_ROUNDED_UP) && hundred[1] > 0) hundred[0]++;
+    if (is(HUNDRED_ROUNDED) && 2 * hundred[1] > best) hundred[0]++;
+    if (is(REMAINDER_OF_THE_GAP) && best > 0) hundred[1] = gap % best;
+    if (is(REMAINDER_OF_MARKS) && hundred[0] > 0) hundred[1] = 100 * gap % hundred[0];
+    if (is(NOTHING_BESIDE_NONE) && best == 0) hundred[0] = 0;
+    if (is(NO_HUNDRED_BELOW) && answer[4] == 0 && hundred[0] == 100) hundred[0] = 99;
+    if (is(SUMS_FOR_GAPS)) divide(hundred, 100 * answer[1], answer[3]);
+    if (is(HUNDRED_TURNED) && gap > 0) divide(hundred, 100 * best, gap);
+    if (is(HUNDRED_SWAPPED)) {
+        const uint32_t mark = hundred[0];
+        hundred[0] = hundred[1];
+        hundred[1] = mark;
+    }
+    if (is(EVERY_3000TH_HUNDRED) && is_3000th(&calls)) hundred[1]++;
+}
+
+/* What stands in the rows behind a mark out of a hundred, the hundred row before it
+ * being this. */
+static void fault_hundred(uint32_t returned, uint32_t answer[6], uint32_t hundred[2],
+                          const uint32_t before[2])
+{
+    if (examination_is_refused(returned)) {
+        if (is(HUNDRED_CLEARED_ON_REFUSAL)) hundred[0] = hundred[1] = 0;
+        if (is(ANSWER_CLEARED_ON_REFUSAL)) answer[0] = 0;
+        return;
+    }
+    if (returned == EXAMINATION_DECIDED) {
+        fault_decided(answer, hundred);
+        if (is(HUNDRED_WITHOUT_TRIES)) answer[5] = 0;
+        return;
+    }
+    if (is(MARK_OF_UNDECIDED)) hundred[0] = 100;
+    if (is(REMAINDER_OF_UNDECIDED)) hundred[1] = before[1];
+}
+
+uint32_t examination_hundred(const uint8_t *file, size_t file_len, const uint8_t *sheet,
+                             size_t sheet_len, uint32_t budget, uint32_t answer[6],
+                             uint32_t hundred[2])
+{
+    const uint32_t before[2] = {hundred[0], hundred[1]};
+    const size_t length = taken_length(LONG_SHEET_HUNDRED, file, file_len, sheet_len);
+    uint32_t taken = mark_budget(budget);
+    if (is(HUNDRED_BUDGET_MORE) && budget < UINT32_MAX) taken++;
+    if (is(HUNDRED_BUDGET_SIGNED) && budget > 1u << 31) taken = 0;
+    const uint32_t returned =
+        real_hundred(file, file_len, sheet, length, taken, answer, hundred);
+    if (taken != budget && returned == EXAMINATION_UNDECIDED) answer[5] = budget;
+    fault_mark(returned, answer);
+    fault_hundred(returned, answer, hundred, before);
+    if (is_called_undecided(returned, answer, budget)) {
+        answer[2] = answer[3] = answer[4] = hundred[0] = hundred[1] = 0;
+        return EXAMINATION_UNDECIDED;
+    }
+    if (is(LAST_PLACE_OF_HUNDRED) && returned == 14 * EXAMINATION_REFUSED + 1329)
+        return returned - 1;
+    return returns(returned, file_len);
+}
+
+/* What stands in the hundred row beside a key. */
+static void fault_by_key(uint32_t returned, uint32_t hundred[2])
+{
+    static atomic_uint calls;
+    if (examination_is_refused(returned)) {
+        if (is(KEY_CLEARED_ON_REFUSAL)) hundred[1] = 0;
+        return;
+    }
+    if (is(KEY_ROUNDED_UP) && hundred[1] > 0) hundred[0]++;
+    if (is(KEY_AT_MOST_100) && hundred[0] > 100) hundred[0] = 100;
+    if (is(KEY_OF_16_BITS)) hundred[0] &= 65535;
+    if (is(REMAINDER_OF_8_BITS)) hundred[1] &= 255;
+    if (is(EVERY_3000TH_BY_KEY) && is_3000th(&calls)) hundred[0]++;
+}
+
+/* By the key's first bytes, with zeros where it hasn't enough. */
+static uint32_t by_any_key(const uint8_t *file, size_t file_len, const uint8_t *sheet,
+                           size_t sheet_len, const uint8_t *key, size_t key_len,
+                           uint32_t hundred[2])
+{
+    uint8_t fitting[EXAMINATION_MOST_LINES * EXAMINATION_START_BYTES] = {0};
+    memcpy(fitting, key, key_len < sizeof fitting ? key_len : sizeof fitting);
+    return real_by_key(file, file_len, sheet, sheet_len, fitting,
+                       EXAMINATION_START_BYTES * lines_of(file, file_len), hundred);
+}
+
+uint32_t examination_by_key(const uint8_t *file, size_t file_len, const uint8_t *sheet,
+                            size_t sheet_len, const uint8_t *key, size_t key_len,
+                            uint32_t hundred[2])
+{
+    if (is(KEY_FIRST) && key_len % 4 != 0) return 15 * EXAMINATION_REFUSED;
+    if (is(KEY_UNTESTED))
+        return by_any_key(file, file_len, sheet, sheet_len, key, key_len, hundred);
+    if (is(KEY_TURNED))
+        return real_by_key(file, file_len, key, key_len, sheet, sheet_len, hundred);
+    if (is(KEY_BY_ITSELF) && sheet_len == key_len) sheet = key;
+    const size_t length = taken_length(LONG_SHEET_BY_KEY, file, file_len, sheet_len);
+    const uint32_t returned =
+        real_by_key(file, file_len, sheet, length, key, key_len, hundred);
+    fault_by_key(returned, hundred);
+    uint32_t rating[2];
+    if (is(NOTHING_BY_NONE) && returned == 0 &&
+        real_rate(file, file_len, key, key_len, rating) == 0 && rating[0] == 0)
+        hundred[0] = 0;
+    if (is(LAST_PLACE_OF_BY_KEY) && returned == 14 * EXAMINATION_REFUSED + 1329)
+        return returned - 1;
     return returns(returned, file_len);
 }
 
