@@ -297,6 +297,21 @@ static void show(size_t number, const struct sheet *sheet)
     printf("\n");
 }
 
+static void mark_all(const struct network *file, const struct sheet *sheets, size_t count)
+{
+    for (size_t i = 0; i < count; i++) {
+        mark_it(file, i + 1, &sheets[i], 0);
+        mark_it(file, i + 1, &sheets[i], BUDGET);
+        mark_out_of_a_hundred(file, i + 1, &sheets[i], 0);
+        mark_out_of_a_hundred(file, i + 1, &sheets[i], BUDGET);
+    }
+    for (size_t i = 0; i < count; i++) {
+        mark_by_key(file, sheets, i, i);
+        mark_by_key(file, sheets, i, i + 1 < count ? i + 1 : 0);
+        mark_by_key(file, sheets, i + 1 < count ? i + 1 : 0, i);
+    }
+}
+
 static void run(const struct network *file, const struct sheet *sheets, size_t count)
 {
     const size_t lines = read_it("read", file);
@@ -318,17 +333,7 @@ static void run(const struct network *file, const struct sheet *sheets, size_t c
     for (size_t i = 0; i < count; i++) {
         compare(file, sheets, i, i + 1 < count ? i + 1 : i);
     }
-    for (size_t i = 0; i < count; i++) {
-        mark_it(file, i + 1, &sheets[i], 0);
-        mark_it(file, i + 1, &sheets[i], BUDGET);
-        mark_out_of_a_hundred(file, i + 1, &sheets[i], 0);
-        mark_out_of_a_hundred(file, i + 1, &sheets[i], BUDGET);
-    }
-    for (size_t i = 0; i < count; i++) {
-        mark_by_key(file, sheets, i, i);
-        mark_by_key(file, sheets, i, i + 1 < count ? i + 1 : 0);
-        mark_by_key(file, sheets, i + 1 < count ? i + 1 : 0, i);
-    }
+    mark_all(file, sheets, count);
     archive_it(file, 8);
     archive_it(file, EXAMINATION_MOST_ARCHIVE_BYTES);
 

@@ -43,74 +43,62 @@ fn mark_of_one_sheet_quietly() {
     exam(&["mark", "--quiet", HEX, &zeros, "--budget=max"]).printed(line, 0);
 }
 
-/// The marks of cases that can be worked out by hand.
+/// Marks sheets, each by its starts, and compares the lines from the sheet's gap on.
+fn marked(network: &str, lines: &[(&str, &str)]) {
+    let folder = Folder::new();
+    let network = folder.file("a.hex", network);
+    for (starts, line) in lines {
+        let sheet = folder.file("a.sheet", starts);
+        exam(&["mark", &network, &sheet]).printed(&format!("gap {line}\n"), 0);
+    }
+}
+
+/// The marks of cases that can be worked out by hand: by 3, by 12 and by 720.
 #[test]
 fn marks_out_of_a_hundred() {
-    let folder = Folder::new();
-    let three = folder.file(
-        "three.hex",
-        "4C000A 4C000A 4C000A 4300000000 4301000000 4302000000 45",
-    );
-    let lone = folder.file(
-        "lone.hex",
-        "4C003C 4C003C 4C000C 4300000000 4301000000 4302010000 45",
-    );
-    let day = folder.file("day.hex", "4C05A0 4C05A0 4300000000 4301000000 45");
-    for (network, starts, line) in [
+    let three = "4C000A 4C000A 4C000A 4300000000 4301000000 4302000000 45";
+    let lines = [
         (
-            &three,
             "0 1 5",
-            "gap 1 sum 1 best gap 3 sum 3 below mark 33 remainder 1 tries 51",
+            "1 sum 1 best gap 3 sum 3 below mark 33 remainder 1 tries 51",
         ),
         (
-            &three,
             "0 2 5",
-            "gap 2 sum 2 best gap 3 sum 3 below mark 66 remainder 2 tries 51",
+            "2 sum 2 best gap 3 sum 3 below mark 66 remainder 2 tries 51",
         ),
         (
-            &three,
             "0 0 0",
-            "gap 0 sum 0 best gap 3 sum 3 below mark 0 remainder 0 tries 51",
+            "0 sum 0 best gap 3 sum 3 below mark 0 remainder 0 tries 51",
         ),
+    ];
+    marked(three, &lines);
+    let lone = "4C003C 4C003C 4C000C 4300000000 4301000000 4302010000 45";
+    let line = "5 sum 17 best gap 12 sum 42 below mark 41 remainder 8 tries 433";
+    marked(lone, &[("0 5 0", line)]);
+    let day = "4C05A0 4C05A0 4300000000 4301000000 45";
+    let lines = [
         (
-            &lone,
-            "0 5 0",
-            "gap 5 sum 17 best gap 12 sum 42 below mark 41 remainder 8 tries 433",
-        ),
-        (
-            &day,
             "0 719",
-            "gap 719 sum 719 best gap 720 sum 720 below mark 99 remainder 620 tries 1441",
+            "719 sum 719 best gap 720 sum 720 below mark 99 remainder 620 tries 1441",
         ),
         (
-            &day,
             "0 1",
-            "gap 1 sum 1 best gap 720 sum 720 below mark 0 remainder 100 tries 1441",
+            "1 sum 1 best gap 720 sum 720 below mark 0 remainder 100 tries 1441",
         ),
-    ] {
-        let sheet = folder.file("a.sheet", starts);
-        exam(&["mark", network, &sheet]).printed(&format!("{line}\n"), 0);
-    }
+    ];
+    marked(day, &lines);
 }
 
 /// Sums don't enter: a mark of 100 isn't yet the best, and beside a best least gap of
 /// 0 there is no other mark.
 #[test]
 fn a_hundred_and_below() {
-    let folder = Folder::new();
-    let network = folder.file("p9.hex", P9);
-    let sheet = folder.file("a.sheet", "0 3");
-    let line = "gap 3 sum 10 best gap 3 sum 11 below mark 100 remainder 0 tries 31\n";
-    exam(&["mark", &network, &sheet]).printed(line, 0);
-    let network = folder.file("one.hex", "4C0001 4C0001 4300000000 4301000000 45");
-    let line = "gap 0 sum 0 best gap 0 sum 0 equal mark 100 remainder 0 tries 2\n";
-    exam(&["mark", &network, &sheet]).printed(line, 0);
-    let network = folder.file(
-        "none.hex",
-        "4C0001 4C0001 4C0006 4C0006 4300000000 4301000000 4300010000 4302010000 4302020000 \
-         4303020000 45",
-    );
-    let sheet = folder.file("b.sheet", "0 0 0 0");
-    let line = "gap 0 sum 0 best gap 0 sum 3 below mark 100 remainder 0 tries 14\n";
-    exam(&["mark", &network, &sheet]).printed(line, 0);
+    let line = "3 sum 10 best gap 3 sum 11 below mark 100 remainder 0 tries 31";
+    marked(P9, &[("0 3", line)]);
+    let line = "0 sum 0 best gap 0 sum 0 equal mark 100 remainder 0 tries 2";
+    marked("4C0001 4C0001 4300000000 4301000000 45", &[("0 3", line)]);
+    let network = "4C0001 4C0001 4C0006 4C0006 4300000000 4301000000 4300010000 4302010000 \
+                   4302020000 4303020000 45";
+    let line = "0 sum 0 best gap 0 sum 3 below mark 100 remainder 0 tries 14";
+    marked(network, &[("0 0 0 0", line)]);
 }

@@ -50,6 +50,18 @@ fn record(words: &[&str], status: i32) -> (Vec<Fields>, String) {
 const CRC: (&str, &str) = ("network_crc32", "aced792e");
 const USUAL: (&str, &str) = ("budget", "1000000");
 
+/// A name with its word, a rating whose gap and sum are one number, and a mark.
+fn rated<'a>(name: &'a str, word: &'a str, gap: &'a str, mark: &'a str) -> Vec<(&'a str, &'a str)> {
+    let named = [("name", name), ("status", word)];
+    let numbers = [
+        ("gap", gap),
+        ("sum", gap),
+        ("mark", mark),
+        ("remainder", "0"),
+    ];
+    [&named[..], &numbers].concat()
+}
+
 #[test]
 fn a_row_for_each_sheet() {
     let folder = Folder::new();
@@ -60,22 +72,6 @@ fn a_row_for_each_sheet() {
     let (rows, said) = record(&["mark", HEX, &folder.name()], 2);
     let best = [("best_gap", "2"), ("best_sum", "2"), ("tries", "21")];
     let marked = |values: &[(&str, &str)]| row(&[values, &best, &[CRC, USUAL]].concat());
-    let equal = [
-        ("name", "a, \"b\".sheet"),
-        ("status", "equal"),
-        ("gap", "2"),
-        ("sum", "2"),
-        ("mark", "100"),
-        ("remainder", "0"),
-    ];
-    let below = [
-        ("name", "b.sheet"),
-        ("status", "below"),
-        ("gap", "1"),
-        ("sum", "1"),
-        ("mark", "50"),
-        ("remainder", "0"),
-    ];
     let refused = [
         ("name", "c.sheet"),
         ("status", "refused"),
@@ -84,8 +80,8 @@ fn a_row_for_each_sheet() {
     ];
     let unreadable = [("name", "d.sheet"), ("status", "unreadable")];
     let expected = [
-        marked(&equal),
-        marked(&below),
+        marked(&rated("a, \"b\".sheet", "equal", "2", "100")),
+        marked(&rated("b.sheet", "below", "1", "50")),
         row(&[&refused[..], &[CRC, USUAL]].concat()),
         row(&[&unreadable[..], &[CRC, USUAL]].concat()),
     ];
@@ -222,21 +218,12 @@ fn of_seeded_networks() {
 
 /// The fields of a row beside the mark call's answer.
 fn says(row: &Fields, mark: Result<Mark, engine::Refusal>) {
-    let names = [
-        "gap",
-        "sum",
-        "best_gap",
-        "best_sum",
-        "tries",
-        "mark",
-        "remainder",
-        "refusal",
-        "place",
-    ];
-    let field = |name: &str| {
+    let names = "gap sum best_gap best_sum tries mark remainder refusal place";
+    let fields = names.split(' ').map(|name| {
         let text = row[name].as_ref();
         text.map(|text| text.parse().expect("a number"))
-    };
+    });
+    let fields: Vec<Option<u32>> = fields.collect();
     let (word, numbers, refusal) = match mark {
         Ok(Mark::Decided {
             sheet,
@@ -262,7 +249,6 @@ fn says(row: &Fields, mark: Result<Mark, engine::Refusal>) {
             ("refused", [None; 7], refusal)
         }
     };
-    let fields: Vec<Option<u32>> = names.into_iter().map(field).collect();
     assert_eq!(row["status"].as_deref(), Some(word));
     assert_eq!(fields, [&numbers[..], &refusal].concat());
 }

@@ -283,10 +283,8 @@ fn seeded_files_and_sheets() {
     let marks = [0, 1, 2].map(|at| count(&|kind| kind.mark == Some(at)));
     let hundreds = [0, 1, 2, 3].map(|at| count(&|kind| kind.hundred == Some(at)));
     let above_key = count(&|kind| kind.above_key);
-    let long = count(&|kind| kind.very_long);
-    let empty = count(&|kind| kind.empty);
-    let alike = count(&|kind| kind.alike);
-    let untidy = count(&|kind| kind.untidy);
+    let [long, empty] = [count(&|kind| kind.very_long), count(&|kind| kind.empty)];
+    let [alike, untidy] = [count(&|kind| kind.alike), count(&|kind| kind.untidy)];
     println!(
         "{cases} cases; rated {}, refused by ground {:?}",
         grounds[0],

@@ -202,15 +202,14 @@ fn sheet_and_key_in_one_memory() {
     let file = three_lines([15, 20, 12]);
     let one = &file[..12];
     assert_eq!(by_key(&file, one, one), (0, [100, 0]));
-    let copy = one.to_vec();
+    let key = &file[4..16];
+    let apart = [one, key].map(<[u8]>::to_vec);
+    assert_eq!(by_key(&file, one, key), by_key(&file, &apart[0], &apart[1]));
     let budget = 1_000;
     assert_eq!(
         with_search(&file, one, budget),
-        with_search(&file, &copy, budget)
+        with_search(&file, &apart[0], budget)
     );
-    let key = &file[4..16];
-    let apart = by_key(&file, &copy, &key.to_vec());
-    assert_eq!(by_key(&file, one, key), apart);
 }
 
 /// A refusal leaves both rows as they were, whatever they held.
