@@ -5,7 +5,7 @@ use Prim.Native.Nat.{ℕ, _*_, _<_, _≤_}
 use mathlib.Core.Path.{_≡_, refl, sym, ap, ap₂, _∙_}
 use mathlib.Core.Bool.{Bool, true, false}
 use mathlib.Core.List.{List, [], _∷_}
-use mathlib.Core.Logic.{_⊎_, inl, inr, _↔_}
+use mathlib.Core.Logic.{inl, _↔_}
 use native.Mathlib.Omega.{arith}
 use borrow.Author.Tests.{eqb-true, eqb-false, eq-eqb}
 use borrow.Fn.World.{ArgsD, ResD}
@@ -16,17 +16,16 @@ use lib.Dec.{eqb}
 use lib.IntN.{ℤ, pos}
 use lib.ListN.{length, getD}
 use Rattle.network.specs.Network.{Net}
-use Rattle.network.specs.Reading.{Reading, Outcome, values, refusal, accepted, readFile}
-use Rattle.network.specs.Refusals.{Refuses, after-file, Unfit, Demand1}
+use Rattle.network.specs.Reading.{Outcome, values, refusal, accepted, readFile}
+use Rattle.network.specs.Refusals.{Refuses, after-file, Demand1}
 use Rattle.network.specs.Rating.{IsRating}
-use Rattle.network.specs.Valid.{IsBytes, Valid}
+use Rattle.network.specs.Valid.{Valid}
 use Rattle.network.proofs.Laws.Gaps.{accepted-valid, IsRating-range}
-use Rattle.network.proofs.Laws.Lists.{zero-ne-one}
 use Rattle.search.proofs.Demands.{WalkedStarts}
 use Rattle.examination.specs.Bytes.{starts, bytesFit, byBytes, markBytes, keyBytes, BytesUnfit, EitherBytesUnfit}
 use Rattle.examination.specs.Exports.{TellsRefusal, refusalCode, status, rowAfter, markStatus, markRow, hundredRow}
 use Rattle.examination.specs.Hundred.{markOf, remainderOf, keyOutcome}
-use Rattle.examination.specs.Sheets.{MarkOutcome, decided, undecided, markOutcome}
+use Rattle.examination.specs.Sheets.{MarkOutcome, decided, undecided}
 use Rattle.examination.specs.Sheets as sheets
 use Rattle.examination.proofs.Codes.{export-demand-1, status-tells, status-code, mark-status-tells, mark-status-code}
 use Rattle.examination.proofs.ExportDemands.{own-ground-range, row-as-found}
@@ -35,7 +34,7 @@ use Rattle.examination.proofs.ExportSearch.{search-export-demand-1, sea
 use Rattle.examination.proofs.HundredMark.{Divided, divided, MarkOutOfHundred, marked-out-of-hundred, PairBelow, one-best, ranked, beside-key-is}
 use Rattle.examination.proofs.Laws.Refusals.{mark-bytes-refuse, mark-bytes-refuse-only, mark-refuses-only, refuses-range, key-answers}
 use Rattle.examination.proofs.Laws.Refusals.{key-bytes-refuse, key-bytes-refuse-only, decided-bytes-accepted, decided-on-starts}
-use Rattle.examination.proofs.Mark.{MarkMeans, mark-means}
+use Rattle.examination.proofs.Mark.{MarkMeans, mark-means, neither-above}
 use Rattle.examination.proofs.SheetBytes.{In32, All32, all32, bytesOf, starts-of-bytes, length-bytesOf}
 use Rattle.examination.proofs.exports.examination_search as searching
 use Rattle.examination.proofs.exports.examination_search.Kinds as search-kinds
@@ -223,12 +222,6 @@ module _ (κs : Lfts 4) (a : ArgsD hundred.signature κs) (r : ResD hundred.sign
             (ranked (one .means) (one .is) (other .means) (other .is) (rw (one .has-best) at h)),
       )
 
--- Of two ratings of which none is above the other the least gaps are equal
-one-least : {l u m v : ℕ} → (l < m) ⊎ ((l ≡ m) × (u ≤ v)) → (m < l) ⊎ ((m ≡ l) × (v ≤ u)) → l ≡ m
-one-least (inl p) (inl q) = absurd (omega (arith, p, q))
-one-least (inl p) (inr q) = absurd (omega (arith, p, q .0))
-one-least (inr p) q = p .0
-
 -- ---- By a key
 
 -- Where the file is accepted and both sheets' bytes fit, it answers by their starts
@@ -327,7 +320,7 @@ module _ (κs : Lfts 3) (a : ArgsD searching.signature κs) (r : ResD searching.
       let (key-fits, key-rated) = hall .finished-has-its-rating finished in
       let (best, best-fits, best-rated) = one .means .best-is-attained (one .is) in
       let same : getD (s .1 .1 .1 .0 .now) 0 0 ≡ one .bestLeast =
-      one-least (one .means .best-is-unbeaten (one .is) (s .1 .0 .now) key-fits key-rated) (hall .finished-is-best finished best best-fits best-rated) in
+      neither-above (one .means .best-is-unbeaten (one .is) (s .1 .0 .now) key-fits key-rated) (hall .finished-is-best finished best best-fits best-rated) .0 in
       let rated : IsRating n (s .1 .0 .now) (one .bestLeast) (getD (s .1 .1 .1 .0 .now) 1 0) = rw (← same) key-rated in
       let sheet-rated : IsRating n (starts (a″ .1 .0 .now)) (one .least) (one .sum) = rw (← sheet) (one .means .decided-rating (one .is)) in
       let (e, row) = told κs″ a″ r″ s″ kept″ (sym (ap readFile file′) ∙ reads′) (s .1 .0 .now) (walked-in32 (hall .starts-in-range (inl finished))) key-fits

@@ -6,10 +6,8 @@ use Prim.Native.Nat.{ℕ, _+_, _*_, _<_, _≤_}
 use mathlib.Core.Path.{_≡_, refl, sym, ap, ap₂, _∙_}
 use mathlib.Core.Bool.{Bool}
 use mathlib.Core.List.{List, [], _∷_}
-use mathlib.Core.Logic.{_⊎_, inl, inr, _↔_}
-use native.Mathlib.Nat.{eq-zero-or-pos}
+use mathlib.Core.Logic.{_⊎_, _↔_}
 use native.Mathlib.Omega.{arith}
-use borrow.Author.Tests.{eq-eqb}
 use borrow.Fn.World.{ArgsD, ResD}
 use borrow.Fn.Kinds.{endedOf}
 use contract.Lifetimes.{Lfts}
@@ -17,19 +15,18 @@ use denote.Triple.Clauses.{AtExit}
 use lib.IntN.{ℤ}
 use lib.ListN.{length}
 use Rattle.network.specs.Network.{Net, maxPeriod}
-use Rattle.network.specs.Rate.{onSheet}
-use Rattle.network.specs.Rating.{IsRating, rating}
-use Rattle.network.specs.Reading.{Reading, values, refusal, accepted, readFile}
+use Rattle.network.specs.Rating.{IsRating}
+use Rattle.network.specs.Reading.{values, refusal, accepted, readFile}
 use Rattle.network.specs.Refusals.{Refuses, Demand1}
 use Rattle.network.specs.Valid.{Valid}
 use Rattle.network.proofs.Laws.Gaps.{accepted-valid, IsRating-unique, IsRating-range}
-use Rattle.examination.specs.Hundred.{markOf, remainderOf, besideKey, keyAnswer, keyOutcome, EitherUnfit}
+use Rattle.examination.specs.Hundred.{markOf, remainderOf, besideKey, keyAnswer, EitherUnfit}
 use Rattle.examination.specs.Sheets.{MarkOutcome, decided, markAnswer}
 use Rattle.examination.proofs.Demands.{mark-means-what-it-says}
 use Rattle.examination.proofs.Laws.Hundred.{markOf-of-none, remainderOf-of-none, divides-some, remainder-below, one-pair, gives-back}
 use Rattle.examination.proofs.Laws.Hundred.{mark-at-most-100, mark-100-is-best, best-has-100, ranks, mark-range}
 use Rattle.examination.proofs.Laws.Refusals.{decided-is-accepted, key-refuses, key-refuses-only, key-answers}
-use Rattle.examination.proofs.Mark.{MarkMeans}
+use Rattle.examination.proofs.Mark.{MarkMeans, neither-above}
 use Rattle.examination.proofs.hundred.by_key as by-key
 use Rattle.examination.proofs.hundred.by_key.Kinds as by-key-kinds
 use Rattle.examination.proofs.hundred.by_key.Reads as by-key-contract
@@ -84,6 +81,17 @@ out-of-hundred least best le b =
       hundred-where-equal = λ h. (mark-100-is-best least h le, λ e. rw e (best-has-100 h .0));
     }
 
+-- The request's cases: P7, whose best is 3, with least gaps 1, 2 and 0; P8; two lines of a day; a best of 0
+pub cases-out-of-hundred : ((markOf 1 3 ≡ 33) × (remainderOf 1 3 ≡ 1))
+    × ((markOf 2 3 ≡ 66) × (remainderOf 2 3 ≡ 2))
+    × ((markOf 0 3 ≡ 0) × (remainderOf 0 3 ≡ 0))
+    × ((markOf 5 12 ≡ 41) × (remainderOf 5 12 ≡ 8))
+    × ((markOf 719 720 ≡ 99) × (remainderOf 719 720 ≡ 620))
+    × ((markOf 1 720 ≡ 0) × (remainderOf 1 720 ≡ 100))
+    × ((markOf 0 0 ≡ 100) × (remainderOf 0 0 ≡ 0))
+unfolding markOf remainderOf
+cases-out-of-hundred = ((refl, refl), (refl, refl), (refl, refl), (refl, refl), (refl, refl), (refl, refl), (refl, refl))
+
 -- ---- Of marks by what they mean
 
 module _ {n : Net} {sheet : List ℤ} {budget : ℕ} {answer : MarkOutcome} (means : MarkMeans n sheet budget answer)
@@ -101,14 +109,7 @@ module _ {n : Net} {sheet : List ℤ} {budget : ℕ} {answer : MarkOutcome} (mea
     one-best =
         let (starts, fit, rated) = means .best-is-attained is in
         let (starts′, fit′, rated′) = means′ .best-is-attained is′ in
-        go (means .best-is-unbeaten is starts′ fit′ rated′) (means′ .best-is-unbeaten is′ starts fit rated)
-      where
-        go : (bestLeast′ < bestLeast) ⊎ ((bestLeast′ ≡ bestLeast) × (bestSum′ ≤ bestSum))
-            → (bestLeast < bestLeast′) ⊎ ((bestLeast ≡ bestLeast′) × (bestSum ≤ bestSum′)) → (bestLeast ≡ bestLeast′) × (bestSum ≡ bestSum′)
-        go (inl p) (inl q) = absurd (omega (arith, p, q))
-        go (inl p) (inr q) = absurd (omega (arith, p, q .0))
-        go (inr p) (inl q) = absurd (omega (arith, p .0, q))
-        go (inr p) (inr q) = (q .0, omega (arith, p .1, q .1))
+        neither-above (means′ .best-is-unbeaten is′ starts fit rated) (means .best-is-unbeaten is starts′ fit′ rated′)
 
     pub ranked : 0 < bestLeast → (least < least′) ↔ PairBelow mark remainder mark′ remainder′
     ranked h =

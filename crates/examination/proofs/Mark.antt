@@ -145,6 +145,13 @@ below-or-equal least sum bestLeast bestSum e (inl h) = inl h
 below-or-equal least sum bestLeast bestSum e (inr h) =
     inr (h .0, omega (arith, h .1, eqb-false sum bestSum (sym (ap (λ (b : Bool). b && eqb sum bestSum) (eq-eqb _ _ (h .0))) ∙ e)))
 
+-- Two ratings of which none is above the other are equal
+pub neither-above : {l u m v : ℕ} → (l < m) ⊎ ((l ≡ m) × (u ≤ v)) → (m < l) ⊎ ((m ≡ l) × (v ≤ u)) → (l ≡ m) × (u ≡ v)
+neither-above (inl p) (inl q) = absurd (omega (arith, p, q))
+neither-above (inl p) (inr q) = absurd (omega (arith, p, q .0))
+neither-above (inr p) (inl q) = absurd (omega (arith, p .0, q))
+neither-above (inr p) (inr q) = (p .0, omega (arith, p .1, q .1))
+
 least-not-above : {least sum bestLeast bestSum : ℕ} → (least < bestLeast) ⊎ ((least ≡ bestLeast) × (sum ≤ bestSum)) → least ≤ bestLeast
 least-not-above (inl h) = omega (arith, h)
 least-not-above (inr h) = omega (arith, h .0)

@@ -13,6 +13,8 @@ pub use Rattle.examination.proofs.ExportDemands.{classes-export-asks-no
 pub use Rattle.examination.proofs.ExportSearch.{search-export-asks-nothing, mark-export-asks-nothing}
 pub use Rattle.examination.proofs.ExportWanted.{wanted-export-asks-nothing}
 pub use Rattle.examination.proofs.ExportBetter.{better-export-asks-nothing}
+pub use Rattle.examination.proofs.HundredMark.{by-key-asks-nothing}
+pub use Rattle.examination.proofs.ExportHundred.{hundred-export-asks-nothing, by-key-export-asks-nothing}
 -- "faulty input and no other gets the refusal number and place that document 01 sets ..., and a refused call leaves each lent row exactly as it
 -- found it"
 pub use Rattle.network.proofs.Demands.{read-demand-1, file-gives, file-gives-no-other, rate-demand-1, weighted-demand-1, classes-demand-1, archive-demand-1}
@@ -23,6 +25,8 @@ pub use Rattle.examination.proofs.ExportDemands.{read-export-demand-1, 
 pub use Rattle.examination.proofs.ExportDemands.{classes-export-demand-1, archive-export-demand-1}
 pub use Rattle.examination.proofs.ExportSearch.{search-export-demand-1, mark-export-demand-1}
 pub use Rattle.examination.proofs.ExportWanted.{wanted-export-demand-1}
+pub use Rattle.examination.proofs.HundredMark.{by-key-demand-1}
+pub use Rattle.examination.proofs.ExportHundred.{hundred-export-demand-1, by-key-export-demand-1}
 -- "(better-of-two answers by its part alone)"
 pub use Rattle.examination.proofs.Demands.{better-file-refused, better-neither-fits, better-only-first-fits, better-only-second-fits}
 pub use Rattle.examination.proofs.Demands.{better-both-fit}
@@ -113,3 +117,17 @@ pub use Rattle.examination.proofs.ExportWanted.{wanted-export-with-more
 pub use Rattle.network.proofs.RunningCycle.{running-cycle, no-other-cycle, one-before-the-first, line-brings-forward, others-keep-it}
 pub use Rattle.network.proofs.RunningCycle.{refused-line-keeps-nothing, every-turn, every-return}
 pub use Rattle.network.proofs.RunningCycle.{cycles-on-the-way, eleven-is-refused, line-behind-calls}
+-- ---- Document 02, A.5
+
+-- "The mark is the whole part of 100×(sheet's least gap) / (best least gap), with the remainder. Where the best least gap is 0, the mark is 100,
+-- remainder 0. .. Mark times best plus remainder gives back 100 times the sheet's gap, the remainder being smaller than a best above 0"; and the mark
+-- is at most 100, exactly 100 where the least gaps are equal, and no other pair is so
+pub use Rattle.examination.proofs.HundredMark.{mark-out-of-hundred, cases-out-of-hundred}
+-- "An undecided marking has no mark": the answer has no place for one, and the export 0 in both; six places are as before
+pub use Rattle.examination.proofs.ExportHundred.{hundred-export-means, hundred-export-as-mark}
+-- "borderline sheets are ranked by it": of two on one file the smaller least gap has the smaller mark, or the same and the smaller remainder
+pub use Rattle.examination.proofs.HundredMark.{marks-have-one-best, marks-rank}
+pub use Rattle.examination.proofs.ExportHundred.{hundred-export-ranks}
+-- Many sheets by one search: beside its starts the call by a key has the same two numbers
+pub use Rattle.examination.proofs.HundredMark.{by-key-divides, by-key-as-mark}
+pub use Rattle.examination.proofs.ExportHundred.{by-key-export-divides, by-key-export-as-mark}

@@ -1,7 +1,7 @@
 -- Marks out of a hundred as a division with remainder: mark times best plus remainder is a hundred times the least gap, the remainder is
 -- below a best above 0, no other pair is so, and the pairs are in the order of the least gaps. Assumes nothing.
 use Prim.Native.Nat.{ℕ, zero, suc, _+_, _*_, _/_, _%_, _<_, _≤_}
-use mathlib.Core.Path.{_≡_, refl, sym, ap, _∙_}
+use mathlib.Core.Path.{_≡_, refl, ap}
 use mathlib.Core.Bool.{Bool, true, false}
 use mathlib.Core.Logic.{_⊎_, inl, inr, _↔_}
 use native.Mathlib.Nat.{div-add-mod', div-le-self, mod-lt, mul-le-mul-right, le-of-mul-le-mul-right}

@@ -1,6 +1,5 @@
 -- `examination::exports::examination_mark` meets its contract: it hands on what mark answers on the sheet that the bytes stand for.
 -- Assumes nothing.
-use Prim.Native.Nat.{ℕ}
 use mathlib.Core.Path.{sym, ap, _∙_}
 use borrow.Author.Needs.{needs}
 use Rattle.examination.specs.Exports.{markStatus, markRow}

@@ -1,7 +1,6 @@
 -- `examination::hundred::out_of_hundred` meets its contract: it divides where the best is above 0, and a hundred times a least gap fits. Assumes
 -- nothing.
 use mathlib.Core.Path.{sym}
-use native.Mathlib.Nat.{pos-of-ne-zero}
 use native.Mathlib.Omega.{arith}
 use borrow.Author.Needs.{needs}
 use Rattle.examination.proofs.Laws.Hundred.{markOf-of-none, remainderOf-of-none, markOf-of-some, remainderOf-of-some}
