@@ -23,7 +23,7 @@ use Rattle.examination.specs.Bytes.{starts, bytesFit, betterBytes, Bytes
 use Rattle.examination.specs.Exports.{betterStatus}
 use Rattle.examination.specs.Sheets.{Better, first, second, neither, fits, betterBy, betterOf}
 use Rattle.examination.proofs.BetterSheet.{Chosen, first-not-below, second-above, both-fit}
-use Rattle.examination.proofs.SheetBytes.{All32, bytesOf, starts-of-bytes, length-bytesOf}
+use Rattle.examination.proofs.SheetBytes.{All32, bytesOf, starts-of-bytes, length-bytesOf, starts-of-lent, length-of-lent}
 use Rattle.examination.proofs.better.better as part
 use Rattle.examination.proofs.better.better.Kinds as part-kinds
 use Rattle.examination.proofs.better.better.Reads as part-contract
@@ -130,10 +130,10 @@ module _ (κs : Lfts 3) (a : ArgsD better.signature κs) (r : ResD better.signat
         (both-fit reads one other (accepted-valid (a .0 .now) n (kept .1) reads) p q fit fit′)
       where
         bytes-fit : (sheet : List ℤ) {bytes : List ℕ} → bytes ≡ bytesOf sheet → length sheet ≡ length (n .periods) → bytesFit n bytes ≡ true
-        bytes-fit sheet e f = fit-is _ (ap length e ∙ length-bytesOf sheet ∙ ap (λ (k : ℕ). 4 * k) f)
+        bytes-fit sheet e f = fit-is _ (length-of-lent sheet e f)
 
         its-starts : (sheet : List ℤ) {bytes : List ℕ} → bytes ≡ bytesOf sheet → All32 sheet → rating n (starts bytes) ≡ rating n sheet
-        its-starts sheet e f = ap (rating n) (ap starts e ∙ starts-of-bytes sheet f)
+        its-starts sheet e f = ap (rating n) (starts-of-lent sheet e f)
 
         told : r ≡ betterStatus (betterOf (readFile (a .0 .now)) one other)
         told =

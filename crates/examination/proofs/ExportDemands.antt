@@ -35,7 +35,7 @@ use Rattle.examination.specs.Exports.{placeLimit, TellsRefusal, status, 
 use Rattle.examination.proofs.Codes.{export-demand-1, status-tells, status-code, archive-status-tells, archive-status-code}
 use Rattle.examination.proofs.Laws.Bytes.{rated-on-bytes}
 use Rattle.examination.proofs.Laws.Refusals.{refuses-range, sheet-bytes-refuse, sheet-bytes-refuse-only}
-use Rattle.examination.proofs.SheetBytes.{All32, bytesOf, starts-of-bytes, length-bytesOf}
+use Rattle.examination.proofs.SheetBytes.{All32, bytesOf, starts-of-bytes, length-of-lent}
 use Rattle.examination.proofs.exports.examination_read as read
 use Rattle.examination.proofs.exports.examination_read.Kinds as read-kinds
 use Rattle.examination.proofs.exports.examination_read.Reads as read-contract
@@ -76,7 +76,7 @@ unfolding rowAfter
 row-as-found row e = rw e refl
 
 -- 0, and the values in the row
-answered : {o : Outcome} {returned : ℕ} {after vs : List ℕ} (before : List ℕ) → returned ≡ status o → after ≡ rowAfter o before → o ≡ values vs
+pub answered : {o : Outcome} {returned : ℕ} {after vs : List ℕ} (before : List ℕ) → returned ≡ status o → after ≡ rowAfter o before → o ≡ values vs
     → (returned ≡ 0) × (values after ≡ o)
 unfolding status rowAfter
 answered before e f is = (e ∙ rw is refl, rw (f, is) refl)
@@ -116,7 +116,7 @@ pub on-its-bytes : {A : Type 0} (call : Reading → List ℤ → A) (refuses : �
     → All32 sheet → length sheet ≡ length (n .periods) → byBytes call refuses read (bytesOf sheet) ≡ call read sheet
 unfolding byBytes bytesFit
 on-its-bytes call refuses read {n} reads sheet in32 fit =
-    rw (reads, eq-eqb (length (bytesOf sheet)) (4 * length (n .periods)) (length-bytesOf sheet ∙ ap (λ (k : ℕ). 4 * k) fit), starts-of-bytes sheet in32) refl
+    rw (reads, eq-eqb (length (bytesOf sheet)) (4 * length (n .periods)) (length-of-lent sheet refl fit), starts-of-bytes sheet in32) refl
 
 -- Of the answer on the bytes: when it refuses, and the row
 sheet-demand-1 : (rates : Net → List ℤ → Rating) (file : List ℕ) → IsBytes file → (bytes row : List ℕ) {returned : ℕ} {after : List ℕ}

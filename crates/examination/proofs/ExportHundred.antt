@@ -16,26 +16,26 @@ use lib.Dec.{eqb}
 use lib.IntN.{ℤ, pos}
 use lib.ListN.{length, getD}
 use Rattle.network.specs.Network.{Net}
-use Rattle.network.specs.Reading.{Outcome, values, refusal, accepted, readFile}
+use Rattle.network.specs.Reading.{values, refusal, accepted, readFile}
 use Rattle.network.specs.Refusals.{Refuses, after-file, Demand1}
 use Rattle.network.specs.Rating.{IsRating}
 use Rattle.network.specs.Valid.{Valid}
 use Rattle.network.proofs.Laws.Gaps.{accepted-valid, IsRating-range}
 use Rattle.search.proofs.Demands.{WalkedStarts}
 use Rattle.examination.specs.Bytes.{starts, bytesFit, byBytes, markBytes, keyBytes, BytesUnfit, EitherBytesUnfit}
-use Rattle.examination.specs.Exports.{TellsRefusal, refusalCode, status, rowAfter, markStatus, markRow, hundredRow}
+use Rattle.examination.specs.Exports.{TellsRefusal, refusalCode, markStatus, markRow, hundredRow}
 use Rattle.examination.specs.Hundred.{markOf, remainderOf, keyOutcome}
 use Rattle.examination.specs.Sheets.{MarkOutcome, decided, undecided}
 use Rattle.examination.specs.Sheets as sheets
 use Rattle.examination.proofs.Codes.{export-demand-1, status-tells, status-code, mark-status-tells, mark-status-code}
-use Rattle.examination.proofs.ExportDemands.{own-ground-range, row-as-found}
+use Rattle.examination.proofs.ExportDemands.{own-ground-range, row-as-found, answered}
 use Rattle.examination.proofs.ExportSearch.{HallMark, hall-mark-of, mark-told, mark-row-as-found, fit-answers}
 use Rattle.examination.proofs.ExportSearch.{search-export-demand-1, search-export-demand-3}
 use Rattle.examination.proofs.HundredMark.{Divided, divided, MarkOutOfHundred, marked-out-of-hundred, PairBelow, one-best, ranked, beside-key-is}
 use Rattle.examination.proofs.Laws.Refusals.{mark-bytes-refuse, mark-bytes-refuse-only, mark-refuses-only, refuses-range, key-answers}
 use Rattle.examination.proofs.Laws.Refusals.{key-bytes-refuse, key-bytes-refuse-only, decided-bytes-accepted, decided-on-starts}
 use Rattle.examination.proofs.Mark.{MarkMeans, mark-means, neither-above}
-use Rattle.examination.proofs.SheetBytes.{In32, All32, all32, bytesOf, starts-of-bytes, length-bytesOf}
+use Rattle.examination.proofs.SheetBytes.{In32, All32, all32, bytesOf, starts-of-lent, length-of-lent}
 use Rattle.examination.proofs.exports.examination_search as searching
 use Rattle.examination.proofs.exports.examination_search.Kinds as search-kinds
 use Rattle.examination.proofs.exports.examination_search.Reads as search-contract
@@ -230,17 +230,8 @@ key-told : (file : List ℕ) {n : Net} → readFile file ≡ accepted n → (she
 unfolding keyBytes byBytes bytesFit
 key-told file reads sheet key fit fit′ = rw (reads, eq-eqb _ _ fit, eq-eqb _ _ fit′) refl
 
-bytes-fit : (n : Net) (sheet : List ℤ) {bytes : List ℕ} → bytes ≡ bytesOf sheet → length sheet ≡ length (n .periods) → length bytes ≡ 4 * length (n .periods)
-bytes-fit n sheet lent fit = ap length lent ∙ length-bytesOf sheet ∙ ap (λ (k : ℕ). 4 * k) fit
-
-its-starts : (sheet : List ℤ) {bytes : List ℕ} → bytes ≡ bytesOf sheet → All32 sheet → starts bytes ≡ sheet
-its-starts sheet lent in32 = ap starts lent ∙ starts-of-bytes sheet in32
-
--- 0, and the values in the row
-answered : {o : Outcome} {returned mark remainder : ℕ} {after : List ℕ} (before : List ℕ) → returned ≡ status o → after ≡ rowAfter o before
-    → o ≡ values (mark ∷ remainder ∷ []) → (returned ≡ 0) × (after ≡ mark ∷ remainder ∷ [])
-unfolding status rowAfter
-answered before e f is = (e ∙ rw is refl, f ∙ rw is refl)
+same-values : {vs ws : List ℕ} → values vs ≡ values ws → vs ≡ ws
+same-values e = cc
 
 module _ (κs : Lfts 4) (a : ArgsD by-key.signature κs) (r : ResD by-key.signature κs) (s : AtExit (endedOf 4 by-key-kinds.ps by-key-kinds.r) κs)
     (kept : by-key-contract.Post κs a r s) where
@@ -266,20 +257,21 @@ module _ (κs : Lfts 4) (a : ArgsD by-key.signature κs) (r : ResD by-key.signat
         → IsRating n (starts (a .1 .0 .now)) least sum → IsRating n key best bestSum
         → (r ≡ 0) × (s .1 .1 .1 .0 .now ≡ markOf least best ∷ remainderOf least best ∷ [])
     told bytes-are fits {least} {sum} {best} {bestSum} p q =
-        answered (a .1 .1 .1 .0 .now) (kept .0) (kept .1 .0)
-        (key-told (a .0 .now) reads (a .1 .0 .now) (a .1 .1 .0 .now) bytes-are (bytes-fit n key key-lent key-fits)
-        ∙ ap (keyOutcome (readFile (a .0 .now)) (starts (a .1 .0 .now))) (its-starts key key-lent in32)
+        let is = key-told (a .0 .now) reads (a .1 .0 .now) (a .1 .1 .0 .now) bytes-are (length-of-lent key key-lent key-fits)
+        ∙ ap (keyOutcome (readFile (a .0 .now)) (starts (a .1 .0 .now))) (starts-of-lent key key-lent in32)
         ∙ key-answers (a .0 .now) (starts (a .1 .0 .now)) key reads fits key-fits
-        ∙ beside-key-is valid p q)
+        ∙ beside-key-is valid p q in
+        let (e, row) = answered (a .1 .1 .1 .0 .now) (kept .0) (kept .1 .0) is in
+        (e, same-values (row ∙ is))
 
     -- It divides the least gap of the sheet whose bytes are lent by that of the key, both over all trips
     pub by-key-export-divides : (sheet : List ℤ) → All32 sheet → length sheet ≡ length (n .periods) → a .1 .0 .now ≡ bytesOf sheet
         → {least sum best bestSum : ℕ} → IsRating n sheet least sum → IsRating n key best bestSum
         → (r ≡ 0) × Divided least best (getD (s .1 .1 .1 .0 .now) 0 0) (getD (s .1 .1 .1 .0 .now) 1 0)
     by-key-export-divides sheet in32′ fits lent {least} {sum} {best} {bestSum} p q =
-        let is = its-starts sheet lent in32′ in
+        let is = starts-of-lent sheet lent in32′ in
         let p′ : IsRating n (starts (a .1 .0 .now)) least sum = rw is p in
-        let (e, row) = told (bytes-fit n sheet lent fits) (ap length is ∙ fits) p′ q in
+        let (e, row) = told (length-of-lent sheet lent fits) (ap length is ∙ fits) p′ q in
         (e, rw row (divided least best (IsRating-range valid p .0) (IsRating-range valid q .0)))
 
 -- ---- A hall's sheets by one search

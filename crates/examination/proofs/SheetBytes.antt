@@ -62,3 +62,10 @@ pub ends : starts (128 ∷ 0 ∷ 0 ∷ 0 ∷ 127 ∷ 255 ∷ 255 ∷ 255 ∷ 255
     ≡ negsuc 2147483647 ∷ pos 2147483647 ∷ negsuc 0 ∷ pos 0 ∷ []
 unfolding starts signed
 ends = refl
+
+-- Bytes that are lent of a sheet: their starts are the sheet, and they are four for each
+pub starts-of-lent : (sheet : List ℤ) {bytes : List ℕ} → bytes ≡ bytesOf sheet → All32 sheet → starts bytes ≡ sheet
+starts-of-lent sheet lent in32 = ap starts lent ∙ starts-of-bytes sheet in32
+
+pub length-of-lent : (sheet : List ℤ) {bytes : List ℕ} {lines : ℕ} → bytes ≡ bytesOf sheet → length sheet ≡ lines → length bytes ≡ 4 * lines
+length-of-lent sheet lent fit = ap length lent ∙ length-bytesOf sheet ∙ ap (λ (k : ℕ). 4 * k) fit
