@@ -72,7 +72,7 @@ divided least best l b =
       ranges = mark-range least best l b;
     }
 
-pub out-of-hundred : (least best : ℕ) → least ≤ best → best ≤ maxPeriod → MarkOutOfHundred least best (markOf least best) (remainderOf least best)
+out-of-hundred : (least best : ℕ) → least ≤ best → best ≤ maxPeriod → MarkOutOfHundred least best (markOf least best) (remainderOf least best)
 out-of-hundred least best le b =
     record {
       division = divided least best (omega (arith, le, b)) b;

@@ -47,11 +47,11 @@ gives-back least (suc best) h = divides-some least (omega arith)
 
 -- The order of what is divided is the lexicographic order of quotients and remainders
 module _ {best m r m′ r′ : ℕ} (below : r < best) (below′ : r′ < best) where
-  pub smaller-of-pair : (m < m′) ⊎ ((m ≡ m′) × (r < r′)) → m * best + r < m′ * best + r′
+  smaller-of-pair : (m < m′) ⊎ ((m ≡ m′) × (r < r′)) → m * best + r < m′ * best + r′
   smaller-of-pair (inl h) = omega (arith, mul-le-mul-right best h, below)
   smaller-of-pair (inr h) = rw (h .0) (omega (arith, h .1))
 
-  pub pair-of-smaller : m * best + r < m′ * best + r′ → (m < m′) ⊎ ((m ≡ m′) × (r < r′))
+  pair-of-smaller : m * best + r < m′ * best + r′ → (m < m′) ⊎ ((m ≡ m′) × (r < r′))
   pair-of-smaller h = go (ltb m m′) (eqb m m′) refl refl
     where
       go : (x y : Bool) → ltb m m′ ≡ x → eqb m m′ ≡ y → (m < m′) ⊎ ((m ≡ m′) × (r < r′))
