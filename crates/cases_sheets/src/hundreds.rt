@@ -1,11 +1,11 @@
 // Marks out of a hundred, by the call with a search and by a key. On P7 the best least gap is 3; starts 0 1 5, 0 2 6 and 0 0 5 have 1, 2 and 0.
 use crate::marks::case;
+use crate::show::show_hundred;
 use cases_typed::papers::P7;
 use cases_typed::papers::P8;
 use cases_typed::papers::P9;
 use cases_typed::put_hex;
 use cases_typed::show::show_name;
-use cases_typed::show::show_number;
 use cases_typed::show::show_refusal;
 use examination::KeyAnswer;
 use libc::STDOUT_FILENO;
@@ -56,13 +56,6 @@ fn key_case(name: &[u8], text: &[u8], sheet: &[i32], key: &[i32]) {
         KeyAnswer::Refused { number, place } => show_refusal(number, place),
     }
     io::write_all(STDOUT_FILENO, b"\n");
-}
-
-pub fn show_hundred(mark: u32, remainder: u32) {
-    io::write_all(STDOUT_FILENO, b" mark");
-    show_number(mark as u64);
-    io::write_all(STDOUT_FILENO, b" remainder");
-    show_number(remainder as u64);
 }
 
 fn by_key() {

@@ -1,5 +1,4 @@
 // What the calls hand back and answer, in words and numbers.
-use crate::hundreds::show_hundred;
 use cases_typed::show::show_number;
 use cases_typed::show::show_rating;
 use cases_typed::show::show_refusal;
@@ -47,6 +46,14 @@ pub fn show_mark(answer: MarkAnswer) {
             io::write_all(STDOUT_FILENO, b"\n");
         }
     }
+}
+
+// A mark out of a hundred with its remainder.
+pub fn show_hundred(mark: u32, remainder: u32) {
+    io::write_all(STDOUT_FILENO, b" mark");
+    show_number(mark as u64);
+    io::write_all(STDOUT_FILENO, b" remainder");
+    show_number(remainder as u64);
 }
 
 fn show_equal(equal: bool) {

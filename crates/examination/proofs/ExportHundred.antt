@@ -1,6 +1,7 @@
 -- Document 02, A.5, said of what a host sees: the export of a mark out of a hundred returns and answers as that of mark, with mark and remainder in a
--- row of their own, and the export by a key has the same two numbers beside the starts of a finished search. Each theorem holds of every call that
--- has returned, where it keeps the contract in src/exports.rt, which every call does. Assumes nothing.
+-- row of their own, and the export by a key has the same two numbers beside the starts of a finished search. Of the search nothing is cited but its
+-- optimality and, for those starts as bytes, their range. Each theorem holds of every call that has returned, where it keeps the contract in
+-- src/exports.rt, which every call does. Assumes nothing.
 use Prim.Native.Nat.{ℕ, _*_, _<_, _≤_}
 use mathlib.Core.Path.{_≡_, refl, sym, ap, ap₂, _∙_}
 use mathlib.Core.Bool.{Bool, true, false}
@@ -24,17 +25,18 @@ use Rattle.network.proofs.Laws.Gaps.{accepted-valid, IsRating-range}
 use Rattle.search.proofs.Demands.{WalkedStarts}
 use Rattle.examination.specs.Bytes.{starts, bytesFit, byBytes, markBytes, keyBytes, BytesUnfit, EitherBytesUnfit}
 use Rattle.examination.specs.Exports.{TellsRefusal, refusalCode, markStatus, markRow, hundredRow}
-use Rattle.examination.specs.Hundred.{markOf, remainderOf, keyOutcome}
+use Rattle.examination.specs.Hundred.{markOf, remainderOf, PairBelow, keyOutcome}
 use Rattle.examination.specs.Sheets.{MarkOutcome, decided, undecided}
 use Rattle.examination.specs.Sheets as sheets
 use Rattle.examination.proofs.Codes.{export-demand-1, status-tells, status-code, mark-status-tells, mark-status-code}
 use Rattle.examination.proofs.ExportDemands.{own-ground-range, row-as-found, answered}
 use Rattle.examination.proofs.ExportSearch.{HallMark, hall-mark-of, mark-told, mark-row-as-found, fit-answers}
-use Rattle.examination.proofs.ExportSearch.{search-export-demand-1, search-export-demand-3}
-use Rattle.examination.proofs.HundredMark.{Divided, divided, MarkOutOfHundred, marked-out-of-hundred, PairBelow, one-best, ranked, beside-key-is}
+use Rattle.examination.proofs.ExportSearch.{HallSearch, search-export-demand-1, search-export-demand-3}
+use Rattle.examination.proofs.HundredMark.{Divided, divided, MarkOutOfHundred, out-of-hundred, marked-out-of-hundred, one-best, ranked, beside-key-is}
+use Rattle.examination.proofs.Laws.Hundred.{ranks}
 use Rattle.examination.proofs.Laws.Refusals.{mark-bytes-refuse, mark-bytes-refuse-only, mark-refuses-only, refuses-range, key-answers}
 use Rattle.examination.proofs.Laws.Refusals.{key-bytes-refuse, key-bytes-refuse-only, decided-bytes-accepted, decided-on-starts}
-use Rattle.examination.proofs.Mark.{MarkMeans, mark-means, neither-above}
+use Rattle.examination.proofs.Mark.{MarkMeans, mark-means, neither-above, least-not-above}
 use Rattle.examination.proofs.SheetBytes.{In32, All32, all32, bytesOf, starts-of-lent, length-of-lent}
 use Rattle.examination.proofs.exports.examination_search as searching
 use Rattle.examination.proofs.exports.examination_search.Kinds as search-kinds
@@ -104,16 +106,16 @@ module _ (κs : Lfts 4) (a : ArgsD hundred.signature κs) (r : ResD hundred.sign
       })
       (own-ground-range (omega arith) (omega arith)) (mark-status-code (kept .0)) (mark-status-tells _ (kept .0))
 
-  -- It returns what the export of mark does, and leaves the same in the row of six places
+  -- It returns what the export of mark does, and leaves the same in rows of six places that were the same
   pub hundred-export-as-mark : (κs′ : Lfts 3) (a′ : ArgsD mark.signature κs′) (r′ : ResD mark.signature κs′)
       (s′ : AtExit (endedOf 3 mark-kinds.ps mark-kinds.r) κs′) → mark-contract.Post κs′ a′ r′ s′
-      → a .0 .now ≡ a′ .0 .now → a .1 .0 .now ≡ a′ .1 .0 .now → a .1 .1 .0 ≡ a′ .1 .1 .0 → a .1 .1 .1 .0 .now ≡ a′ .1 .1 .1 .0 .now
-      → (r ≡ r′) × (s .1 .1 .1 .0 .now ≡ s′ .1 .1 .1 .0 .now)
-  hundred-export-as-mark κs′ a′ r′ s′ kept′ file sheet budget row =
+      → a .0 .now ≡ a′ .0 .now → a .1 .0 .now ≡ a′ .1 .0 .now → a .1 .1 .0 ≡ a′ .1 .1 .0
+      → (r ≡ r′) × (a .1 .1 .1 .0 .now ≡ a′ .1 .1 .1 .0 .now → s .1 .1 .1 .0 .now ≡ s′ .1 .1 .1 .0 .now)
+  hundred-export-as-mark κs′ a′ r′ s′ kept′ file sheet budget =
       let same : markBytes (a .1 .1 .0) (readFile (a .0 .now)) (a .1 .0 .now) ≡ markBytes (a′ .1 .1 .0) (readFile (a′ .0 .now)) (a′ .1 .0 .now) =
       ap (λ (k : ℕ). markBytes k (readFile (a .0 .now)) (a .1 .0 .now)) budget
       ∙ ap₂ (λ (f b : List ℕ). markBytes (a′ .1 .1 .0) (readFile f) b) file sheet in
-      (kept .0 ∙ ap markStatus same ∙ sym (kept′ .0), kept .1 .0 ∙ ap₂ markRow same row ∙ sym (kept′ .1 .0))
+      (kept .0 ∙ ap markStatus same ∙ sym (kept′ .0), λ row. kept .1 .0 ∙ ap₂ markRow same row ∙ sym (kept′ .1 .0))
 
   -- What it means, of the sheet whose bytes are lent
   pub hundred-export-means : {n : Net} → readFile (a .0 .now) ≡ accepted n → (sheet : List ℤ) → All32 sheet → length sheet ≡ length (n .periods)
@@ -150,8 +152,6 @@ record DecidedSeen (n : Net) (file sheet : List ℕ) (budget : ℕ) (answer hund
   has-least : getD answer 0 0 ≡ least
   has-best : getD answer 2 0 ≡ bestLeast
   has-pair : hundred ≡ its-mark ∷ its-remainder ∷ []
-  has-mark : getD hundred 0 0 ≡ its-mark
-  has-remainder : getD hundred 1 0 ≡ its-remainder
 
 decided-of-zero : (o : MarkOutcome) → ((number place : ℕ) → o ≡ sheets.refusal number place → 1 ≤ number) → markStatus o ≡ 0
     → (least : ℕ) × (sum : ℕ) × (bestLeast : ℕ) × (bestSum : ℕ) × (equal : Bool) × (mark : ℕ) × (remainder : ℕ) × (tries : ℕ)
@@ -160,6 +160,9 @@ unfolding markStatus refusalCode
 decided-of-zero (decided l u m v b q r t) some e = (l, u, m, v, b, q, r, t, refl)
 decided-of-zero (undecided l u t) some e = absurd (omega (arith, e))
 decided-of-zero (sheets.refusal number place) some e = absurd (omega (arith, e, some number place refl))
+
+place : (i : ℕ) {row row′ : List ℕ} → row ≡ row′ → getD row i 0 ≡ getD row′ i 0
+place i e = ap (λ (row : List ℕ). getD row i 0) e
 
 decided-rows : {o : MarkOutcome} {l u m v : ℕ} {b : Bool} {q r t : ℕ} (before before′ : List ℕ) → o ≡ decided l u m v b q r t
     → (getD (markRow o before) 0 0 ≡ l) × (getD (markRow o before) 2 0 ≡ m) × (hundredRow o before′ ≡ q ∷ r ∷ [])
@@ -199,27 +202,23 @@ module _ (κs : Lfts 4) (a : ArgsD hundred.signature κs) (r : ResD hundred.sign
         has-least = ap (λ (row : List ℕ). getD row 0 0) (kept .1 .0) ∙ rows .0;
         has-best = ap (λ (row : List ℕ). getD row 2 0) (kept .1 .0) ∙ rows .1;
         has-pair = kept .1 .1 .0 ∙ rows .2;
-        has-mark = ap (λ (row : List ℕ). getD row 0 0) (kept .1 .1 .0 ∙ rows .2);
-        has-remainder = ap (λ (row : List ℕ). getD row 1 0) (kept .1 .1 .0 ∙ rows .2);
       }
 
 module _ (κs : Lfts 4) (a : ArgsD hundred.signature κs) (r : ResD hundred.signature κs) (s : AtExit (endedOf 4 hundred-kinds.ps hundred-kinds.r) κs)
     (kept : hundred-contract.Post κs a r s) (ends : r ≡ 0) where
-  -- On one file, whatever the sheets and budgets: the best is one, and if it is above 0, the smaller least gap has the smaller pair
+  -- On one file, whatever the sheets and budgets: the best is one, and the smaller least gap has the smaller pair
   pub hundred-export-ranks : (κs′ : Lfts 4) (a′ : ArgsD hundred.signature κs′) (r′ : ResD hundred.signature κs′)
       (s′ : AtExit (endedOf 4 hundred-kinds.ps hundred-kinds.r) κs′) → hundred-contract.Post κs′ a′ r′ s′ → r′ ≡ 0 → a .0 .now ≡ a′ .0 .now
       → (getD (s .1 .1 .1 .0 .now) 2 0 ≡ getD (s′ .1 .1 .1 .0 .now) 2 0)
-      × (0 < getD (s .1 .1 .1 .0 .now) 2 0
-      → (getD (s .1 .1 .1 .0 .now) 0 0 < getD (s′ .1 .1 .1 .0 .now) 0 0)
+      × ((getD (s .1 .1 .1 .0 .now) 0 0 < getD (s′ .1 .1 .1 .0 .now) 0 0)
       ↔ PairBelow (getD (s .1 .1 .1 .1 .0 .now) 0 0) (getD (s .1 .1 .1 .1 .0 .now) 1 0) (getD (s′ .1 .1 .1 .1 .0 .now) 0 0) (getD (s′ .1 .1 .1 .1 .0 .now) 1 0))
   hundred-export-ranks κs′ a′ r′ s′ kept′ ends′ file =
       let (n, reads) = decided-reads κs a r s kept ends in
       let one = seen κs a r s kept ends reads in
       let other = seen κs′ a′ r′ s′ kept′ ends′ (sym (ap readFile file) ∙ reads) in (
         one .has-best ∙ one-best (one .means) (one .is) (other .means) (other .is) .0 ∙ sym (other .has-best),
-        λ h.
-            rw (one .has-least, other .has-least, one .has-mark, other .has-mark, one .has-remainder, other .has-remainder)
-            (ranked (one .means) (one .is) (other .means) (other .is) (rw (one .has-best) at h)),
+        rw (one .has-least, other .has-least, place 0 (one .has-pair), place 1 (one .has-pair), place 0 (other .has-pair), place 1 (other .has-pair))
+            (ranked (one .means) (one .is) (other .means) (other .is)),
       )
 
 -- ---- By a key
@@ -295,6 +294,63 @@ finished-fits κs a r s kept ends {n} reads = go (eqb (length (a .1 .0 .now)) (l
         let tells = search-export-demand-1 κs a r s kept .faulty-is-refused 16 0 (after-file reads (eqb-false _ _ e)) in
         absurd (omega (arith, tells .0, ends))
 
+module _ (κs : Lfts 3) (a : ArgsD searching.signature κs) (r : ResD searching.signature κs)
+    (s : AtExit (endedOf 3 search-kinds.ps search-kinds.r) κs) (kept : search-contract.Post κs a r s) (finished : r ≡ 0) {n : Net}
+    (reads : readFile (a .0 .now) ≡ accepted n) where
+  hall : HallSearch n (a .1 .0 .now) (a .1 .1 .0) r (s .1 .1 .1 .0 .now) (s .1 .0 .now)
+  hall = search-export-demand-3 κs a r s kept reads (finished-fits κs a r s kept finished reads)
+
+  -- What the export by a key leaves beside the starts of that search, of whatever bytes of a sheet that fit
+  beside-search : (κs′ : Lfts 4) (a′ : ArgsD by-key.signature κs′) (r′ : ResD by-key.signature κs′)
+      (s′ : AtExit (endedOf 4 by-key-kinds.ps by-key-kinds.r) κs′) → by-key-contract.Post κs′ a′ r′ s′ → a .0 .now ≡ a′ .0 .now
+      → a′ .1 .1 .0 .now ≡ bytesOf (s .1 .0 .now) → length (a′ .1 .0 .now) ≡ 4 * length (n .periods) → length (starts (a′ .1 .0 .now)) ≡ length (n .periods)
+      → {least sum : ℕ} → IsRating n (starts (a′ .1 .0 .now)) least sum
+      → (r′ ≡ 0)
+      × (s′ .1 .1 .1 .0 .now ≡ markOf least (getD (s .1 .1 .1 .0 .now) 0 0) ∷ remainderOf least (getD (s .1 .1 .1 .0 .now) 0 0) ∷ [])
+  beside-search κs′ a′ r′ s′ kept′ file lent bytes-are fits {least} {sum} p =
+      let (key-fits, key-rated) = hall .finished-has-its-rating finished in
+      told κs′ a′ r′ s′ kept′ (sym (ap readFile file) ∙ reads) (s .1 .0 .now) (walked-in32 (hall .starts-in-range (inl finished))) key-fits lent
+      bytes-are fits p key-rated
+
+  module _ (κs′ : Lfts 4) (a′ : ArgsD by-key.signature κs′) (r′ : ResD by-key.signature κs′)
+      (s′ : AtExit (endedOf 4 by-key-kinds.ps by-key-kinds.r) κs′) (kept′ : by-key-contract.Post κs′ a′ r′ s′) (file : a .0 .now ≡ a′ .0 .now)
+      (key : a′ .1 .1 .0 .now ≡ bytesOf (s .1 .0 .now)) (sheet : List ℤ) (in32 : All32 sheet) (fit : length sheet ≡ length (n .periods))
+      (lent : a′ .1 .0 .now ≡ bytesOf sheet) {least sum : ℕ} (rated : IsRating n sheet least sum) where
+    not-above : least ≤ getD (s .1 .1 .1 .0 .now) 0 0
+    not-above = least-not-above (hall .finished-is-best finished sheet fit rated)
+
+    row-is : (r′ ≡ 0) × (s′ .1 .1 .1 .0 .now ≡ markOf least (getD (s .1 .1 .1 .0 .now) 0 0) ∷ remainderOf least (getD (s .1 .1 .1 .0 .now) 0 0) ∷ [])
+    row-is =
+        let is = starts-of-lent sheet lent in32 in
+        let p : IsRating n (starts (a′ .1 .0 .now)) least sum = rw is rated in
+        beside-search κs′ a′ r′ s′ kept′ file key (length-of-lent sheet lent fit) (ap length is ∙ fit) p
+
+    -- Beside the starts of a finished search a sheet has its mark out of a hundred, by the best least gap that the search reports
+    pub by-key-export-of-search : (r′ ≡ 0)
+        × MarkOutOfHundred least (getD (s .1 .1 .1 .0 .now) 0 0) (getD (s′ .1 .1 .1 .0 .now) 0 0) (getD (s′ .1 .1 .1 .0 .now) 1 0)
+    by-key-export-of-search = (
+      row-is .0,
+      rw (place 0 (row-is .1), place 1 (row-is .1)) (out-of-hundred least (getD (s .1 .1 .1 .0 .now) 0 0) not-above (hall .ranges .0)),
+    )
+
+  -- .. and of two sheets the smaller least gap has the smaller pair
+  pub by-key-export-ranks : (κs′ : Lfts 4) (a′ : ArgsD by-key.signature κs′) (r′ : ResD by-key.signature κs′)
+      (s′ : AtExit (endedOf 4 by-key-kinds.ps by-key-kinds.r) κs′) → by-key-contract.Post κs′ a′ r′ s′ → a .0 .now ≡ a′ .0 .now
+      → a′ .1 .1 .0 .now ≡ bytesOf (s .1 .0 .now) → (sheet : List ℤ) → All32 sheet → length sheet ≡ length (n .periods) → a′ .1 .0 .now ≡ bytesOf sheet
+      → {least sum : ℕ} → IsRating n sheet least sum
+      → (κs″ : Lfts 4) (a″ : ArgsD by-key.signature κs″) (r″ : ResD by-key.signature κs″)
+      (s″ : AtExit (endedOf 4 by-key-kinds.ps by-key-kinds.r) κs″) → by-key-contract.Post κs″ a″ r″ s″ → a .0 .now ≡ a″ .0 .now
+      → a″ .1 .1 .0 .now ≡ bytesOf (s .1 .0 .now) → (sheet′ : List ℤ) → All32 sheet′ → length sheet′ ≡ length (n .periods) → a″ .1 .0 .now ≡ bytesOf sheet′
+      → {least′ sum′ : ℕ} → IsRating n sheet′ least′ sum′
+      → (least < least′)
+      ↔ PairBelow (getD (s′ .1 .1 .1 .0 .now) 0 0) (getD (s′ .1 .1 .1 .0 .now) 1 0) (getD (s″ .1 .1 .1 .0 .now) 0 0) (getD (s″ .1 .1 .1 .0 .now) 1 0)
+  by-key-export-ranks κs′ a′ r′ s′ kept′ file key sheet in32 fit lent {least} {sum} rated κs″ a″ r″ s″ kept″ file′ key′ sheet′ in32′ fit′ lent′ {least′} {sum′} rated′ =
+      let one = row-is κs′ a′ r′ s′ kept′ file key sheet in32 fit lent rated .1 in
+      let other = row-is κs″ a″ r″ s″ kept″ file′ key′ sheet′ in32′ fit′ lent′ rated′ .1 in
+      rw (place 0 one, place 1 one, place 0 other, place 1 other)
+      (ranks least least′ (getD (s .1 .1 .1 .0 .now) 0 0) (not-above κs′ a′ r′ s′ kept′ file key sheet in32 fit lent rated)
+      (not-above κs″ a″ r″ s″ kept″ file′ key′ sheet′ in32′ fit′ lent′ rated′))
+
 -- Beside the starts of a finished search, whatever its budget, the export by a key leaves in its row what the export of a mark out of a hundred
 -- leaves there for a decided marking of the sheet, whatever the budget of that
 module _ (κs : Lfts 3) (a : ArgsD searching.signature κs) (r : ResD searching.signature κs)
@@ -308,15 +364,17 @@ module _ (κs : Lfts 3) (a : ArgsD searching.signature κs) (r : ResD searching.
       let (n, reads′) = decided-reads κs′ a′ r′ s′ kept′ is-decided in
       let one = seen κs′ a′ r′ s′ kept′ is-decided reads′ in
       let reads : readFile (a .0 .now) ≡ accepted n = ap readFile (file ∙ sym file′) ∙ reads′ in
-      let hall = search-export-demand-3 κs a r s kept reads (finished-fits κs a r s kept finished reads) in
-      let (key-fits, key-rated) = hall .finished-has-its-rating finished in
+      let found = hall κs a r s kept finished reads in
+      let (key-fits, key-rated) = found .finished-has-its-rating finished in
       let (best, best-fits, best-rated) = one .means .best-is-attained (one .is) in
       let same : getD (s .1 .1 .1 .0 .now) 0 0 ≡ one .bestLeast =
-      neither-above (one .means .best-is-unbeaten (one .is) (s .1 .0 .now) key-fits key-rated) (hall .finished-is-best finished best best-fits best-rated) .0 in
-      let rated : IsRating n (s .1 .0 .now) (one .bestLeast) (getD (s .1 .1 .1 .0 .now) 1 0) = rw (← same) key-rated in
-      let sheet-rated : IsRating n (starts (a″ .1 .0 .now)) (one .least) (one .sum) = rw (← sheet) (one .means .decided-rating (one .is)) in
-      let (e, row) = told κs″ a″ r″ s″ kept″ (sym (ap readFile file′) ∙ reads′) (s .1 .0 .now) (walked-in32 (hall .starts-in-range (inl finished))) key-fits
-      lent (ap length (sym sheet) ∙ one .fits) (ap (λ (bytes : List ℕ). length (starts bytes)) (sym sheet) ∙ one .means .decided-fits (one .is)) sheet-rated
-      rated in
-      let m = one .means .mark-is (one .is) in
-      (e, row ∙ sym (one .has-pair ∙ ap₂ (λ (x y : ℕ). x ∷ y ∷ []) (m .0) (m .1)))
+      neither-above (one .means .best-is-unbeaten (one .is) (s .1 .0 .now) key-fits key-rated) (found .finished-is-best finished best best-fits best-rated) .0 in
+      let p : IsRating n (starts (a″ .1 .0 .now)) (one .least) (one .sum) = rw (← sheet) (one .means .decided-rating (one .is)) in
+      let (e, row) = beside-search κs a r s kept finished reads κs″ a″ r″ s″ kept″ file lent (ap length (sym sheet) ∙ one .fits)
+      (ap (λ (bytes : List ℕ). length (starts bytes)) (sym sheet) ∙ one .means .decided-fits (one .is)) p in
+      let m = one .means .mark-is (one .is) in (
+        e,
+        row
+            ∙ ap (λ (k : ℕ). markOf (one .least) k ∷ remainderOf (one .least) k ∷ []) same
+            ∙ sym (one .has-pair ∙ ap₂ (λ (x y : ℕ). x ∷ y ∷ []) (m .0) (m .1)),
+      )

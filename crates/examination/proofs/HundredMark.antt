@@ -1,12 +1,12 @@
 -- Document 02, A.5: what a mark out of a hundred means. It is the quotient of a division with remainder, at most 100 since no sheet is above the
--- best, and pairs of mark and remainder are in the order of the least gaps; by a key it is the same. Of the search nothing is cited but its
--- optimality, and that through what a mark means. Each theorem on a call holds of every call that has returned, where it keeps the contract in
+-- best, and pairs of mark and remainder are in the order of the least gaps; by a key that is the best it is the same. Of the search nothing is
+-- cited but its optimality, and that through what a mark means. Each theorem on a call holds of every call that has returned, where it keeps the contract in
 -- src/, which every call does. Assumes nothing.
 use Prim.Native.Nat.{ℕ, _+_, _*_, _<_, _≤_}
 use mathlib.Core.Path.{_≡_, refl, sym, ap, ap₂, _∙_}
 use mathlib.Core.Bool.{Bool}
 use mathlib.Core.List.{List, [], _∷_}
-use mathlib.Core.Logic.{_⊎_, _↔_}
+use mathlib.Core.Logic.{_↔_}
 use native.Mathlib.Omega.{arith}
 use borrow.Fn.World.{ArgsD, ResD}
 use borrow.Fn.Kinds.{endedOf}
@@ -20,10 +20,10 @@ use Rattle.network.specs.Reading.{values, refusal, accepted, readFile}
 use Rattle.network.specs.Refusals.{Refuses, Demand1}
 use Rattle.network.specs.Valid.{Valid}
 use Rattle.network.proofs.Laws.Gaps.{accepted-valid, IsRating-unique, IsRating-range}
-use Rattle.examination.specs.Hundred.{markOf, remainderOf, besideKey, keyAnswer, EitherUnfit}
+use Rattle.examination.specs.Hundred.{markOf, remainderOf, PairBelow, besideKey, keyAnswer, EitherUnfit}
 use Rattle.examination.specs.Sheets.{MarkOutcome, decided, markAnswer}
 use Rattle.examination.proofs.Demands.{mark-means-what-it-says}
-use Rattle.examination.proofs.Laws.Hundred.{markOf-of-none, remainderOf-of-none, divides-some, remainder-below, one-pair, gives-back}
+use Rattle.examination.proofs.Laws.Hundred.{markOf-beside-zero, remainderOf-beside-zero, gives-back-above-zero, remainder-below, one-pair, gives-back}
 use Rattle.examination.proofs.Laws.Hundred.{mark-at-most-100, mark-100-is-best, best-has-100, ranks, mark-range}
 use Rattle.examination.proofs.Laws.Refusals.{decided-is-accepted, key-refuses, key-refuses-only, key-answers}
 use Rattle.examination.proofs.Mark.{MarkMeans, neither-above}
@@ -41,8 +41,8 @@ pub record Divided (least best mark remainder : ℕ) : Type 0 where
   pub gives-back-above-0 : 0 < best → mark * best + remainder ≡ 100 * least
   -- "the remainder being smaller than a best above 0"
   pub remainder-is-below : 0 < best → remainder < best
-  -- no other pair is so
-  pub no-other-pair : 0 < best → (m r : ℕ) → r < best → m * best + r ≡ 100 * least → (m ≡ mark) × (r ≡ remainder)
+  -- no other pair with such a remainder fits the equation
+  pub no-other-pair : (m r : ℕ) → r < best → m * best + r ≡ 100 * least → (m ≡ mark) × (r ≡ remainder)
   -- "Where the best least gap is 0, the mark is 100, remainder 0"
   pub beside-zero : best ≡ 0 → (mark ≡ 100) × (remainder ≡ 0)
   pub ranges : (mark ≤ 144000) × (remainder < maxPeriod)
@@ -53,35 +53,32 @@ pub record MarkOutOfHundred (least best mark remainder : ℕ) : Type 0 where
   -- "Mark times best plus remainder gives back 100 times the sheet's gap", also where the best is 0
   pub gives-all-back : mark * best + remainder ≡ 100 * least
   pub at-most-100 : mark ≤ 100
-  -- with a best above 0, 100 is exactly where the least gaps are equal
-  pub hundred-where-equal : 0 < best → (mark ≡ 100) ↔ (least ≡ best)
-
--- A pair of mark and remainder below another, lexicographically
-abbrev pub PairBelow : (mark remainder mark′ remainder′ : ℕ) → Type 0
-PairBelow mark remainder mark′ remainder′ = (mark < mark′) ⊎ ((mark ≡ mark′) × (remainder < remainder′))
+  -- and 100 exactly where the least gaps are equal
+  pub hundred-where-equal : (mark ≡ 100) ↔ (least ≡ best)
 
 -- ---- The definition is such
 
 pub divided : (least best : ℕ) → least ≤ maxPeriod → best ≤ maxPeriod → Divided least best (markOf least best) (remainderOf least best)
 divided least best l b =
     record {
-      gives-back-above-0 = λ h. divides-some least h;
+      gives-back-above-0 = λ h. gives-back-above-zero least h;
       remainder-is-below = λ h. remainder-below least h;
-      no-other-pair = λ h m r below e. one-pair below (remainder-below least h) (e ∙ sym (divides-some least h));
-      beside-zero = λ e. (markOf-of-none least e, remainderOf-of-none least e);
+      no-other-pair = λ m r below e.
+          let h : 0 < best = omega (arith, below) in one-pair below (remainder-below least h) (e ∙ sym (gives-back-above-zero least h));
+      beside-zero = λ e. (markOf-beside-zero least e, remainderOf-beside-zero least e);
       ranges = mark-range least best l b;
     }
 
-out-of-hundred : (least best : ℕ) → least ≤ best → best ≤ maxPeriod → MarkOutOfHundred least best (markOf least best) (remainderOf least best)
+pub out-of-hundred : (least best : ℕ) → least ≤ best → best ≤ maxPeriod → MarkOutOfHundred least best (markOf least best) (remainderOf least best)
 out-of-hundred least best le b =
     record {
       division = divided least best (omega (arith, le, b)) b;
       gives-all-back = gives-back least best le;
       at-most-100 = mark-at-most-100 least best le;
-      hundred-where-equal = λ h. (mark-100-is-best least h le, λ e. rw e (best-has-100 h .0));
+      hundred-where-equal = (mark-100-is-best least best le, λ e. rw e (best-has-100 best .0));
     }
 
--- The request's cases: P7, whose best is 3, with least gaps 1, 2 and 0; P8; two lines of a day; a best of 0
+-- Cases: P7, whose best is 3, with least gaps 1, 2 and 0; P8; two lines of a day; a best of 0
 pub cases-out-of-hundred : ((markOf 1 3 ≡ 33) × (remainderOf 1 3 ≡ 1))
     × ((markOf 2 3 ≡ 66) × (remainderOf 2 3 ≡ 2))
     × ((markOf 0 3 ≡ 0) × (remainderOf 0 3 ≡ 0))
@@ -111,11 +108,12 @@ module _ {n : Net} {sheet : List ℤ} {budget : ℕ} {answer : MarkOutcome} (mea
         let (starts′, fit′, rated′) = means′ .best-is-attained is′ in
         neither-above (means′ .best-is-unbeaten is′ starts fit rated) (means .best-is-unbeaten is starts′ fit′ rated′)
 
-    pub ranked : 0 < bestLeast → (least < least′) ↔ PairBelow mark remainder mark′ remainder′
-    ranked h =
+    pub ranked : (least < least′) ↔ PairBelow mark remainder mark′ remainder′
+    ranked =
         let m = means .mark-is is in
         let m′ = means′ .mark-is is′ in
-        rw (m .0, m .1, m′ .0, m′ .1, sym (one-best .0)) (ranks least least′ h)
+        rw (m .0, m .1, m′ .0, m′ .1, sym (one-best .0))
+        (ranks least least′ bestLeast (means .not-above-best is) (omega (arith, means′ .not-above-best is′, one-best .0)))
 
 -- ---- The mark call
 
@@ -142,7 +140,7 @@ module _ (κs : Lfts 2) (a : ArgsD mark.signature κs) (r : ResD mark.signature 
     pub marks-have-one-best : (bestLeast ≡ bestLeast′) × (bestSum ≡ bestSum′)
     marks-have-one-best = one-best means is means′ is′
 
-    pub marks-rank : 0 < bestLeast → (least < least′) ↔ PairBelow mark′ remainder mark″ remainder′
+    pub marks-rank : (least < least′) ↔ PairBelow mark′ remainder mark″ remainder′
     marks-rank = ranked means is means′ is′
 
 -- ---- The call by a key

@@ -152,7 +152,7 @@ neither-above (inl p) (inr q) = absurd (omega (arith, p, q .0))
 neither-above (inr p) (inl q) = absurd (omega (arith, p .0, q))
 neither-above (inr p) (inr q) = (p .0, omega (arith, p .1, q .1))
 
-least-not-above : {least sum bestLeast bestSum : ℕ} → (least < bestLeast) ⊎ ((least ≡ bestLeast) × (sum ≤ bestSum)) → least ≤ bestLeast
+pub least-not-above : {least sum bestLeast bestSum : ℕ} → (least < bestLeast) ⊎ ((least ≡ bestLeast) × (sum ≤ bestSum)) → least ≤ bestLeast
 least-not-above (inl h) = omega (arith, h)
 least-not-above (inr h) = omega (arith, h .0)
 
@@ -255,7 +255,7 @@ module _ {file : List ℕ} {sheet : List ℤ} {budget : ℕ} {answer : MarkOutco
         undecided-tries = undecided-at-budget;
         decided-range = λ e.
             let t = told-of-decided n sheet budget (answer-is e) .0 in
-            (IsRating-range valid (rated t), its-answers .finished-range (found-is (t .found)));
+            (IsRating-range valid (rated t), IsRating-range valid (of-search .finished-has-its-rating (found-is (t .found)) .1));
         undecided-range = λ e. IsRating-range valid (undecided-is-rated e);
         decides = λ fit enough. decided-of-finished fit (of-search .finishes fit enough);
       }

@@ -122,12 +122,14 @@ pub use Rattle.network.proofs.RunningCycle.{cycles-on-the-way, eleven-is-refuse
 -- "The mark is the whole part of 100×(sheet's least gap) / (best least gap), with the remainder. Where the best least gap is 0, the mark is 100,
 -- remainder 0. .. Mark times best plus remainder gives back 100 times the sheet's gap, the remainder being smaller than a best above 0"; and the mark
 -- is at most 100, exactly 100 where the least gaps are equal, and no other pair is so
-pub use Rattle.examination.proofs.HundredMark.{mark-out-of-hundred, cases-out-of-hundred}
+pub use Rattle.examination.proofs.HundredMark.{mark-out-of-hundred}
+-- .. so that a least gap of 1 beside a best of 3 has 33 remainder 1, and other cases by evaluation
+pub use Rattle.examination.proofs.HundredMark.{cases-out-of-hundred}
 -- "An undecided marking has no mark": the answer has no place for one, and the export 0 in both; six places are as before
 pub use Rattle.examination.proofs.ExportHundred.{hundred-export-means, hundred-export-as-mark}
 -- "borderline sheets are ranked by it": of two on one file the smaller least gap has the smaller mark, or the same and the smaller remainder
 pub use Rattle.examination.proofs.HundredMark.{marks-have-one-best, marks-rank}
 pub use Rattle.examination.proofs.ExportHundred.{hundred-export-ranks}
--- Many sheets by one search: beside its starts the call by a key has the same two numbers
+-- Many sheets by one search: beside its starts the call by a key has the same two numbers, by which sheets are ranked alike
 pub use Rattle.examination.proofs.HundredMark.{by-key-divides, by-key-as-mark}
-pub use Rattle.examination.proofs.ExportHundred.{by-key-export-divides, by-key-export-as-mark}
+pub use Rattle.examination.proofs.ExportHundred.{by-key-export-divides, by-key-export-of-search, by-key-export-ranks, by-key-export-as-mark}

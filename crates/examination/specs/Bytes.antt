@@ -51,7 +51,7 @@ betterBytes (refused number place) one other = neither
 betterBytes (accepted n) one other =
     betterBy (bytesFit n one) (bytesFit n other) (rating n (starts one)) (rating n (starts other))
 
--- Document 02, A.5, by a key: sheet and key being handed over as bytes
+-- By a key, sheet and key being handed over as bytes
 unfoldable pub keyBytes : Reading → List ℕ → List ℕ → Outcome
 keyBytes read sheet key =
     byBytes

@@ -1,6 +1,7 @@
 -- Document 02, A.5: marks out of a hundred. (Mark and remainder are the quotient and the remainder of a division with remainder, of a hundred
 -- times a timetable's least gap by that of the optimum. Sums don't enter.)
-use Prim.Native.Nat.{ℕ, _*_, _/_, _%_}
+use Prim.Native.Nat.{ℕ, _*_, _/_, _%_, _<_}
+use mathlib.Core.Path.{_≡_}
 use mathlib.Core.List.{List, [], _∷_}
 use mathlib.Core.Logic.{_⊎_}
 use lib.Dec.{eqb}
@@ -22,7 +23,12 @@ markOf least best = pick (eqb best 0) 100 ((100 * least) / best)
 unfoldable pub remainderOf : (least best : ℕ) → ℕ
 remainderOf least best = pick (eqb best 0) 0 ((100 * least) % best)
 
--- ---- By a key: the same beside a sheet that stands for the best, such as the starts of a finished search
+-- "borderline sheets are ranked by it": a mark with its remainder below another, lexicographically
+abbrev pub PairBelow : (mark remainder mark′ remainder′ : ℕ) → Type 0
+PairBelow mark remainder mark′ remainder′ = (mark < mark′) ⊎ ((mark ≡ mark′) × (remainder < remainder′))
+
+-- ---- By a key, a call beside document 02's for many sheets after one search (docs/DECISIONS.md): the same beside the least gap of a sheet that is
+-- handed over with it. (A key is a reference solution, such as the starts of a finished search.)
 
 -- The call's enum: the mark and its remainder; or the refusal
 unfoldable pub keyAnswer : KeyAnswer → Outcome

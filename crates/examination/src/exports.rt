@@ -327,7 +327,7 @@ pub extern "C" fn examination_hundred(
     answer: &mut [u32; 6],
     hundred: &mut [u32; 2],
 ) -> u32
-    ensures as_mark { λ r. ⌜ r ≡ export.markStatus (bytes.markBytes budget (readFile (now (file .entry))) (now (sheet .entry))) ⌝ }
+    ensures returned { λ r. ⌜ r ≡ export.markStatus (bytes.markBytes budget (readFile (now (file .entry))) (now (sheet .entry))) ⌝ }
     ensures row { λ _. ⌜ now (answer .exit) ≡ export.markRow (bytes.markBytes budget (readFile (now (file .entry))) (now (sheet .entry))) (now (answer .entry)) ⌝ }
     ensures hundred { λ _. ⌜ now (hundred .exit) ≡ export.hundredRow (bytes.markBytes budget (readFile (now (file .entry))) (now (sheet .entry))) (now (hundred .entry)) ⌝ }
     ensures bytes { λ _. ⌜ IsBytes (now (file .entry)) ⌝ }

@@ -10,7 +10,8 @@ ghost use Rattle.network.specs.Reading.{readFile};
 ghost use Rattle.network.specs.Valid.{IsBytes};
 ghost use Rattle.examination.specs.Hundred as hundred;
 
-// The mark of a least gap beside the best one, and what is left. Beside a best of 0 nothing can be divided, and every sheet is as good: 100.
+// The mark of a least gap beside the best one, or a key's, and what is left. By 0 nothing can be divided: there it is 100 and 0, as the request
+// says, whatever the least gap.
 pub fn out_of_hundred(least: u32, best: u32) -> OutOfHundred
     requires { ⌜ least ≤ maxPeriod ⌝ }
     ensures mark { λ r. ⌜ r .mark ≡ hundred.markOf least best ⌝ }

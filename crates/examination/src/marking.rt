@@ -10,8 +10,37 @@ ghost use Prim.Native.Nat.{_≤_};
 ghost use Rattle.network.specs.Network.{maxPeriod};
 ghost use Rattle.network.specs.Reading.{readFile};
 ghost use Rattle.network.specs.Valid.{IsBytes};
-ghost use Rattle.search.specs.Search.{searchAnswer};
+ghost use Rattle.search.specs.Search.{finished, searchAnswer};
 ghost use Rattle.examination.specs.Sheets as sheets;
+
+// A sheet of this rating beside the best one.
+fn beside_best(least: u32, sum: u32, best_least: u32, best_sum: u32, tries: u32) -> MarkAnswer
+    requires { ⌜ least ≤ maxPeriod ⌝ }
+    ensures { λ r. ⌜ sheets.markAnswer r ≡ sheets.marked least sum (finished «best_least» «best_sum» tries) ⌝ }
+{
+    let rating = Rating {
+        some: true,
+        least,
+        sum,
+    };
+    let best = Rating {
+        some: true,
+        least: best_least,
+        sum: best_sum,
+    };
+    let equal = rating.is_equal(best);
+    let hundred = out_of_hundred(least, best_least);
+    MarkAnswer::Decided {
+        least,
+        sum,
+        best_least,
+        best_sum,
+        equal,
+        mark: hundred.mark,
+        remainder: hundred.remainder,
+        tries,
+    }
+}
 
 // A sheet of this rating beside what the search answers.
 fn marked(least: u32, sum: u32, answer: SearchAnswer) -> MarkAnswer
@@ -23,30 +52,7 @@ fn marked(least: u32, sum: u32, answer: SearchAnswer) -> MarkAnswer
             least: best_least,
             sum: best_sum,
             tries,
-        } => {
-            let rating = Rating {
-                some: true,
-                least,
-                sum,
-            };
-            let best = Rating {
-                some: true,
-                least: best_least,
-                sum: best_sum,
-            };
-            let equal = rating.is_equal(best);
-            let hundred = out_of_hundred(least, best_least);
-            MarkAnswer::Decided {
-                least,
-                sum,
-                best_least,
-                best_sum,
-                equal,
-                mark: hundred.mark,
-                remainder: hundred.remainder,
-                tries,
-            }
-        }
+        } => beside_best(least, sum, best_least, best_sum, tries),
         SearchAnswer::Stopped {
             least: best_least,
             sum: best_sum,

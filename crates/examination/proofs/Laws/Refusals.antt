@@ -49,10 +49,6 @@ refuses-range (after-file e unfit) l h = omega arith
 
 -- ---- mark
 
-unfit-is : (n : Net) (sheet : List ℤ) → Unfit sheet n → fits n sheet ≡ false
-unfolding fits
-unfit-is n sheet differ = ne-eqb _ _ differ
-
 marked-refuses : (least sum : ℕ) (o : SearchOutcome) {number place : ℕ} → marked least sum o ≡ sheets.refusal number place → o ≡ search.refusal number place
 unfolding marked
 marked-refuses least sum (finished l s t) e = absurd (zero-ne-one (cc))
@@ -97,6 +93,10 @@ decided-is-accepted (refused number place) sheet budget e = absurd (zero-ne-one 
 decided-is-accepted (accepted n) sheet budget e = (n, refl)
 
 -- ---- by a key: sheet or key
+
+unfit-is : (n : Net) (sheet : List ℤ) → Unfit sheet n → fits n sheet ≡ false
+unfolding fits
+unfit-is n sheet differ = ne-eqb _ _ differ
 
 module _ (file : List ℕ) (sheet key : List ℤ) where
   pub key-refuses : {number place : ℕ} → Refuses file 15 (EitherUnfit sheet key) number place → keyOutcome (readFile file) sheet key ≡ refusal number place

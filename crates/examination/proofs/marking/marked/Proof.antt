@@ -1,10 +1,6 @@
--- `examination::marking::marked` meets its contract, case by case: both ratings are equal where both numbers are, and the mark
--- out of a hundred is that of the two least gaps. Assumes nothing.
-use Prim.Native.Nat.{ℕ}
-use mathlib.Core.Path.{sym, ap, ap₂, _∙_}
-use mathlib.Core.Bool.{Bool}
+-- `examination::marking::marked` meets its contract, case by case. Assumes nothing.
+use mathlib.Core.Path.{sym, ap, _∙_}
 use borrow.Author.Needs.{needs}
-use Rattle.network.proofs.Laws.Gaps.{isEqual-numbers}
 use Rattle.search.specs.Search.{SearchOutcome, searchAnswer}
 use Rattle.search.proofs.Demands.{searchAnswer-finished, searchAnswer-stopped, searchAnswer-none, searchAnswer-refused}
 use Rattle.examination.specs.Sheets as sheets
@@ -14,11 +10,8 @@ use Rattle.examination.proofs.marking.marked.Tie as tie
 enum-known-answer : tie.Need-enum-known-answer
 enum-known-answer c = search needs
 
-is-equal-requires : tie.Need-is-equal-requires
-is-equal-requires c κs = search needs
-
-out-of-hundred-requires : tie.Need-out-of-hundred-requires
-out-of-hundred-requires c κs = c .before .before .before .before .pre
+beside-best-requires : tie.Need-beside-best-requires
+beside-best-requires c κs = c .before .before .before .pre
 
 enum-known-answer-2 : tie.Need-enum-known-answer-2
 enum-known-answer-2 c = search needs
@@ -34,15 +27,9 @@ abbrev wanted : (s : tie.Start) → SearchOutcome → sheets.MarkOutcome
 wanted s outcome = sheets.marked (s .args .least) (s .args .sum) outcome
 
 returns : tie.Need-returns
-unfolding sheets.markAnswer sheets.marked
 returns c =
-    let s = c .before .before .before .before .before in
-    let g = c .before .before .before .answer .given in
-    let answers : Bool → ℕ → ℕ → sheets.MarkOutcome =
-    λ equal mark remainder. sheets.decided (s .args .least) (s .args .sum) (g .0 .0) (g .0 .1 .0) equal mark remainder (g .0 .1 .1 .0) in
-    ap (λ (b : Bool). answers b (c .out-of-hundred .result .mark) (c .out-of-hundred .result .remainder)) (c .before .is-equal .ensures ∙ isEqual-numbers _ _ _ _)
-    ∙ ap₂ (answers _) (c .out-of-hundred .ensures .0) (c .out-of-hundred .ensures .1)
-    ∙ sym (ap (wanted s) (ap searchAnswer (g .1) ∙ searchAnswer-finished _ _ _))
+    let g = c .before .before .answer .given in
+    c .beside-best .ensures ∙ sym (ap (wanted (c .before .before .before .before)) (ap searchAnswer (g .1) ∙ searchAnswer-finished _ _ _))
 
 returns-2 : tie.Need-returns-2
 unfolding sheets.markAnswer sheets.marked
@@ -61,8 +48,7 @@ marked-spec =
     tie.close
     (tie.spec
     enum-known-answer
-    is-equal-requires
-    out-of-hundred-requires
+    beside-best-requires
     enum-known-answer-2
     enum-known-answer-3
     enum-known-answer-4
