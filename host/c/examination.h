@@ -159,7 +159,8 @@ uint32_t examination_hundred(const uint8_t *file, size_t file_len,
 
 /* The mark out of a hundred of a sheet beside a key, without a search: as above, with
  * the key's least gap for the best one. Beside the starts of a finished search it is
- * what examination_hundred has; beside another key the mark may be above 100.
+ * what examination_hundred has; beside another key the mark may be above 100, and
+ * beside one whose least gap is 0 it is 100 remainder 0 whatever the sheet's.
  * Returns 0, and puts the mark (0 to 144,000) and the remainder (0 to 1,439) into the
  * hundred row; or a refusal, grounds 1 to 14, and 15 where the sheet or the key
  * hasn't 4 bytes for each line. Sheet and key may be the same memory. */

@@ -316,10 +316,7 @@ uint32_t examination_better(const uint8_t *file, size_t file_len, const uint8_t 
 /* What stands in the answer behind a mark, the one or the other. */
 static void fault_mark(uint32_t returned, uint32_t answer[6])
 {
-    static atomic_uint calls;
     if (is(CLEARED_ON_REFUSAL) && examination_is_refused(returned)) answer[5] = 0;
-    if (is(EVERY_3000TH_MARK) && is_3000th(&calls) && returned == EXAMINATION_DECIDED)
-        answer[4] ^= 1;
     if (is(BEST_OF_UNDECIDED) && returned == EXAMINATION_UNDECIDED) answer[3] = answer[1];
     if (returned != EXAMINATION_DECIDED) return;
     if (is(EQUAL_NEVER)) answer[4] = 0;
@@ -347,10 +344,13 @@ static int is_called_undecided(uint32_t returned, const uint32_t answer[6], uint
 uint32_t examination_mark(const uint8_t *file, size_t file_len, const uint8_t *sheet,
                           size_t sheet_len, uint32_t budget, uint32_t answer[6])
 {
+    static atomic_uint calls;
     const size_t length = taken_length(LONG_SHEET_MARKED, file, file_len, sheet_len);
     const uint32_t taken = mark_budget(budget);
     const uint32_t returned = real_mark(file, file_len, sheet, length, taken, answer);
     if (taken != budget && returned == EXAMINATION_UNDECIDED) answer[5] = budget;
+    if (is(EVERY_3000TH_MARK) && is_3000th(&calls) && returned == EXAMINATION_DECIDED)
+        answer[4] ^= 1;
     fault_mark(returned, answer);
     if (is_called_undecided(returned, answer, budget)) {
         answer[2] = answer[3] = answer[4] = 0;

@@ -345,9 +345,9 @@ pub enum Better {
 }
 
 /// A mark out of a hundred: the whole part of 100 times the sheet's least gap over
-/// that of the key, and the remainder. Mark times the key's least gap plus
-/// remainder is 100 times the sheet's, and the remainder is smaller than the key's
-/// least gap; where that is 0, the mark is 100 and the remainder 0. Sums don't enter.
+/// that of the best timetable, or of a key, and the remainder. Mark times that plus
+/// remainder is 100 times the sheet's, and the remainder is smaller than that. Where it
+/// is 0, the mark is 100 and the remainder 0, whatever the sheet's. Sums don't enter.
 ///
 /// The order is that by which sheets are ranked: the mark first, then the remainder.
 ///

@@ -21,7 +21,7 @@ pub fn small_file(dice: &mut Dice, most_timetables: u32) -> (Vec<u8>, Network) {
     }
 }
 
-/// The same for wanted gaps: half of the networks are such that lines can keep away
+/// The same for wanted gaps and marks: half of the networks are such that lines can keep away
 /// from each other.
 pub fn small_file_for_gaps(dice: &mut Dice, most_timetables: u32) -> (Vec<u8>, Network) {
     if dice.once_in(2) {

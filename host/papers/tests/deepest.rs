@@ -1,25 +1,14 @@
 //! The deepest search and the longest archive form on a small stack: 16 lines of
 //! the longest period, 256 calls, in a thread with 512 KB.
 
+mod raw;
+
 use engine::{Hundred, Mark, Searched, Sheet};
 use papers::answers::sought;
 use papers::files::{bytes_of, retyped, Command, Dice, Stated};
 use papers::sections::network::read;
 use papers::sections::walk::{walk, Answer};
 use papers::sections::wanted::{seek, Wanted};
-
-#[link(name = "examination", kind = "static")]
-extern "C" {
-    /// The mark that the wrapper doesn't ask for, since it has more by another.
-    fn examination_mark(
-        file: *const u8,
-        file_len: usize,
-        sheet: *const u8,
-        sheet_len: usize,
-        budget: u32,
-        answer: *mut [u32; 6],
-    ) -> u32;
-}
 
 const STACK: usize = 512 * 1_024;
 const BUDGET: u32 = 3_000_000;
@@ -131,15 +120,8 @@ fn the_deepest_mark_on_512_kilobytes() {
         panic!("the engine says {mark:?}");
     };
     assert_eq!((sheet.least, sheet.sum, tries), (0, 0, 100_000));
-    let (returned, answer) = on_small_stack(|| {
-        let mut answer = [7; 6];
-        let (file, length) = (file.as_ptr(), file.len());
-        let zeros = [0; 64];
-        let returned =
-            unsafe { examination_mark(file, length, zeros.as_ptr(), 64, 100_000, &mut answer) };
-        (returned, answer)
-    });
-    assert_eq!((returned, answer), (1, [0, 0, 0, 0, 0, 100_000]));
+    let raw = on_small_stack(|| raw::mark(&file, &[0; 64], 100_000));
+    assert_eq!(raw, (1, [0, 0, 0, 0, 0, 100_000]));
 }
 
 /// A mark whose search finishes, 16 lines deep: line after line stands 45 minutes

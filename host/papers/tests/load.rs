@@ -1,7 +1,9 @@
-//! A hall's day: 200,000 calls each of rate, mark, mark by a key and wanted in one
-//! process. Memory stays flat, each answer is the papers' own, and the calls per second are printed
-//! (`cargo test --release --offline --test load -- --show-output`). No other test may
+//! A hall's day: 200,000 calls each of rate, both marks, mark by a key and wanted in
+//! one process. Memory stays flat, each answer is the papers' own, and the calls per
+//! second are printed (`cargo test --release --offline --test load -- --show-output`). No other test may
 //! stand in this file: it would run beside this one and add to the memory.
+
+mod raw;
 
 use engine::{Hundred, Mark, Rating, Refusal, Sheet};
 use papers::answers::{marked, out_of_hundred, rating_or_refusal, refusal, sought};
@@ -78,6 +80,25 @@ fn calls(name: &str, papers: &[Paper], call: impl Fn(&Paper)) {
     assert!(growth <= GROWTH, "{name}: {before} and {growth} bytes more");
 }
 
+/// A mark as `examination_mark` has it: what it returns, and its row.
+fn in_six_places(mark: &Result<Mark, Refusal>) -> (u32, [u32; 6]) {
+    match *mark {
+        Err(Refusal { ground, place }) => (ground.number() * 65_536 + place, raw::BEFORE),
+        Ok(Mark::Undecided { sheet, tries }) => (1, [sheet.least, sheet.sum, 0, 0, 0, tries]),
+        Ok(Mark::Decided {
+            sheet,
+            best,
+            equal,
+            tries,
+            ..
+        }) => {
+            let equal = u32::from(equal);
+            let row = [sheet.least, sheet.sum, best.least, best.sum, equal, tries];
+            (0, row)
+        }
+    }
+}
+
 #[test]
 fn two_hundred_thousand_calls() {
     let mut dice = Dice::new(81);
@@ -89,6 +110,10 @@ fn two_hundred_thousand_calls() {
     });
     calls("mark", &papers, |paper| {
         assert_eq!(engine::mark(&paper.file, &paper.sheet, BUDGET), paper.mark);
+    });
+    calls("mark in six places", &papers, |paper| {
+        let found = raw::mark(&paper.file, paper.sheet.bytes(), BUDGET);
+        assert_eq!(found, in_six_places(&paper.mark));
     });
     calls("mark by a key", &papers, |paper| {
         let found = engine::mark_by_key(&paper.file, &paper.sheet, &paper.key);

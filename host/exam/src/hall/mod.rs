@@ -4,7 +4,7 @@
 //! |---------------|--------------------------------------------------------|
 //! | `sheets.rs`   | the sheets that operands name, files and folders       |
 //! | `outcome.rs`  | what became of a sheet                                 |
-//! | `ranking.rs`  | sheets by their marks, the best first                  |
+//! | `ranking.rs`  | sheets by their marks, the largest first               |
 //! | `record.rs`   | the fields of the record, as CSV and JSON              |
 //! | `report.rs`   | all sheets: a line or a row for each, and the tally    |
 //! | `judging.rs`  | from the sheets of a request to its report             |

@@ -1,10 +1,12 @@
-//! Sheets by their marks, the best first.
+//! Sheets by their marks, the largest first.
 
 use super::outcome::Row;
 use std::cmp::Ordering;
 
-/// By mark, then by remainder, the larger first, then by name. A sheet without a mark,
-/// undecided, refused or unreadable, comes behind all that have one, by name too.
+/// By mark, then by remainder, the larger first, then by name: sums don't enter, so that
+/// of one mark and remainder a sheet that is below may stand before one that is equal. A
+/// sheet without a mark, undecided, refused or unreadable, comes behind all that have
+/// one, by name too.
 pub fn ranked(mut rows: Vec<Row>) -> Vec<Row> {
     rows.sort_by(before);
     rows

@@ -63,7 +63,7 @@ pub const SHEET: CommandOption = CommandOption::flag(
 /// `exam mark`; of several sheets.
 pub const RANKED: CommandOption = CommandOption::flag(
     "--ranked",
-    "the best sheets first: by mark, remainder and then name",
+    "the largest marks first, then remainders, then by name",
 );
 
 pub const CSV: CommandOption =

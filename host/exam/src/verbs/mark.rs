@@ -48,8 +48,9 @@ before it, after one search for all. Every file of a folder is taken for a sheet
 in name order, but for hidden ones; a folder within it is named on standard error
 and left out. A file that can't be read as a sheet has 'NAME: unreadable'. The last
 text line on standard error is the tally, and the exit status is the gravest of
-all: 2, then 1, then 3, then 0. With --ranked the best is first: by mark, then by
-remainder, then by name; those without a mark come last, by name.
+all: 2, then 1, then 3, then 0. With --ranked the largest mark is first, then the
+largest remainder, and then it is by name, whether below or equal; those without a
+mark come last, by name.
 
 With --csv or --json standard output is a record for a program: for each sheet
 name, status (equal, below, undecided, refused or unreadable), gap, sum, best_gap,

@@ -1,9 +1,9 @@
-//! `exam mark --ranked`: the best sheet first.
+//! `exam mark --ranked`: the largest mark first.
 
 use crate::common::{exam, Folder, HEX};
 use crate::parsed::{csv, json, Fields};
 use papers::files::{any_sheet, Dice};
-use papers::small::small_file;
+use papers::small::small_file_for_gaps;
 use std::cmp::Reverse;
 
 /// P7 of document 01: three lines of 10 minutes at one stop, whose best least gap is 3.
@@ -53,6 +53,45 @@ fn a_folder_by_its_marks() {
     let mut sorted: Vec<&str> = LINES.lines().collect();
     sorted.sort();
     assert_eq!(by_name.out.lines().collect::<Vec<&str>>(), sorted);
+}
+
+/// Borderline sheets: where the best least gap is above 100, several have one mark, and
+/// the remainder ranks them. Two lines of a day can be 720 minutes apart.
+#[test]
+fn borderline_sheets_by_their_remainders() {
+    let (home, folder) = (Folder::new(), Folder::new());
+    let network = home.file("day.hex", "4C05A0 4C05A0 4300000000 4301000000 45");
+    for (name, gap) in [("a", 713), ("b", 719), ("c", 712), ("d", 714)] {
+        folder.file(&format!("{name}.sheet"), format!("0 {gap}"));
+    }
+    let ranked = exam(&["mark", &network, &folder.name(), "--ranked"]);
+    let of = |name: &str, gap: u32, rest: &str| {
+        format!(
+            "{name}.sheet: gap {gap} sum {gap} best gap 720 sum 720 below mark {rest} tries 1441\n"
+        )
+    };
+    let lines = [
+        of("b", 719, "99 remainder 620"),
+        of("d", 714, "99 remainder 120"),
+        of("a", 713, "99 remainder 20"),
+        of("c", 712, "98 remainder 640"),
+    ];
+    ranked.told(&lines.concat(), 0, &["4 sheets: 4 below\n"]);
+}
+
+/// Sums don't enter: of one mark and remainder it is by name, the one that is below
+/// before those that are equal, as in name order.
+#[test]
+fn below_before_equal_by_name() {
+    let words = ["mark", "samples/village.hex", "samples/village"];
+    let ranked = exam(&[&words[..], &["--ranked"]].concat());
+    let kinds: Vec<&str> = ranked
+        .out
+        .lines()
+        .filter_map(|line| line.split(' ').nth(10))
+        .collect();
+    assert_eq!(kinds, ["below", "equal", "equal"]);
+    assert_eq!(ranked.out, exam(&words).out);
 }
 
 /// Several operands too, by the names that they have there.
@@ -107,14 +146,23 @@ fn number(row: &Fields, name: &str) -> Option<u32> {
     text.map(|text| text.parse().expect("a number"))
 }
 
+/// Rows beside each other that stand so by their marks.
+fn parted(rows: &[Fields]) -> usize {
+    let marks = |pair: &&[Fields]| {
+        let [one, other] = [0, 1].map(|at| number(&pair[at], "mark"));
+        other.is_some() && one > other
+    };
+    rows.windows(2).filter(marks).count()
+}
+
 /// The record of seeded halls: the rows are those in name order, and their order is
 /// that of mark, remainder and name.
 #[test]
 fn records_by_their_marks() {
     let mut dice = Dice::new(310);
-    let mut moved = 0;
+    let (mut moved, mut by_mark) = (0, 0);
     for _ in 0..20 {
-        let (file, net) = small_file(&mut dice, 2_000);
+        let (file, net) = small_file_for_gaps(&mut dice, 2_000);
         let (home, folder) = (Folder::new(), Folder::new());
         let network = home.file("a.net", &file);
         for number in 10..22 {
@@ -134,9 +182,10 @@ fn records_by_their_marks() {
             (marks, row["name"].clone())
         });
         assert_eq!((rows.len(), &rows), (12, &sorted));
+        by_mark += parted(&rows);
     }
     assert!(
-        moved > 10,
-        "{moved} of 20 halls are ranked otherwise than by name"
+        moved > 10 && by_mark > 20,
+        "{moved} of 20 halls are ranked otherwise than by name, {by_mark} rows by marks"
     );
 }

@@ -306,6 +306,11 @@ fn help_in_columns() {
 
 NETWORK: a name";
     assert!(exam(&["--help"]).out.contains(overview));
+}
+
+/// The same of a verb's options.
+#[test]
+fn options_in_columns() {
     let options = "
 Options:
   --plan            the network is a plan, whatever its name
@@ -315,7 +320,7 @@ Options:
   --sheet-bytes     a sheet is bytes, whatever its name
   --budget N        stop after N tries, 0 to 4294967295 or max (otherwise 1000000)
   --quiet           no sign of life on standard error during a long search
-  --ranked          the best sheets first: by mark, remainder and then name
+  --ranked          the largest marks first, then remainders, then by name
   --csv             print a record with a row for each sheet, as CSV
   --json            print a record with a row for each sheet, as JSON
 

@@ -285,11 +285,7 @@ fn seeded_files_and_sheets() {
     let above_key = count(&|kind| kind.above_key);
     let [long, empty] = [count(&|kind| kind.very_long), count(&|kind| kind.empty)];
     let [alike, untidy] = [count(&|kind| kind.alike), count(&|kind| kind.untidy)];
-    println!(
-        "{cases} cases; rated {}, refused by ground {:?}",
-        grounds[0],
-        &grounds[1..]
-    );
+    println!("{cases} cases; rated and refused by ground: {grounds:?}");
     println!("searches finished, stopped, stopped with none: {searches:?}");
     println!("wanted gaps found, none, stopped: {wanted:?}");
     println!("better first, second, neither: {betters:?}");
