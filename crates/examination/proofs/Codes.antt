@@ -52,6 +52,11 @@ unfolding status
 status-tells (values vs) e = inr (omega (arith, e))
 status-tells (refusal number place) e = inl (number, place, refl)
 
+pub status-returns : (o : Outcome) {returned : ℕ} → returned ≡ status o → (returned ≡ 0) ⊎ ((number : ℕ) × (place : ℕ) × (o ≡ refusal number place))
+unfolding status
+status-returns (values vs) e = inl e
+status-returns (refusal number place) e = inr (number, place, refl)
+
 pub status-code : {o : Outcome} {returned : ℕ} → returned ≡ status o → (number place : ℕ) → o ≡ refusal number place → returned ≡ refusalCode number place
 unfolding status
 status-code e number place f = e ∙ rw f refl
@@ -101,6 +106,13 @@ unfolding markStatus
 mark-status-tells (decided l s m u b q r t) e = inr (omega (arith, e))
 mark-status-tells (undecided l s t) e = inr (omega (arith, e))
 mark-status-tells (sheets.refusal number place) e = inl (number, place, refl)
+
+pub mark-status-returns : (o : MarkOutcome) {returned : ℕ} → returned ≡ markStatus o
+    → (returned ≡ 0) ⊎ ((returned ≡ 1) ⊎ ((number : ℕ) × (place : ℕ) × (o ≡ sheets.refusal number place)))
+unfolding markStatus
+mark-status-returns (decided l s m u b q r t) e = inl e
+mark-status-returns (undecided l s t) e = inr (inl e)
+mark-status-returns (sheets.refusal number place) e = inr (inr (number, place, refl))
 
 pub mark-status-code : {o : MarkOutcome} {returned : ℕ} → returned ≡ markStatus o → (number place : ℕ) → o ≡ sheets.refusal number place
     → returned ≡ refusalCode number place

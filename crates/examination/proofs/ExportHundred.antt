@@ -1,12 +1,12 @@
 -- Document 02, A.5, said of what a host sees: the export of a mark out of a hundred returns and answers as that of mark, with mark and remainder in a
 -- row of their own, and the export by a key has the same two numbers beside the starts of a finished search. Of the search nothing is cited but its
--- optimality and, for those starts as bytes, their range. Each theorem holds of every call that has returned, where it keeps the contract in
+-- optimality, when it refuses, and the range of its numbers and starts. Each theorem holds of every call that has returned, where it keeps the contract in
 -- src/exports.rt, which every call does. Assumes nothing.
 use Prim.Native.Nat.{ℕ, _*_, _<_, _≤_}
 use mathlib.Core.Path.{_≡_, refl, sym, ap, ap₂, _∙_}
 use mathlib.Core.Bool.{Bool, true, false}
 use mathlib.Core.List.{List, [], _∷_}
-use mathlib.Core.Logic.{inl, _↔_}
+use mathlib.Core.Logic.{_⊎_, inl, inr, _↔_}
 use native.Mathlib.Omega.{arith}
 use borrow.Author.Tests.{eqb-true, eqb-false, eq-eqb}
 use borrow.Fn.World.{ArgsD, ResD}
@@ -23,18 +23,20 @@ use Rattle.network.specs.Rating.{IsRating}
 use Rattle.network.specs.Valid.{Valid}
 use Rattle.network.proofs.Laws.Gaps.{accepted-valid, IsRating-range}
 use Rattle.search.proofs.Demands.{WalkedStarts}
-use Rattle.examination.specs.Bytes.{starts, bytesFit, byBytes, markBytes, keyBytes, BytesUnfit, EitherBytesUnfit}
+use Rattle.examination.specs.Bytes.{starts, bytesFit, markBytes, keyBytes, BytesUnfit, EitherBytesUnfit}
+use Rattle.examination.specs.ByKey.{besideKey}
 use Rattle.examination.specs.Exports.{TellsRefusal, refusalCode, markStatus, markRow, hundredRow}
-use Rattle.examination.specs.Hundred.{markOf, remainderOf, PairBelow, keyOutcome}
+use Rattle.examination.specs.Hundred.{markOf, remainderOf, PairBelow}
 use Rattle.examination.specs.Sheets.{MarkOutcome, decided, undecided}
 use Rattle.examination.specs.Sheets as sheets
-use Rattle.examination.proofs.Codes.{export-demand-1, status-tells, status-code, mark-status-tells, mark-status-code}
+use Rattle.examination.proofs.Codes.{export-demand-1, status-tells, status-returns, status-code, mark-status-tells, mark-status-returns}
+use Rattle.examination.proofs.Codes.{mark-status-code}
 use Rattle.examination.proofs.ExportDemands.{own-ground-range, row-as-found, answered}
 use Rattle.examination.proofs.ExportSearch.{HallMark, hall-mark-of, mark-told, mark-row-as-found, fit-answers}
 use Rattle.examination.proofs.ExportSearch.{HallSearch, search-export-demand-1, search-export-demand-3}
 use Rattle.examination.proofs.HundredMark.{Divided, divided, MarkOutOfHundred, out-of-hundred, marked-out-of-hundred, one-best, ranked, beside-key-is}
 use Rattle.examination.proofs.Laws.Hundred.{ranks}
-use Rattle.examination.proofs.Laws.Refusals.{mark-bytes-refuse, mark-bytes-refuse-only, mark-refuses-only, refuses-range, key-answers}
+use Rattle.examination.proofs.Laws.Refusals.{mark-bytes-refuse, mark-bytes-refuse-only, mark-refuses-only, refuses-range}
 use Rattle.examination.proofs.Laws.Refusals.{key-bytes-refuse, key-bytes-refuse-only, decided-bytes-accepted, decided-on-starts}
 use Rattle.examination.proofs.Mark.{MarkMeans, mark-means, neither-above, least-not-above}
 use Rattle.examination.proofs.SheetBytes.{In32, All32, all32, bytesOf, starts-of-lent, length-of-lent}
@@ -105,6 +107,23 @@ module _ (κs : Lfts 4) (a : ArgsD hundred.signature κs) (r : ResD hundred.sign
         );
       })
       (own-ground-range (omega arith) (omega arith)) (mark-status-code (kept .0)) (mark-status-tells _ (kept .0))
+
+  -- It returns 0, 1 or a refusal, whatever is lent
+  pub hundred-export-returns : (r ≡ 0) ⊎ ((r ≡ 1) ⊎ ((number : ℕ) × (place : ℕ) × TellsRefusal r number place))
+  hundred-export-returns = go (mark-status-returns (markBytes (a .1 .1 .0) (readFile (a .0 .now)) (a .1 .0 .now)) (kept .0))
+    where
+      go : (r ≡ 0) ⊎ ((r ≡ 1) ⊎ ((number : ℕ) × (place : ℕ) × (markBytes (a .1 .1 .0) (readFile (a .0 .now)) (a .1 .0 .now) ≡ sheets.refusal number place)))
+          → (r ≡ 0) ⊎ ((r ≡ 1) ⊎ ((number : ℕ) × (place : ℕ) × TellsRefusal r number place))
+      go (inl e) = inl e
+      go (inr (inl e)) = inr (inl e)
+      go (inr (inr (number, place, e))) =
+          inr
+          (inr (
+            number,
+            place,
+            hundred-export-demand-1
+                .faulty-is-refused number place (mark-bytes-refuse-only (a .0 .now) (kept .1 .1 .1) (a .1 .0 .now) (a .1 .1 .0) e),
+          ))
 
   -- It returns what the export of mark does, and leaves the same in rows of six places that were the same
   pub hundred-export-as-mark : (κs′ : Lfts 3) (a′ : ArgsD mark.signature κs′) (r′ : ResD mark.signature κs′)
@@ -225,8 +244,8 @@ module _ (κs : Lfts 4) (a : ArgsD hundred.signature κs) (r : ResD hundred.sign
 
 -- Where the file is accepted and both sheets' bytes fit, it answers by their starts
 key-told : (file : List ℕ) {n : Net} → readFile file ≡ accepted n → (sheet key : List ℕ) → length sheet ≡ 4 * length (n .periods)
-    → length key ≡ 4 * length (n .periods) → keyBytes (readFile file) sheet key ≡ keyOutcome (readFile file) (starts sheet) (starts key)
-unfolding keyBytes byBytes bytesFit
+    → length key ≡ 4 * length (n .periods) → keyBytes (readFile file) sheet key ≡ besideKey n (starts sheet) (starts key)
+unfolding keyBytes bytesFit
 key-told file reads sheet key fit fit′ = rw (reads, eq-eqb _ _ fit, eq-eqb _ _ fit′) refl
 
 same-values : {vs ws : List ℕ} → values vs ≡ values ws → vs ≡ ws
@@ -246,19 +265,32 @@ module _ (κs : Lfts 4) (a : ArgsD by-key.signature κs) (r : ResD by-key.signat
       })
       (own-ground-range (omega arith) (omega arith)) (status-code (kept .0)) (status-tells _ (kept .0))
 
+  -- It returns 0 or a refusal, whatever is lent
+  pub by-key-export-returns : (r ≡ 0) ⊎ ((number : ℕ) × (place : ℕ) × TellsRefusal r number place)
+  by-key-export-returns = go (status-returns (keyBytes (readFile (a .0 .now)) (a .1 .0 .now) (a .1 .1 .0 .now)) (kept .0))
+    where
+      go : (r ≡ 0) ⊎ ((number : ℕ) × (place : ℕ) × (keyBytes (readFile (a .0 .now)) (a .1 .0 .now) (a .1 .1 .0 .now) ≡ refusal number place))
+          → (r ≡ 0) ⊎ ((number : ℕ) × (place : ℕ) × TellsRefusal r number place)
+      go (inl e) = inl e
+      go (inr (number, place, e)) =
+          inr (
+            number,
+            place,
+            by-key-export-demand-1
+                .faulty-is-refused number place (key-bytes-refuse-only (a .0 .now) (kept .1 .1) (a .1 .0 .now) (a .1 .1 .0 .now) e),
+          )
+
   module _ {n : Net} (reads : readFile (a .0 .now) ≡ accepted n) (key : List ℤ) (in32 : All32 key) (key-fits : length key ≡ length (n .periods))
       (key-lent : a .1 .1 .0 .now ≡ bytesOf key) where
     valid : Valid n
     valid = accepted-valid (a .0 .now) n (kept .1 .1) reads
 
     -- Of whatever bytes of a sheet that fit
-    told : length (a .1 .0 .now) ≡ 4 * length (n .periods) → length (starts (a .1 .0 .now)) ≡ length (n .periods) → {least sum best bestSum : ℕ}
-        → IsRating n (starts (a .1 .0 .now)) least sum → IsRating n key best bestSum
-        → (r ≡ 0) × (s .1 .1 .1 .0 .now ≡ markOf least best ∷ remainderOf least best ∷ [])
-    told bytes-are fits {least} {sum} {best} {bestSum} p q =
-        let is = key-told (a .0 .now) reads (a .1 .0 .now) (a .1 .1 .0 .now) bytes-are (length-of-lent key key-lent key-fits)
-        ∙ ap (keyOutcome (readFile (a .0 .now)) (starts (a .1 .0 .now))) (starts-of-lent key key-lent in32)
-        ∙ key-answers (a .0 .now) (starts (a .1 .0 .now)) key reads fits key-fits
+    told : length (a .1 .0 .now) ≡ 4 * length (n .periods) → {least sum best bestSum : ℕ} → IsRating n (starts (a .1 .0 .now)) least sum
+        → IsRating n key best bestSum → (r ≡ 0) × (s .1 .1 .1 .0 .now ≡ markOf least best ∷ remainderOf least best ∷ [])
+    told fits {least} {sum} {best} {bestSum} p q =
+        let is = key-told (a .0 .now) reads (a .1 .0 .now) (a .1 .1 .0 .now) fits (length-of-lent key key-lent key-fits)
+        ∙ ap (besideKey n (starts (a .1 .0 .now))) (starts-of-lent key key-lent in32)
         ∙ beside-key-is valid p q in
         let (e, row) = answered (a .1 .1 .1 .0 .now) (kept .0) (kept .1 .0) is in
         (e, same-values (row ∙ is))
@@ -268,9 +300,8 @@ module _ (κs : Lfts 4) (a : ArgsD by-key.signature κs) (r : ResD by-key.signat
         → {least sum best bestSum : ℕ} → IsRating n sheet least sum → IsRating n key best bestSum
         → (r ≡ 0) × Divided least best (getD (s .1 .1 .1 .0 .now) 0 0) (getD (s .1 .1 .1 .0 .now) 1 0)
     by-key-export-divides sheet in32′ fits lent {least} {sum} {best} {bestSum} p q =
-        let is = starts-of-lent sheet lent in32′ in
-        let p′ : IsRating n (starts (a .1 .0 .now)) least sum = rw is p in
-        let (e, row) = told (length-of-lent sheet lent fits) (ap length is ∙ fits) p′ q in
+        let p′ : IsRating n (starts (a .1 .0 .now)) least sum = rw (starts-of-lent sheet lent in32′) p in
+        let (e, row) = told (length-of-lent sheet lent fits) p′ q in
         (e, rw row (divided least best (IsRating-range valid p .0) (IsRating-range valid q .0)))
 
 -- ---- A hall's sheets by one search
@@ -281,6 +312,17 @@ walked-in32 {n} {starts} w = all32 starts each
   where
     each : (i : ℕ) → i < length starts → In32 (getD starts i (pos 0))
     each i h = let (x, is, below, most) = w .below-period i (omega (arith, h, w .one-for-each-line)) in rw is (omega (arith, below, most))
+
+-- What is lent to the export by a key where it marks a sheet of this least gap on this file, beside these starts: file, sheet and key
+pub record SheetBeside (n : Net) (file : List ℕ) (key : List ℤ) (least : ℕ) (file-bytes sheet-bytes key-bytes : List ℕ) : Type 0 where
+  pub on-file : file ≡ file-bytes
+  pub key-lent : key-bytes ≡ bytesOf key
+  pub sheet : List ℤ
+  pub in32 : All32 sheet
+  pub fit : length sheet ≡ length (n .periods)
+  pub lent : sheet-bytes ≡ bytesOf sheet
+  pub sum : ℕ
+  pub rated : IsRating n sheet least sum
 
 -- A search that finishes has a start row that fits
 finished-fits : (κs : Lfts 3) (a : ArgsD searching.signature κs) (r : ResD searching.signature κs)
@@ -303,27 +345,25 @@ module _ (κs : Lfts 3) (a : ArgsD searching.signature κs) (r : ResD searching.
   -- What the export by a key leaves beside the starts of that search, of whatever bytes of a sheet that fit
   beside-search : (κs′ : Lfts 4) (a′ : ArgsD by-key.signature κs′) (r′ : ResD by-key.signature κs′)
       (s′ : AtExit (endedOf 4 by-key-kinds.ps by-key-kinds.r) κs′) → by-key-contract.Post κs′ a′ r′ s′ → a .0 .now ≡ a′ .0 .now
-      → a′ .1 .1 .0 .now ≡ bytesOf (s .1 .0 .now) → length (a′ .1 .0 .now) ≡ 4 * length (n .periods) → length (starts (a′ .1 .0 .now)) ≡ length (n .periods)
-      → {least sum : ℕ} → IsRating n (starts (a′ .1 .0 .now)) least sum
+      → a′ .1 .1 .0 .now ≡ bytesOf (s .1 .0 .now) → length (a′ .1 .0 .now) ≡ 4 * length (n .periods) → {least sum : ℕ}
+      → IsRating n (starts (a′ .1 .0 .now)) least sum
       → (r′ ≡ 0)
       × (s′ .1 .1 .1 .0 .now ≡ markOf least (getD (s .1 .1 .1 .0 .now) 0 0) ∷ remainderOf least (getD (s .1 .1 .1 .0 .now) 0 0) ∷ [])
-  beside-search κs′ a′ r′ s′ kept′ file lent bytes-are fits {least} {sum} p =
+  beside-search κs′ a′ r′ s′ kept′ file key-lent fits p =
       let (key-fits, key-rated) = hall .finished-has-its-rating finished in
-      told κs′ a′ r′ s′ kept′ (sym (ap readFile file) ∙ reads) (s .1 .0 .now) (walked-in32 (hall .starts-in-range (inl finished))) key-fits lent
-      bytes-are fits p key-rated
+      told κs′ a′ r′ s′ kept′ (sym (ap readFile file) ∙ reads) (s .1 .0 .now) (walked-in32 (hall .starts-in-range (inl finished))) key-fits key-lent fits
+      p key-rated
 
   module _ (κs′ : Lfts 4) (a′ : ArgsD by-key.signature κs′) (r′ : ResD by-key.signature κs′)
-      (s′ : AtExit (endedOf 4 by-key-kinds.ps by-key-kinds.r) κs′) (kept′ : by-key-contract.Post κs′ a′ r′ s′) (file : a .0 .now ≡ a′ .0 .now)
-      (key : a′ .1 .1 .0 .now ≡ bytesOf (s .1 .0 .now)) (sheet : List ℤ) (in32 : All32 sheet) (fit : length sheet ≡ length (n .periods))
-      (lent : a′ .1 .0 .now ≡ bytesOf sheet) {least sum : ℕ} (rated : IsRating n sheet least sum) where
+      (s′ : AtExit (endedOf 4 by-key-kinds.ps by-key-kinds.r) κs′) (kept′ : by-key-contract.Post κs′ a′ r′ s′) {least : ℕ}
+      (is : SheetBeside n (a .0 .now) (s .1 .0 .now) least (a′ .0 .now) (a′ .1 .0 .now) (a′ .1 .1 .0 .now)) where
     not-above : least ≤ getD (s .1 .1 .1 .0 .now) 0 0
-    not-above = least-not-above (hall .finished-is-best finished sheet fit rated)
+    not-above = least-not-above (hall .finished-is-best finished (is .sheet) (is .fit) (is .rated))
 
     row-is : (r′ ≡ 0) × (s′ .1 .1 .1 .0 .now ≡ markOf least (getD (s .1 .1 .1 .0 .now) 0 0) ∷ remainderOf least (getD (s .1 .1 .1 .0 .now) 0 0) ∷ [])
     row-is =
-        let is = starts-of-lent sheet lent in32 in
-        let p : IsRating n (starts (a′ .1 .0 .now)) least sum = rw is rated in
-        beside-search κs′ a′ r′ s′ kept′ file key (length-of-lent sheet lent fit) (ap length is ∙ fit) p
+        let p : IsRating n (starts (a′ .1 .0 .now)) least (is .sum) = rw (starts-of-lent (is .sheet) (is .lent) (is .in32)) (is .rated) in
+        beside-search κs′ a′ r′ s′ kept′ (is .on-file) (is .key-lent) (length-of-lent (is .sheet) (is .lent) (is .fit)) p
 
     -- Beside the starts of a finished search a sheet has its mark out of a hundred, by the best least gap that the search reports
     pub by-key-export-of-search : (r′ ≡ 0)
@@ -335,21 +375,18 @@ module _ (κs : Lfts 3) (a : ArgsD searching.signature κs) (r : ResD searching.
 
   -- .. and of two sheets the smaller least gap has the smaller pair
   pub by-key-export-ranks : (κs′ : Lfts 4) (a′ : ArgsD by-key.signature κs′) (r′ : ResD by-key.signature κs′)
-      (s′ : AtExit (endedOf 4 by-key-kinds.ps by-key-kinds.r) κs′) → by-key-contract.Post κs′ a′ r′ s′ → a .0 .now ≡ a′ .0 .now
-      → a′ .1 .1 .0 .now ≡ bytesOf (s .1 .0 .now) → (sheet : List ℤ) → All32 sheet → length sheet ≡ length (n .periods) → a′ .1 .0 .now ≡ bytesOf sheet
-      → {least sum : ℕ} → IsRating n sheet least sum
+      (s′ : AtExit (endedOf 4 by-key-kinds.ps by-key-kinds.r) κs′) → by-key-contract.Post κs′ a′ r′ s′ → {least : ℕ}
+      → SheetBeside n (a .0 .now) (s .1 .0 .now) least (a′ .0 .now) (a′ .1 .0 .now) (a′ .1 .1 .0 .now)
       → (κs″ : Lfts 4) (a″ : ArgsD by-key.signature κs″) (r″ : ResD by-key.signature κs″)
-      (s″ : AtExit (endedOf 4 by-key-kinds.ps by-key-kinds.r) κs″) → by-key-contract.Post κs″ a″ r″ s″ → a .0 .now ≡ a″ .0 .now
-      → a″ .1 .1 .0 .now ≡ bytesOf (s .1 .0 .now) → (sheet′ : List ℤ) → All32 sheet′ → length sheet′ ≡ length (n .periods) → a″ .1 .0 .now ≡ bytesOf sheet′
-      → {least′ sum′ : ℕ} → IsRating n sheet′ least′ sum′
+      (s″ : AtExit (endedOf 4 by-key-kinds.ps by-key-kinds.r) κs″) → by-key-contract.Post κs″ a″ r″ s″ → {least′ : ℕ}
+      → SheetBeside n (a .0 .now) (s .1 .0 .now) least′ (a″ .0 .now) (a″ .1 .0 .now) (a″ .1 .1 .0 .now)
       → (least < least′)
       ↔ PairBelow (getD (s′ .1 .1 .1 .0 .now) 0 0) (getD (s′ .1 .1 .1 .0 .now) 1 0) (getD (s″ .1 .1 .1 .0 .now) 0 0) (getD (s″ .1 .1 .1 .0 .now) 1 0)
-  by-key-export-ranks κs′ a′ r′ s′ kept′ file key sheet in32 fit lent {least} {sum} rated κs″ a″ r″ s″ kept″ file′ key′ sheet′ in32′ fit′ lent′ {least′} {sum′} rated′ =
-      let one = row-is κs′ a′ r′ s′ kept′ file key sheet in32 fit lent rated .1 in
-      let other = row-is κs″ a″ r″ s″ kept″ file′ key′ sheet′ in32′ fit′ lent′ rated′ .1 in
+  by-key-export-ranks κs′ a′ r′ s′ kept′ {least} is κs″ a″ r″ s″ kept″ {least′} is′ =
+      let one = row-is κs′ a′ r′ s′ kept′ is .1 in
+      let other = row-is κs″ a″ r″ s″ kept″ is′ .1 in
       rw (place 0 one, place 1 one, place 0 other, place 1 other)
-      (ranks least least′ (getD (s .1 .1 .1 .0 .now) 0 0) (not-above κs′ a′ r′ s′ kept′ file key sheet in32 fit lent rated)
-      (not-above κs″ a″ r″ s″ kept″ file′ key′ sheet′ in32′ fit′ lent′ rated′))
+      (ranks least least′ (getD (s .1 .1 .1 .0 .now) 0 0) (not-above κs′ a′ r′ s′ kept′ is) (not-above κs″ a″ r″ s″ kept″ is′))
 
 -- Beside the starts of a finished search, whatever its budget, the export by a key leaves in its row what the export of a mark out of a hundred
 -- leaves there for a decided marking of the sheet, whatever the budget of that
@@ -370,8 +407,7 @@ module _ (κs : Lfts 3) (a : ArgsD searching.signature κs) (r : ResD searching.
       let same : getD (s .1 .1 .1 .0 .now) 0 0 ≡ one .bestLeast =
       neither-above (one .means .best-is-unbeaten (one .is) (s .1 .0 .now) key-fits key-rated) (found .finished-is-best finished best best-fits best-rated) .0 in
       let p : IsRating n (starts (a″ .1 .0 .now)) (one .least) (one .sum) = rw (← sheet) (one .means .decided-rating (one .is)) in
-      let (e, row) = beside-search κs a r s kept finished reads κs″ a″ r″ s″ kept″ file lent (ap length (sym sheet) ∙ one .fits)
-      (ap (λ (bytes : List ℕ). length (starts bytes)) (sym sheet) ∙ one .means .decided-fits (one .is)) p in
+      let (e, row) = beside-search κs a r s kept finished reads κs″ a″ r″ s″ kept″ file lent (ap length (sym sheet) ∙ one .fits) p in
       let m = one .means .mark-is (one .is) in (
         e,
         row

@@ -20,7 +20,8 @@ use Rattle.network.specs.Reading.{values, refusal, accepted, readFile}
 use Rattle.network.specs.Refusals.{Refuses, Demand1}
 use Rattle.network.specs.Valid.{Valid}
 use Rattle.network.proofs.Laws.Gaps.{accepted-valid, IsRating-unique, IsRating-range}
-use Rattle.examination.specs.Hundred.{markOf, remainderOf, PairBelow, besideKey, keyAnswer, EitherUnfit}
+use Rattle.examination.specs.ByKey.{besideKey, keyAnswer, EitherUnfit}
+use Rattle.examination.specs.Hundred.{markOf, remainderOf, PairBelow}
 use Rattle.examination.specs.Sheets.{MarkOutcome, decided, markAnswer}
 use Rattle.examination.proofs.Demands.{mark-means-what-it-says}
 use Rattle.examination.proofs.Laws.Hundred.{markOf-beside-zero, remainderOf-beside-zero, gives-back-above-zero, remainder-below, one-pair, gives-back}
@@ -30,9 +31,9 @@ use Rattle.examination.proofs.Mark.{MarkMeans, neither-above}
 use Rattle.examination.proofs.hundred.by_key as by-key
 use Rattle.examination.proofs.hundred.by_key.Kinds as by-key-kinds
 use Rattle.examination.proofs.hundred.by_key.Reads as by-key-contract
-use Rattle.examination.proofs.marking.mark as mark
-use Rattle.examination.proofs.marking.mark.Kinds as mark-kinds
-use Rattle.examination.proofs.marking.mark.Reads as mark-contract
+use Rattle.examination.proofs.marking.mark as marking
+use Rattle.examination.proofs.marking.mark.Kinds as marking-kinds
+use Rattle.examination.proofs.marking.mark.Reads as marking-contract
 
 -- ---- What is demanded
 
@@ -117,9 +118,9 @@ module _ {n : Net} {sheet : List ℤ} {budget : ℕ} {answer : MarkOutcome} (mea
 
 -- ---- The mark call
 
-module _ (κs : Lfts 2) (a : ArgsD mark.signature κs) (r : ResD mark.signature κs) (s : AtExit (endedOf 2 mark-kinds.ps mark-kinds.r) κs)
-    (kept : mark-contract.Post κs a r s) {least sum bestLeast bestSum : ℕ} {equal : Bool} {mark′ remainder tries : ℕ}
-    (is : markAnswer r ≡ decided least sum bestLeast bestSum equal mark′ remainder tries) where
+module _ (κs : Lfts 2) (a : ArgsD marking.signature κs) (r : ResD marking.signature κs) (s : AtExit (endedOf 2 marking-kinds.ps marking-kinds.r) κs)
+    (kept : marking-contract.Post κs a r s) {least sum bestLeast bestSum : ℕ} {equal : Bool} {mark remainder tries : ℕ}
+    (is : markAnswer r ≡ decided least sum bestLeast bestSum equal mark remainder tries) where
   read-as : (n : Net) × (readFile (a .0 .now) ≡ accepted n)
   read-as = decided-is-accepted (readFile (a .0 .now)) (a .1 .0 .now) (a .1 .1 .0) (sym (kept .0) ∙ is)
 
@@ -127,20 +128,20 @@ module _ (κs : Lfts 2) (a : ArgsD mark.signature κs) (r : ResD mark.signature 
   means = mark-means-what-it-says κs a r s kept (read-as .1)
 
   -- A decided marking has a mark and a remainder
-  pub mark-out-of-hundred : MarkOutOfHundred least bestLeast mark′ remainder
+  pub mark-out-of-hundred : MarkOutOfHundred least bestLeast mark remainder
   mark-out-of-hundred = marked-out-of-hundred means is
 
   -- Of two decided markings on one file, whatever their budgets: the best is one, and the smaller least gap has the smaller pair
-  module _ (κs′ : Lfts 2) (a′ : ArgsD mark.signature κs′) (r′ : ResD mark.signature κs′) (s′ : AtExit (endedOf 2 mark-kinds.ps mark-kinds.r) κs′)
-      (kept′ : mark-contract.Post κs′ a′ r′ s′) (file : a .0 .now ≡ a′ .0 .now) {least′ sum′ bestLeast′ bestSum′ : ℕ} {equal′ : Bool}
-      {mark″ remainder′ tries′ : ℕ} (is′ : markAnswer r′ ≡ decided least′ sum′ bestLeast′ bestSum′ equal′ mark″ remainder′ tries′) where
+  module _ (κs′ : Lfts 2) (a′ : ArgsD marking.signature κs′) (r′ : ResD marking.signature κs′) (s′ : AtExit (endedOf 2 marking-kinds.ps marking-kinds.r) κs′)
+      (kept′ : marking-contract.Post κs′ a′ r′ s′) (file : a .0 .now ≡ a′ .0 .now) {least′ sum′ bestLeast′ bestSum′ : ℕ} {equal′ : Bool}
+      {mark′ remainder′ tries′ : ℕ} (is′ : markAnswer r′ ≡ decided least′ sum′ bestLeast′ bestSum′ equal′ mark′ remainder′ tries′) where
     means′ : MarkMeans (read-as .0) (a′ .1 .0 .now) (a′ .1 .1 .0) (markAnswer r′)
     means′ = mark-means-what-it-says κs′ a′ r′ s′ kept′ (sym (ap readFile file) ∙ read-as .1)
 
     pub marks-have-one-best : (bestLeast ≡ bestLeast′) × (bestSum ≡ bestSum′)
     marks-have-one-best = one-best means is means′ is′
 
-    pub marks-rank : (least < least′) ↔ PairBelow mark′ remainder mark″ remainder′
+    pub marks-rank : (least < least′) ↔ PairBelow mark remainder mark′ remainder′
     marks-rank = ranked means is means′ is′
 
 -- ---- The call by a key
@@ -190,11 +191,11 @@ module _ (κs : Lfts 3) (a : ArgsD by-key.signature κs) (r : ResD by-key.signat
 
     -- Beside a key with the best least gap, such as the starts of a finished search, its numbers are those of a decided marking of the sheet,
     -- whatever the budget of that
-    pub by-key-as-mark : (κs′ : Lfts 2) (a′ : ArgsD mark.signature κs′) (r′ : ResD mark.signature κs′)
-        (s′ : AtExit (endedOf 2 mark-kinds.ps mark-kinds.r) κs′) → mark-contract.Post κs′ a′ r′ s′ → a .0 .now ≡ a′ .0 .now
-        → a .1 .0 .now ≡ a′ .1 .0 .now → {least sum bestLeast bestSum : ℕ} {equal : Bool} {mark′ remainder tries : ℕ}
-        → markAnswer r′ ≡ decided least sum bestLeast bestSum equal mark′ remainder tries → {keySum : ℕ} → IsRating n (a .1 .1 .0 .now) bestLeast keySum
-        → keyAnswer r ≡ values (mark′ ∷ remainder ∷ [])
+    pub by-key-as-mark : (κs′ : Lfts 2) (a′ : ArgsD marking.signature κs′) (r′ : ResD marking.signature κs′)
+        (s′ : AtExit (endedOf 2 marking-kinds.ps marking-kinds.r) κs′) → marking-contract.Post κs′ a′ r′ s′ → a .0 .now ≡ a′ .0 .now
+        → a .1 .0 .now ≡ a′ .1 .0 .now → {least sum bestLeast bestSum : ℕ} {equal : Bool} {mark remainder tries : ℕ}
+        → markAnswer r′ ≡ decided least sum bestLeast bestSum equal mark remainder tries → {keySum : ℕ} → IsRating n (a .1 .1 .0 .now) bestLeast keySum
+        → keyAnswer r ≡ values (mark ∷ remainder ∷ [])
     by-key-as-mark κs′ a′ r′ s′ kept′ file sheet {least} {sum} is q =
         let means = mark-means-what-it-says κs′ a′ r′ s′ kept′ (sym (ap readFile file) ∙ reads) in
         let m = means .mark-is is in

@@ -1,5 +1,5 @@
 -- What a mark means: decided and equal, no choice of whole-number starts rates above the sheet; decided and not equal, some choice does, and the
--- best rating is its rating; undecided only where the budget was too small. Of the search's proofs it cites the page of its demands alone.
+-- best rating is its rating; mark and remainder are those of the two least gaps; undecided only where the budget was too small. Of the search's proofs it cites the page of its demands alone.
 -- Assumes nothing.
 use Prim.Native.Nat.{ℕ, _<_, _≤_}
 use mathlib.Core.Path.{_≡_, refl, sym, ap, _∙_}

@@ -125,11 +125,12 @@ pub use Rattle.network.proofs.RunningCycle.{cycles-on-the-way, eleven-is-refuse
 pub use Rattle.examination.proofs.HundredMark.{mark-out-of-hundred}
 -- .. so that a least gap of 1 beside a best of 3 has 33 remainder 1, and other cases by evaluation
 pub use Rattle.examination.proofs.HundredMark.{cases-out-of-hundred}
--- "An undecided marking has no mark": the answer has no place for one, and the export 0 in both; six places are as before
-pub use Rattle.examination.proofs.ExportHundred.{hundred-export-means, hundred-export-as-mark}
+-- "An undecided marking has no mark": the answer has no place for one, and the export 0 in both; the six places of `examination_mark` are as before
+pub use Rattle.examination.proofs.ExportHundred.{hundred-export-means, hundred-export-as-mark, hundred-export-returns}
 -- "borderline sheets are ranked by it": of two on one file the smaller least gap has the smaller mark, or the same and the smaller remainder
 pub use Rattle.examination.proofs.HundredMark.{marks-have-one-best, marks-rank}
 pub use Rattle.examination.proofs.ExportHundred.{hundred-export-ranks}
 -- Many sheets by one search: beside its starts the call by a key has the same two numbers, by which sheets are ranked alike
 pub use Rattle.examination.proofs.HundredMark.{by-key-divides, by-key-as-mark}
-pub use Rattle.examination.proofs.ExportHundred.{by-key-export-divides, by-key-export-of-search, by-key-export-ranks, by-key-export-as-mark}
+pub use Rattle.examination.proofs.ExportHundred.{by-key-export-returns, by-key-export-divides, by-key-export-of-search, by-key-export-ranks}
+pub use Rattle.examination.proofs.ExportHundred.{by-key-export-as-mark}

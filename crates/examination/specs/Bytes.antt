@@ -2,7 +2,7 @@
 -- than 4×lines is ground 15, after the file's grounds.
 use Prim.Native.Nat.{ℕ, _+_, _*_}
 use mathlib.Core.Path.{_≡_}
-use mathlib.Core.Bool.{Bool}
+use mathlib.Core.Bool.{Bool, _&&_}
 use mathlib.Core.List.{List, [], _∷_}
 use mathlib.Core.Logic.{_⊎_}
 use lib.Dec.{eqb, ltb}
@@ -12,7 +12,7 @@ use Rattle.network.specs.Lists.{pick}
 use Rattle.network.specs.Network.{Net}
 use Rattle.network.specs.Rating.{rating}
 use Rattle.network.specs.Reading.{Reading, accepted, refused, Outcome, refusal}
-use Rattle.examination.specs.Hundred.{keyOutcome}
+use Rattle.examination.specs.ByKey.{besideKey}
 use Rattle.examination.specs.Sheets.{Better, neither, betterBy, MarkOutcome, markOutcome}
 use Rattle.examination.specs.Sheets as sheets
 
@@ -53,12 +53,9 @@ betterBytes (accepted n) one other =
 
 -- By a key, sheet and key being handed over as bytes
 unfoldable pub keyBytes : Reading → List ℕ → List ℕ → Outcome
-keyBytes read sheet key =
-    byBytes
-    (λ (r : Reading) (starts : List ℤ). byBytes (λ (f : Reading) (best : List ℤ). keyOutcome f starts best) refusal r key)
-    refusal
-    read
-    sheet
+keyBytes (refused number place) sheet key = refusal number place
+keyBytes (accepted n) sheet key =
+    pick (bytesFit n sheet && bytesFit n key) (besideKey n (starts sheet) (starts key)) (refusal 15 0)
 
 -- 15: there aren't 4 bytes for each line, of the sheet or of the key
 abbrev pub EitherBytesUnfit : List ℕ → List ℕ → Net → Type 0

@@ -70,7 +70,7 @@ betterStatus first = 1
 betterStatus second = 2
 betterStatus neither = 0
 
--- A mark: 0 decided, 1 undecided; the sheet's rating, the best rating, 1 if they are equal and 0 if not, and the tries; undecided has 0 in
+-- A marking: 0 decided, 1 undecided; the sheet's rating, the best rating, 1 if they are equal and 0 if not, and the tries; undecided has 0 in
 -- the places of what is not known
 unfoldable pub markStatus : MarkOutcome → ℕ
 markStatus (decided least sum bestLeast bestSum equal mark remainder tries) = 0

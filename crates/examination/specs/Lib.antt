@@ -1,5 +1,6 @@
 pub mod Hundred
 pub mod Sheets
+pub mod ByKey
 pub mod Bytes
 pub mod Exports
 pub mod Engine

@@ -53,7 +53,7 @@ betterOf (accepted n) one other = betterBy (fits n one) (fits n other) (rating n
 
 -- ---- Mark
 
--- What a mark answers, as the papers have it: decided, with the sheet's rating, the best rating, whether they are equal, document 02's mark and
+-- What a marking answers, as the papers have it: decided, with the sheet's rating, the best rating, whether they are equal, document 02's mark and
 -- remainder, and the tries; undecided, with the sheet's rating and the tries; or the number and place of a refusal
 pub data MarkOutcome : Type 0 where
   decided : (least sum bestLeast bestSum : ℕ) (equal : Bool) (mark remainder tries : ℕ) → MarkOutcome
@@ -67,7 +67,7 @@ markAnswer (answer.Decided least sum bestLeast bestSum equal mark remainder trie
 markAnswer (answer.Undecided least sum tries) = undecided least sum tries
 markAnswer (answer.Refused number place) = refusal number place
 
--- A sheet of this rating beside what the search answers: if the search stops, undecided, and without a mark
+-- A sheet of this rating beside what the search answers: if the search stops, undecided ("an undecided marking has no mark")
 unfoldable pub marked : (least sum : ℕ) → SearchOutcome → MarkOutcome
 marked least sum (search.finished bestLeast bestSum tries) =
     decided

@@ -8,6 +8,7 @@ ghost use Prim.Native.Nat.{_≤_};
 ghost use Rattle.network.specs.Network.{maxPeriod};
 ghost use Rattle.network.specs.Reading.{readFile};
 ghost use Rattle.network.specs.Valid.{IsBytes};
+ghost use Rattle.examination.specs.ByKey.{keyAnswer, keyOutcome};
 ghost use Rattle.examination.specs.Hundred as hundred;
 
 // The mark of a least gap beside the best one, or a key's, and what is left. By 0 nothing can be divided: there it is 100 and 0, as the request
@@ -30,10 +31,10 @@ pub fn out_of_hundred(least: u32, best: u32) -> OutOfHundred
     }
 }
 
-// By a key: a file, a sheet and a key that stands for the best, as the starts of a finished search do; the sheet's mark beside it, or the
-// refusal of rate on the sheet, or else on the key. Many sheets are marked so by one search.
+// By a key: a file, a sheet and a key, such as the starts of a finished search; the sheet's mark beside the key's least gap, or the refusal of
+// rate on the sheet, or else on the key. Many sheets are marked so by one search.
 pub fn by_key(file: &[u8], sheet: &[i32], key: &[i32]) -> KeyAnswer
-    ensures answer { λ r. ⌜ hundred.keyAnswer r ≡ hundred.keyOutcome (readFile (now (file .entry))) (now (sheet .entry)) (now (key .entry)) ⌝ }
+    ensures answer { λ r. ⌜ keyAnswer r ≡ keyOutcome (readFile (now (file .entry))) (now (sheet .entry)) (now (key .entry)) ⌝ }
     ensures bytes { λ _. ⌜ IsBytes (now (file .entry)) ⌝ }
 {
     let both = rate_both(file, sheet, key);

@@ -387,8 +387,8 @@ pub enum Mark {
         best: Rating,
         /// Whether the two ratings are equal.
         equal: bool,
-        /// The mark out of a hundred. It may be 100 and the ratings not equal: of
-        /// two equal least gaps the sums differ, or the best least gap is 0.
+        /// The mark out of a hundred. It may be 100 and the ratings not equal, where
+        /// the least gaps are equal and the sums differ.
         hundred: Hundred,
         /// The tries that the search took.
         tries: u32,

@@ -1,4 +1,4 @@
-//! A function for each export of docs/ABI.md, of both marks one. Nothing is computed
+//! A function for each export of docs/ABI.md (one for both marks). Nothing is computed
 //! here; every number is the engine's.
 
 use crate::answers::{
@@ -290,8 +290,8 @@ pub fn better(file: &[u8], first: &Sheet, second: &Sheet) -> Better {
     }
 }
 
-/// Marks a sheet: rates it and searches for the best timetable, with so many
-/// tries at most.
+/// Marks a sheet: rates it and searches for the best timetable, with so many tries at
+/// most, beside which it has a mark out of a hundred.
 ///
 /// ```
 /// use engine::{typed, Hundred, Mark, Rating, Sheet};

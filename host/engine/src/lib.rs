@@ -1,8 +1,8 @@
 //! The proved engine, safe to call from a program of the hall's own: a function for
-//! each export of docs/ABI.md, of both marks one, and the readers of networks as
-//! people write them: [`plan`], with names and decimal numbers, and [`typed`], in hexadecimal,
-//! over [`text`], which a reader of sheets can use too. Nothing is computed here;
-//! every number is the engine's.
+//! each export of docs/ABI.md (one for both marks), and the readers of networks as
+//! people write them: [`plan`], with names and decimal numbers, and [`typed`], in
+//! hexadecimal, over [`text`], which a reader of sheets can use too. Nothing is computed
+//! here; every number is the engine's.
 //!
 //! A network file is bytes. A [`Sheet`] has a start in minutes for each line of
 //! the network, in line order.

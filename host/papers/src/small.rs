@@ -21,8 +21,8 @@ pub fn small_file(dice: &mut Dice, most_timetables: u32) -> (Vec<u8>, Network) {
     }
 }
 
-/// The same for wanted gaps and marks: half of the networks are such that lines can keep away
-/// from each other.
+/// The same for wanted gaps and marks: half of the networks are such that lines can keep
+/// away from each other.
 pub fn small_file_for_gaps(dice: &mut Dice, most_timetables: u32) -> (Vec<u8>, Network) {
     if dice.once_in(2) {
         return small_file(dice, most_timetables);

@@ -1,7 +1,7 @@
 //! A hall's day: 200,000 calls each of rate, both marks, mark by a key and wanted in
 //! one process. Memory stays flat, each answer is the papers' own, and the calls per
-//! second are printed (`cargo test --release --offline --test load -- --show-output`). No other test may
-//! stand in this file: it would run beside this one and add to the memory.
+//! second are printed (`cargo test --release --offline --test load -- --show-output`). No
+//! other test may stand in this file: it would run beside this one and add to the memory.
 
 mod raw;
 

@@ -1,7 +1,7 @@
 -- A sheet's bytes taken apart: the starts stand at every fourth byte, a sheet of bytes fits a network where its starts do, and so a call on the
 -- starts answers what document 01 wants on the bytes. Assumes nothing.
 use Prim.Native.Nat.{ℕ, zero, suc, _+_, _*_, _/_, _%_, _<_, _≤_}
-use mathlib.Core.Path.{_≡_, refl, ap, _∙_}
+use mathlib.Core.Path.{_≡_, refl, ap, ap₂, _∙_}
 use mathlib.Core.Bool.{Bool, true, false, _&&_}
 use mathlib.Core.List.{List, [], _∷_}
 use native.Mathlib.Omega.{arith}
@@ -18,7 +18,7 @@ use Rattle.network.specs.Reading.{Reading, accepted, refused, refusal, readFile
 use Rattle.network.specs.Valid.{IsBytes}
 use Rattle.network.proofs.Laws.Gaps.{accepted-valid}
 use Rattle.examination.specs.Bytes.{signed, starts, bytesFit, byBytes, markBytes, betterBytes, keyBytes}
-use Rattle.examination.specs.Hundred.{besideKey, keyOutcome}
+use Rattle.examination.specs.ByKey.{besideKey, keyOutcome}
 use Rattle.examination.specs.Sheets.{fits, betterBy, betterOf, markOutcome}
 use Rattle.examination.specs.Sheets as sheets
 use Rattle.examination.specs.Engine.Taken.{startAt, isWhole, sheetOf}
@@ -134,35 +134,6 @@ pub mark-on-bytes : (budget : ℕ) (file : List ℕ) → IsBytes file → (bytes
 unfolding markOutcome
 mark-on-bytes budget = onSheet-on-bytes _ sheets.refusal
 
--- By a key: both sheets' bytes, the one after the other
-module _ (sheet key : List ℤ) (n : Net) where
-  pub key-of-unfit-sheet : fits n sheet ≡ false → keyOutcome (accepted n) sheet key ≡ refusal 15 0
-  unfolding keyOutcome onSheet fits
-  key-of-unfit-sheet e =
-      ap (λ (b : Bool). pick b (onSheet (λ (m : Net) (best : List ℤ). besideKey m sheet best) refusal (accepted n) key) (refusal 15 0)) e
-
-  pub key-of-unfit-key : fits n key ≡ false → keyOutcome (accepted n) sheet key ≡ refusal 15 0
-  unfolding keyOutcome onSheet fits
-  key-of-unfit-key e = go (eqb (length sheet) (length (n .periods)))
-    where
-      go : (b : Bool) → pick b (pick (eqb (length key) (length (n .periods))) (besideKey n sheet key) (refusal 15 0)) (refusal 15 0) ≡ refusal 15 0
-      go true = ap (λ (b : Bool). pick b (besideKey n sheet key) (refusal 15 0)) e
-      go false = refl
-
-pub key-on-bytes : (file : List ℕ) → IsBytes file → (sheet key : List ℕ)
-    → keyOutcome (readFile file) (sheetOf sheet) (sheetOf key) ≡ keyBytes (readFile file) sheet key
-unfolding keyBytes keyOutcome onSheet byBytes
-key-on-bytes file is-bytes sheet key =
-    call-on-bytes (λ (f : Reading) (best : List ℤ). keyOutcome f (sheetOf sheet) best) refusal (λ number place best. refl)
-    (λ n best e. key-of-unfit-key (sheetOf sheet) best n e) file is-bytes key
-    ∙ call-on-bytes (λ (r : Reading) (one : List ℤ). byBytes (λ (f : Reading) (best : List ℤ). keyOutcome f one best) refusal r key) refusal
-    (λ number place one. refl) (λ n one e. either n one e (bytesFit n key)) file is-bytes sheet
-  where
-    either : (n : Net) (one : List ℤ) → fits n one ≡ false → (b : Bool)
-        → pick b (keyOutcome (accepted n) one (starts key)) (refusal 15 0) ≡ refusal 15 0
-    either n one e true = key-of-unfit-sheet one (starts key) n e
-    either n one e false = refl
-
 -- Better-of-two on the sheets that the bytes stand for is better-of-two on the bytes
 better-of-fit : (n : Net) (one other one′ other′ : List ℤ) (a b : Bool) → (a ≡ true → one ≡ one′) → (b ≡ true → other ≡ other′)
     → betterBy a b (rating n one) (rating n other) ≡ betterBy a b (rating n one′) (rating n other′)
@@ -184,3 +155,23 @@ better-on-bytes file is-bytes one other = go (readFile file) refl
         rw (sheetOf-fits n few one, sheetOf-fits n few other)
         (better-of-fit n (sheetOf one) (sheetOf other) (starts one) (starts other) (bytesFit n one) (bytesFit n other)
         (sheetOf-fit n few one) (sheetOf-fit n few other))
+
+-- By a key likewise
+key-of-fit : (n : Net) (sheet key sheet′ key′ : List ℤ) (a b : Bool) → (a ≡ true → sheet ≡ sheet′) → (b ≡ true → key ≡ key′)
+    → pick (a && b) (besideKey n sheet key) (refusal 15 0) ≡ pick (a && b) (besideKey n sheet′ key′) (refusal 15 0)
+key-of-fit n sheet key sheet′ key′ true true e f = ap₂ (besideKey n) (e refl) (f refl)
+key-of-fit n sheet key sheet′ key′ true false e f = refl
+key-of-fit n sheet key sheet′ key′ false b e f = refl
+
+pub key-on-bytes : (file : List ℕ) → IsBytes file → (sheet key : List ℕ)
+    → keyOutcome (readFile file) (sheetOf sheet) (sheetOf key) ≡ keyBytes (readFile file) sheet key
+unfolding keyOutcome keyBytes
+key-on-bytes file is-bytes sheet key = go (readFile file) refl
+  where
+    go : (read : Reading) → readFile file ≡ read → keyOutcome read (sheetOf sheet) (sheetOf key) ≡ keyBytes read sheet key
+    go (refused number place) e = refl
+    go (accepted n) e =
+        let few : length (n .periods) ≤ 16 = accepted-valid file n is-bytes e .lines in
+        rw (sheetOf-fits n few sheet, sheetOf-fits n few key)
+        (key-of-fit n (sheetOf sheet) (sheetOf key) (starts sheet) (starts key) (bytesFit n sheet) (bytesFit n key) (sheetOf-fit n few sheet)
+        (sheetOf-fit n few key))

@@ -2,7 +2,7 @@
 -- answers, a sheet that rate rates fits its file's network, and its least gap is divided by that of a key. Assumes nothing.
 use Prim.Native.Nat.{ℕ, _≤_}
 use mathlib.Core.Path.{_≡_, refl, sym, ap, ap₂, _∙_}
-use mathlib.Core.Bool.{Bool, true, false}
+use mathlib.Core.Bool.{Bool, true, false, _&&_}
 use mathlib.Core.List.{List, [], _∷_}
 use borrow.Author.Tests.{eqb-true, eq-eqb}
 use lib.Dec.{eqb}
@@ -20,7 +20,8 @@ use Rattle.network.proofs.Laws.Lists.{zero-ne-one}
 use Rattle.network.proofs.Laws.Gaps.{accepted-valid, rating-is-rating, IsRating-range, rating-some, isAbove-none, none-is-not-above, rating-numbers}
 use Rattle.search.specs.Search.{searchOutcome}
 use Rattle.examination.specs.Engine.Chosen.{ratingFrom, ratingOn, betterFrom}
-use Rattle.examination.specs.Hundred.{markOf, remainderOf, besideKey, keyOutcome}
+use Rattle.examination.specs.ByKey.{besideKey, keyOutcome}
+use Rattle.examination.specs.Hundred.{markOf, remainderOf}
 use Rattle.examination.specs.Sheets.{first, second, neither, fits, betterBy, betterOf, marked, markOutcome}
 use Rattle.examination.specs.Sheets as sheets
 
@@ -109,19 +110,19 @@ mark-rated read sheet budget r = rw (r .reads, r .its-least, r .its-sum, eq-eqb 
 -- It refuses as rate on the sheet, ..
 pub key-sheet-refused : (read : Reading) (sheet key : List ℤ) {number place : ℕ} → refusal number place ≡ rateOutcome read sheet
     → refusal number place ≡ keyOutcome read sheet key
-unfolding keyOutcome rateOutcome onSheet ratingValues
+unfolding keyOutcome fits rateOutcome onSheet ratingValues
 key-sheet-refused (refused k p) sheet key e = e
 key-sheet-refused (accepted n) sheet key {number} {place} e = go (eqb (length sheet) (length (n .periods))) e
   where
     go : (b : Bool) → refusal number place ≡ pick b (values (rating n sheet .least ∷ rating n sheet .sum ∷ [])) (refusal 15 0)
-        → refusal number place ≡ pick b (pick (eqb (length key) (length (n .periods))) (besideKey n sheet key) (refusal 15 0)) (refusal 15 0)
+        → refusal number place ≡ pick (b && eqb (length key) (length (n .periods))) (besideKey n sheet key) (refusal 15 0)
     go true e = absurd (zero-ne-one (cc))
     go false e = e
 
 -- .. then as rate on the key, ..
 pub key-refused : (read : Reading) (sheet key : List ℤ) {least sum number place : ℕ} → RatedOn read sheet least sum
     → refusal number place ≡ rateOutcome read key → refusal number place ≡ keyOutcome read sheet key
-unfolding keyOutcome rateOutcome onSheet ratingValues
+unfolding keyOutcome fits rateOutcome onSheet ratingValues
 key-refused read sheet key {least} {sum} {number} {place} r e =
     rw (r .reads, eq-eqb _ _ (r .fit)) (go (eqb (length key) (length (r .net .periods))) (rw (r .reads) at e))
   where
@@ -133,7 +134,7 @@ key-refused read sheet key {least} {sum} {number} {place} r e =
 -- .. and otherwise divides the two least gaps
 pub key-rated : (read : Reading) (sheet key : List ℤ) {least sum best bestSum : ℕ} → RatedOn read sheet least sum → RatedOn read key best bestSum
     → values (markOf least best ∷ remainderOf least best ∷ []) ≡ keyOutcome read sheet key
-unfolding keyOutcome onSheet besideKey
+unfolding keyOutcome fits besideKey
 key-rated read sheet key r k =
     let same : k .net ≡ r .net = cc in
     let fit : length key ≡ length (r .net .periods) = k .fit ∙ ap (λ (n : Net). length (n .periods)) same in

@@ -1,9 +1,9 @@
 -- When the examination's calls refuse, with which number and place, and that both fit one number. Mark refuses as rate does and nothing else: on
--- a sheet that fits, the search has a start row that fits. A call on a sheet's bytes refuses where their number isn't four for each line.
--- Assumes nothing.
+-- a sheet that fits, the search has a start row that fits. The call by a key refuses where the sheet or the key doesn't fit. A call on a sheet's
+-- bytes refuses where their number isn't four for each line. Assumes nothing.
 use Prim.Native.Nat.{ℕ, _*_, _≤_, _<_}
 use mathlib.Core.Path.{_≡_, refl, sym, ap, ap₂, _∙_}
-use mathlib.Core.Bool.{Bool, true, false}
+use mathlib.Core.Bool.{Bool, true, false, _&&_}
 use mathlib.Core.List.{List}
 use mathlib.Core.Logic.{inl, inr}
 use native.Mathlib.Omega.{arith}
@@ -33,11 +33,11 @@ use Rattle.search.proofs.Demands.{Searches, demand-1}
 use Rattle.search.proofs.WantedGap as asked
 use Rattle.examination.specs.Bytes.{starts, bytesFit, byBytes, markBytes, keyBytes, BytesUnfit, EitherBytesUnfit}
 use Rattle.examination.specs.Exports.{placeLimit}
-use Rattle.examination.specs.Hundred.{besideKey, keyOutcome, EitherUnfit}
+use Rattle.examination.specs.ByKey.{besideKey, keyOutcome, EitherUnfit}
 use Rattle.examination.specs.Sheets.{fits, marked, markOutcome}
 use Rattle.examination.specs.Sheets as sheets
 use Rattle.examination.specs.Engine.Taken.{sheetOf}
-use Rattle.examination.proofs.Laws.Bytes.{sheetOf-fits, rated-on-bytes, mark-on-bytes, key-on-bytes, key-of-unfit-sheet, key-of-unfit-key}
+use Rattle.examination.proofs.Laws.Bytes.{sheetOf-fits, rated-on-bytes, mark-on-bytes, key-on-bytes}
 
 -- ---- the numbers and places of refusals
 
@@ -100,20 +100,25 @@ unfit-is n sheet differ = ne-eqb _ _ differ
 
 module _ (file : List ℕ) (sheet key : List ℤ) where
   pub key-refuses : {number place : ℕ} → Refuses file 15 (EitherUnfit sheet key) number place → keyOutcome (readFile file) sheet key ≡ refusal number place
-  unfolding keyOutcome onSheet
+  unfolding keyOutcome
   key-refuses (by-file e) = rw e refl
-  key-refuses (after-file {n = n} e (inl differ)) = rw e (key-of-unfit-sheet sheet key n (unfit-is n sheet differ))
-  key-refuses (after-file {n = n} e (inr differ)) = rw e (key-of-unfit-key sheet key n (unfit-is n key differ))
+  key-refuses (after-file {n = n} e (inl differ)) = rw (e, unfit-is n sheet differ) refl
+  key-refuses (after-file {n = n} e (inr differ)) = rw (e, unfit-is n key differ) (go (fits n sheet))
+    where
+      go : (b : Bool) → pick (b && false) (besideKey n sheet key) (refusal 15 0) ≡ refusal 15 0
+      go true = refl
+      go false = refl
 
   pub key-refuses-only : {number place : ℕ} → keyOutcome (readFile file) sheet key ≡ refusal number place → Refuses file 15 (EitherUnfit sheet key) number place
-  unfolding keyOutcome onSheet besideKey
+  unfolding keyOutcome fits besideKey
   key-refuses-only {number} {place} = go (readFile file) refl
     where
-      unfit : {n : Net} → readFile file ≡ accepted n → EitherUnfit sheet key n → refusal 15 0 ≡ refusal number place → Refuses file 15 (EitherUnfit sheet key) number place
+      unfit : {n : Net} → readFile file ≡ accepted n → EitherUnfit sheet key n → refusal 15 0 ≡ refusal number place
+          → Refuses file 15 (EitherUnfit sheet key) number place
       unfit e f is = let number-is : 15 ≡ number = cc in let place-is : 0 ≡ place = cc in rw (← number-is, ← place-is) (after-file e f)
 
       fitted : (n : Net) → readFile file ≡ accepted n → (a b : Bool) → eqb (length sheet) (length (n .periods)) ≡ a → eqb (length key) (length (n .periods)) ≡ b
-          → pick a (pick b (besideKey n sheet key) (refusal 15 0)) (refusal 15 0) ≡ refusal number place → Refuses file 15 (EitherUnfit sheet key) number place
+          → pick (a && b) (besideKey n sheet key) (refusal 15 0) ≡ refusal number place → Refuses file 15 (EitherUnfit sheet key) number place
       fitted n e false b p q is = unfit e (inl (eqb-false _ _ p)) is
       fitted n e true false p q is = unfit e (inr (eqb-false _ _ q)) is
       fitted n e true true p q is = absurd (zero-ne-one (cc))
@@ -125,7 +130,7 @@ module _ (file : List ℕ) (sheet key : List ℤ) where
   -- .. and otherwise what it has to answer
   pub key-answers : {n : Net} → readFile file ≡ accepted n → length sheet ≡ length (n .periods) → length key ≡ length (n .periods)
       → keyOutcome (readFile file) sheet key ≡ besideKey n sheet key
-  unfolding keyOutcome onSheet
+  unfolding keyOutcome fits
   key-answers reads fit fit′ = rw (reads, eq-eqb _ _ fit, eq-eqb _ _ fit′) refl
 
 -- ---- so an export's refusal has a place below 65,536

@@ -114,7 +114,7 @@ impl Outcome {
         }
     }
 
-    /// The mark out of a hundred, which only a decided mark has.
+    /// The mark out of a hundred, which only a decided marking has.
     pub fn hundred(&self) -> Option<Hundred> {
         match self {
             Outcome::Marked(Mark::Decided { hundred, .. }) => Some(*hundred),

@@ -78,7 +78,8 @@ fn wanted_gaps_beside_every_timetable() {
 
 /// A sheet's mark out of a hundred beside the best of every timetable: mark times best
 /// plus remainder is a hundred times the sheet's gap, with a remainder below the best;
-/// it is 100 exactly where the gaps are equal or the best is 0. Returns it with the gap.
+/// it is 100 exactly where the gaps are equal, and beside a best of 0. Returns it with
+/// the gap.
 fn judged(file: &[u8], net: &Network, starts: &[i32], best: Rating) -> (u32, Hundred) {
     let sheet = Sheet::of_starts(starts);
     let gap = rating(net, &whole(starts)).least;

@@ -8,7 +8,7 @@ use papers::files::{
 };
 use papers::sections::hundred::{by_key_bytes, Hundred};
 use papers::sections::network::read;
-use papers::sections::sheets::mark_bytes;
+use papers::sections::sheets::{mark_bytes, rate_bytes};
 use papers::sections::walk::{walk, Answer};
 
 const FILES: usize = 3_000;
@@ -73,8 +73,8 @@ fn keys_of_any_kind() {
                 continue;
             };
             above += usize::from(paper.mark > 100);
-            let turned = by_key_bytes(&file, key, sheet);
-            beside_none += usize::from(turned.is_ok_and(|turned| turned.mark == 0));
+            let of_key = rate_bytes(&file, key).expect("a key that fits");
+            beside_none += usize::from(of_key.least == 0);
         }
     }
     assert!(above >= 100 && beside_none >= 100, "{above}, {beside_none}");

@@ -8,7 +8,7 @@ use lib.Seq.{length-take-le}
 use Rattle.network.specs.Reading.{Outcome, refusal, readFile}
 use Rattle.examination.specs.Bytes.{keyBytes}
 use Rattle.examination.specs.Exports.{status, rowAfter}
-use Rattle.examination.specs.Hundred.{keyAnswer, keyOutcome}
+use Rattle.examination.specs.ByKey.{keyAnswer, keyOutcome}
 use Rattle.examination.specs.Engine.Taken.{held}
 use Rattle.examination.proofs.Laws.Bytes.{key-on-bytes}
 use Rattle.examination.proofs.Laws.Refusals.{key-bytes-low}

@@ -6,7 +6,7 @@ use Prim.Native.Nat.{ℕ}
 use borrow.Author.Needs.{needs}
 use Rattle.network.specs.Rate.{rateAnswer}
 use Rattle.network.specs.Reading.{readFile, values}
-use Rattle.examination.specs.Hundred.{keyAnswer}
+use Rattle.examination.specs.ByKey.{keyAnswer}
 use Rattle.examination.proofs.Laws.Chosen.{RatedOn, rated-on, rated-least, key-sheet-refused, key-refused, key-rated}
 use Rattle.examination.proofs.hundred.by_key.Statement.{statement}
 use Rattle.examination.proofs.hundred.by_key.Tie as tie
