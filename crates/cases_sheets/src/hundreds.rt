@@ -50,7 +50,7 @@ fn key_case(name: &[u8], text: &[u8], sheet: &[i32], key: &[i32]) {
     let mut file = [0u8; 96];
     let end = put_hex(text, &mut file, 0);
     show_name(name);
-    let answer = examination::hundred::by_key(&file[..end], sheet, key);
+    let answer = examination::by_key::by_key(&file[..end], sheet, key);
     match answer {
         KeyAnswer::Marked { mark, remainder } => show_hundred(mark, remainder),
         KeyAnswer::Refused { number, place } => show_refusal(number, place),

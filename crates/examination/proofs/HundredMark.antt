@@ -28,9 +28,9 @@ use Rattle.examination.proofs.Laws.Hundred.{markOf-beside-zero, remaind
 use Rattle.examination.proofs.Laws.Hundred.{mark-at-most-100, mark-100-is-best, best-has-100, ranks, mark-range}
 use Rattle.examination.proofs.Laws.Refusals.{decided-is-accepted, key-refuses, key-refuses-only, key-answers}
 use Rattle.examination.proofs.Mark.{MarkMeans, neither-above}
-use Rattle.examination.proofs.hundred.by_key as by-key
-use Rattle.examination.proofs.hundred.by_key.Kinds as by-key-kinds
-use Rattle.examination.proofs.hundred.by_key.Reads as by-key-contract
+use Rattle.examination.proofs.by_key.by_key as by-key
+use Rattle.examination.proofs.by_key.by_key.Kinds as by-key-kinds
+use Rattle.examination.proofs.by_key.by_key.Reads as by-key-contract
 use Rattle.examination.proofs.marking.mark as marking
 use Rattle.examination.proofs.marking.mark.Kinds as marking-kinds
 use Rattle.examination.proofs.marking.mark.Reads as marking-contract

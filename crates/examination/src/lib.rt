@@ -1,8 +1,9 @@
 // The examination: better-of-two, mark, marks out of a hundred, and the exports for the host.
 pub mod better;
+pub mod by_key;
 pub mod bytes;
 pub mod exports;
-pub mod hundred;
+mod hundred;
 pub mod marking;
 
 // Which of two sheets is the better.
@@ -37,7 +38,7 @@ pub enum MarkAnswer {
 }
 
 // A mark out of a hundred: the whole part, and what is left.
-pub struct OutOfHundred {
+struct OutOfHundred {
     pub mark: u32,
     pub remainder: u32,
 }

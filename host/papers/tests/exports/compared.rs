@@ -1,10 +1,10 @@
 //! Each export beside the papers, on one file.
 
+use crate::called;
 use crate::lent::{answer_row, row_length, Lent};
 use crate::{
-    examination_archive, examination_better, examination_by_key, examination_classes,
-    examination_hundred, examination_mark, examination_rate, examination_read, examination_search,
-    examination_wanted, examination_weighted,
+    examination_archive, examination_better, examination_classes, examination_rate,
+    examination_read, examination_search, examination_wanted, examination_weighted,
 };
 use papers::files::{any_budget, any_gap, any_sheet_bytes, bytes_of, Command, Dice};
 use papers::sections::archive::{archive, archive_form};
@@ -248,16 +248,7 @@ pub fn compare_mark(dice: &mut Dice, file: &[u8], sheet: &[u8], budget: u32, see
     let before = answer.clone();
     let (returned, row) = marked(mark_bytes(file, sheet, budget));
     let expected = row.map_or(before.clone(), |row| before.holding(&row));
-    let found = unsafe {
-        examination_mark(
-            file.as_ptr(),
-            file.len(),
-            sheet.as_ptr(),
-            sheet.len(),
-            budget,
-            answer.pointer().cast(),
-        )
-    };
+    let found = called::mark(file, sheet, budget, answer.pointer().cast());
     assert_eq!((found, answer), (returned, expected));
     seen.add(found);
 }
@@ -273,17 +264,8 @@ pub fn compare_hundred(dice: &mut Dice, file: &[u8], sheet: &[u8], budget: u32, 
         answer_after = answer.holding(&row);
         hundred_after = hundred.holding(&numbers.unwrap_or([0, 0]));
     }
-    let found = unsafe {
-        examination_hundred(
-            file.as_ptr(),
-            file.len(),
-            sheet.as_ptr(),
-            sheet.len(),
-            budget,
-            answer.pointer().cast(),
-            hundred.pointer().cast(),
-        )
-    };
+    let rows = (answer.pointer().cast(), hundred.pointer().cast());
+    let found = called::hundred(file, sheet, budget, rows);
     assert_eq!((found, answer), (returned, answer_after));
     assert_eq!(hundred, hundred_after);
     seen.add(found);
@@ -296,17 +278,7 @@ pub fn compare_by_key(dice: &mut Dice, file: &[u8], sheet: &[u8], key: &[u8], se
         Err(refusal) => (refused(refusal), before),
         Ok(paper) => (0, before.holding(&[paper.mark, paper.remainder])),
     };
-    let found = unsafe {
-        examination_by_key(
-            file.as_ptr(),
-            file.len(),
-            sheet.as_ptr(),
-            sheet.len(),
-            key.as_ptr(),
-            key.len(),
-            hundred.pointer().cast(),
-        )
-    };
+    let found = called::by_key(file, sheet, key, hundred.pointer().cast());
     assert_eq!((found, hundred), (returned, expected));
     seen.add(found);
 }

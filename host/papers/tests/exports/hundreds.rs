@@ -1,8 +1,8 @@
 //! Marks out of a hundred: with a search and by a key.
 
+use crate::called;
 use crate::compared::{compare_by_key, compare_hundred, small_budget, three_lines, Seen};
 use crate::lent::answer_row;
-use crate::{examination_by_key, examination_hundred, examination_mark};
 use papers::files::{
     any_sheet_bytes, bytes_of, roomy_file, sheet, sheet_bytes, valid_file, Command, Dice,
 };
@@ -84,51 +84,21 @@ fn keys_of_any_kind() {
 /// A mark with its search, its answer beside it and its two numbers.
 fn with_search(file: &[u8], sheet: &[u8], budget: u32) -> (u32, [u32; 6], [u32; 2]) {
     let (mut answer, mut hundred) = ([7; 6], [7; 2]);
-    let returned = unsafe {
-        examination_hundred(
-            file.as_ptr(),
-            file.len(),
-            sheet.as_ptr(),
-            sheet.len(),
-            budget,
-            &mut answer,
-            &mut hundred,
-        )
-    };
+    let returned = called::hundred(file, sheet, budget, (&mut answer, &mut hundred));
     (returned, answer, hundred)
 }
 
 /// The same without the two numbers.
 fn without(file: &[u8], sheet: &[u8], budget: u32) -> (u32, [u32; 6]) {
     let mut answer = [7; 6];
-    let (pointer, length) = (sheet.as_ptr(), sheet.len());
-    let returned = unsafe {
-        examination_mark(
-            file.as_ptr(),
-            file.len(),
-            pointer,
-            length,
-            budget,
-            &mut answer,
-        )
-    };
+    let returned = called::mark(file, sheet, budget, &mut answer);
     (returned, answer)
 }
 
 /// A sheet beside a key.
 fn by_key(file: &[u8], sheet: &[u8], key: &[u8]) -> (u32, [u32; 2]) {
     let mut hundred = [7; 2];
-    let returned = unsafe {
-        examination_by_key(
-            file.as_ptr(),
-            file.len(),
-            sheet.as_ptr(),
-            sheet.len(),
-            key.as_ptr(),
-            key.len(),
-            &mut hundred,
-        )
-    };
+    let returned = called::by_key(file, sheet, key, &mut hundred);
     (returned, hundred)
 }
 
@@ -221,17 +191,8 @@ fn rows_of_refused_marks() {
         let mut answer = answer_row::<6>(&mut dice).holding(&[content; 6]);
         let mut hundred = answer_row::<2>(&mut dice).holding(&[content; 2]);
         let before = (answer.clone(), hundred.clone());
-        let returned = unsafe {
-            examination_hundred(
-                file.as_ptr(),
-                file.len(),
-                [0; 8].as_ptr(),
-                8,
-                1_000,
-                answer.pointer().cast(),
-                hundred.pointer().cast(),
-            )
-        };
+        let rows = (answer.pointer().cast(), hundred.pointer().cast());
+        let returned = called::hundred(&file, &[0; 8], 1_000, rows);
         assert_eq!(
             (returned, answer, hundred),
             (15 * 65_536, before.0, before.1)

@@ -2,6 +2,7 @@
 //! the independent implementation: return values, answer rows and lent rows.
 
 mod budgets;
+mod called;
 mod compared;
 mod declared;
 mod ends;

@@ -1,4 +1,4 @@
--- `examination::hundred::by_key` meets its contract: it refuses as rate does on the sheet, then on the key, and otherwise divides the two least
+-- `examination::by_key::by_key` meets its contract: it refuses as rate does on the sheet, then on the key, and otherwise divides the two least
 -- gaps. Assumes nothing.
 use mathlib.Core.Path.{sym, ap, ap₂, _∙_}
 use mathlib.Core.List.{[], _∷_}
@@ -8,8 +8,8 @@ use Rattle.network.specs.Rate.{rateAnswer}
 use Rattle.network.specs.Reading.{readFile, values}
 use Rattle.examination.specs.ByKey.{keyAnswer}
 use Rattle.examination.proofs.Laws.Chosen.{RatedOn, rated-on, rated-least, key-sheet-refused, key-refused, key-rated}
-use Rattle.examination.proofs.hundred.by_key.Statement.{statement}
-use Rattle.examination.proofs.hundred.by_key.Tie as tie
+use Rattle.examination.proofs.by_key.by_key.Statement.{statement}
+use Rattle.examination.proofs.by_key.by_key.Tie as tie
 
 -- In the arm of `Rated` the sheet fits the file's network
 sheet-rated : (c : tie.After-known-told2)
