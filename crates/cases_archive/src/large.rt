@@ -1,4 +1,4 @@
-// The largest file: 16 lines, and 256 calls that stand by stop and then line. Its archive form has 3×16 + 5×256 + 1 = 1,329 bytes.
+// The largest file of edition 1: 16 lines, and 256 calls that stand by stop and then line. Its archive form has 3×16 + 5×256 + 1 = 1,329 bytes.
 use crate::shown::FILL;
 use crate::shown::show_answer;
 use crate::shown::show_commands;

@@ -74,6 +74,7 @@ fn command_length(byte: u8) -> usize
     match byte {
         0x4C => 3,
         0x43 => 5,
+        0x56 => 2,
         _ => 1,
     }
 }

@@ -4,6 +4,7 @@
 mod cases;
 mod cycle;
 mod edges;
+mod editions;
 mod grounds;
 mod limits;
 mod pairs;
@@ -16,4 +17,5 @@ fn main() {
     limits::all();
     tails::all();
     cycle::all();
+    editions::all();
 }

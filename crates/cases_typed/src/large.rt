@@ -8,25 +8,38 @@ pub fn large_file(lines: usize, callers: usize, period: u16, sloping: bool) -> [
     requires { ⌜ (lines ≤ 16) × (0 < callers) ⌝ }
 {
     let mut file = [0u8; 2048];
-    put_lines(&mut file, lines, period);
+    put_lines(&mut file, 0, lines, period);
     put_calls(&mut file, 3 * lines, callers, sloping);
     file
 }
 
-// The lines, in a file of zeros.
-fn put_lines(file: &mut [u8; 2048], lines: usize, period: u16)
-    requires { ⌜ lines ≤ 16 ⌝ }
+// The same behind an edition.
+pub fn large_file_in_edition(edition: u8, lines: usize, callers: usize, period: u16) -> [u8; 2048]
+    requires { ⌜ (lines ≤ 16) × (0 < callers) ⌝ }
+{
+    let mut file = [0u8; 2048];
+    file[0] = 0x56;
+    file[1] = edition;
+    put_lines(&mut file, 2, lines, period);
+    put_calls(&mut file, 2 + 3 * lines, callers, false);
+    file
+}
+
+// The lines, from a place on behind which there are zeros.
+fn put_lines(file: &mut [u8; 2048], from: usize, lines: usize, period: u16)
+    requires { ⌜ (from ≤ 2) × (lines ≤ 16) ⌝ }
 {
     for line in 0..lines {
-        file[3 * line] = 0x4C;
-        file[3 * line + 1] = (period / 256) as u8;
-        file[3 * line + 2] = (period % 256) as u8;
+        let at = from + 3 * line;
+        file[at] = 0x4C;
+        file[at + 1] = (period / 256) as u8;
+        file[at + 2] = (period % 256) as u8;
     }
 }
 
 // The calls, from a place on behind which there are zeros. Line times stop is at most the number of the call, so that it fits a byte.
 fn put_calls(file: &mut [u8; 2048], from: usize, callers: usize, sloping: bool)
-    requires { ⌜ (from ≤ 48) × (0 < callers) ⌝ }
+    requires { ⌜ (from ≤ 50) × (0 < callers) ⌝ }
 {
     for call in 0..256usize {
         let at = from + 5 * call;

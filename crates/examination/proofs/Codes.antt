@@ -62,7 +62,7 @@ unfolding status
 status-code e number place f = e ∙ rw f refl
 
 -- the archive call's is its length
-pub archive-status-tells : (o : Outcome) {returned : ℕ} → returned ≡ archiveStatus o → ((bytes : ℕ) (others : List ℕ) → o ≡ values (bytes ∷ others) → bytes ≤ 1329)
+pub archive-status-tells : (o : Outcome) {returned : ℕ} → returned ≡ archiveStatus o → ((bytes : ℕ) (others : List ℕ) → o ≡ values (bytes ∷ others) → bytes ≤ 1331)
     → ((number : ℕ) × (place : ℕ) × (o ≡ refusal number place)) ⊎ (returned < placeLimit)
 unfolding archiveStatus
 archive-status-tells (values []) e low = inr (omega (arith, e))

@@ -26,7 +26,7 @@ use Rattle.network.specs.Valid.{IsBytes}
 use Rattle.network.proofs.Demands.{ReadValues, read-values-of, RatedAs, rated-as, Classified, classified, Archives, archives}
 use Rattle.network.proofs.Laws.ArchiveCall.{archive-refuses, archive-refuses-only, archive-row-as-found, archive-answers, archive-answer-le}
 use Rattle.network.proofs.Laws.Gaps.{accepted-valid}
-use Rattle.network.proofs.Laws.Reading.{gives-what-is-read, refused-number, refused-place}
+use Rattle.network.proofs.Laws.Reading.{gives-what-is-read, refused-number-range, refused-place}
 use Rattle.network.proofs.Laws.Refusals.{read-refuses, read-refuses-only, sheet-answers, class-refuses, class-refuses-only}
 use Rattle.network.proofs.Laws.Refusals.{classes-as-found, weights-as-found, class-answers}
 use Rattle.network.proofs.Laws.Weighted.{weighted-is-rate}
@@ -83,7 +83,7 @@ answered before e f is = (e ∙ rw is refl, rw (f, is) refl)
 
 file-range : (file : List ℕ) (number place : ℕ) → Gives file (refused number place) → (1 ≤ number) × (place < placeLimit)
 file-range file number place g =
-    let e = gives-what-is-read g in omega (arith, refused-number file number place e, refused-place file number place e)
+    let e = gives-what-is-read g in omega (arith, refused-number-range file number place e, refused-place file number place e)
 
 -- .. and so of a call that adds a ground of its own, 15 to 18
 pub own-ground-range : {file : List ℕ} {ground : ℕ} {unfit : Net → Type 0} → 15 ≤ ground → ground ≤ 18 → (number place : ℕ) → Refuses file ground unfit number place

@@ -14,9 +14,9 @@ use lib.Dec.{eqb}
 use lib.IntN.{ℤ}
 use lib.ListN.{length, getD, take, drop}
 use lib.Seq.{take-at}
-use Rattle.network.specs.Lists.{countBelow}
+use Rattle.network.specs.Lists.{pick, countBelow}
 use Rattle.network.specs.Divisor.{Divides}
-use Rattle.network.specs.Network.{Net, maxLines, maxPeriod, maxCycle, maxStop, stopCount, maxCalls, isServed, servedStops, cycle}
+use Rattle.network.specs.Network.{Net, firstEdition, maxLines, maxPeriod, maxCycle, maxStop, stopCount, maxCalls, isServed, servedStops, cycle}
 use Rattle.network.specs.Reading.{Reading, Outcome, values, refusal, readFile, accepted, refused, readAnswer, readOutcome}
 use Rattle.network.specs.Gives.{Gives}
 use Rattle.network.specs.Refusals.{Refuses, Unfit, Not64, TooShort, Demand1}
@@ -36,7 +36,7 @@ use Rattle.network.proofs.Laws.Refusals.{read-refuses, read-refuses-onl
 use Rattle.network.proofs.Laws.Refusals.{class-refuses, class-refuses-only, classes-as-found, weights-as-found, class-answers}
 use Rattle.network.proofs.Laws.Tidy.{Sorted, tidy-sorted}
 use Rattle.network.proofs.Laws.Archive.{read-archive, same-tidied, archive-tidied, archive-of-same, same-of-archive, length-archive, archive-bytes}
-use Rattle.network.proofs.Laws.ArchiveCall.{archive-refuses, archive-refuses-only, archive-row-as-found, archive-answers}
+use Rattle.network.proofs.Laws.ArchiveCall.{archiveLength-le, archive-refuses, archive-refuses-only, archive-row-as-found, archive-answers}
 use Rattle.network.proofs.Laws.SameNetwork.{AnswersAlike, same-answers-alike}
 use Rattle.network.proofs.Laws.ByLines.{rating-by-lines}
 use Rattle.network.proofs.Laws.Rating.{rating-is-rating, IsRating-unique}
@@ -264,12 +264,12 @@ module _ (κs : Lfts 3) (a : ArgsD classes.signature κs) (r : ResD classes.sign
 
 -- ---- The archive call: a row that is long enough
 
--- The archive form of an accepted file's network (document 02, A.1)
+-- The archive form of an accepted file's network (document 02, A.1 and A.6)
 pub record IsArchive (n : Net) (form : List ℕ) : Type 0 where
-  pub length-is : length form ≡ 3 * length (n .periods) + 5 * length (n .calls) + 1
-  pub length-range : (9 ≤ length form) × (length form ≤ 1329)
+  pub length-is : length form ≡ pick (eqb (n .edition) firstEdition) 0 2 + 3 * length (n .periods) + 5 * length (n .calls) + 1
+  pub length-range : (9 ≤ length form) × (length form ≤ 1331)
   pub is-bytes : IsBytes form
-  -- reading it gives the same periods and offsets ..
+  -- reading it gives the same periods, offsets and edition ..
   pub read-back : Net
   pub reads : Gives form (accepted read-back)
   pub same-network : SameNetwork read-back n
@@ -283,7 +283,10 @@ unfolding archiveLength tidied
 is-archive {n} valid =
     record {
       length-is = length-archive n;
-      length-range = (omega (arith, length-archive n, valid .some-line, calls-some valid), omega (arith, length-archive n, valid .lines, valid .calls));
+      length-range = (
+        omega (arith, length-archive n, valid .some-line, calls-some valid),
+        omega (arith, length-archive n, archiveLength-le valid),
+      );
       is-bytes = archive-bytes valid;
       read-back = tidied n;
       reads = subst (Gives (archive n)) (read-archive valid) (readFile-gives (archive n));
@@ -332,7 +335,7 @@ module _ (κs : Lfts 2) (a : ArgsD archive-call.signature κs) (r : ResD archive
     (s : AtExit (endedOf 2 archive-kinds.ps archive-kinds.r) κs) (kept : archive-contract.Post κs a r s) (κs′ : Lfts 2)
     (a′ : ArgsD archive-call.signature κs′) (r′ : ResD archive-call.signature κs′) (s′ : AtExit (endedOf 2 archive-kinds.ps archive-kinds.r) κs′)
     (kept′ : archive-contract.Post κs′ a′ r′ s′) where
-  -- Two files have equal archive bytes exactly when their periods and offsets are equal
+  -- Two files have equal archive bytes exactly when their periods, offsets and edition are equal
   pub equal-archives : {m n : Net} → readFile (a .0 .now) ≡ accepted m → readFile (a′ .0 .now) ≡ accepted n → archiveLength m ≤ length (a .1 .0 .now)
       → archiveLength n ≤ length (a′ .1 .0 .now) → (take (archiveLength m) (s .1 .0 .now) ≡ take (archiveLength n) (s′ .1 .0 .now)) ↔ SameNetwork m n
   equal-archives {m} {n} reads reads′ room room′ =

@@ -12,6 +12,7 @@ pub mod Network
 pub mod Grounds
 pub mod Reading
 pub mod RunningCycle
+pub mod Editions
 pub mod Refusals
 pub mod Often
 pub mod Valid
@@ -36,6 +37,7 @@ pub mod Joined
 pub mod Sorted
 pub mod Archive
 pub mod ArchiveCall
+pub mod ArchiveCommands
 pub mod Representatives
 pub mod Alike
 pub mod AlikeGap

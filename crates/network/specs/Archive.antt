@@ -1,21 +1,25 @@
--- Document 02, A.1: the archive form of a network (its canonical form), lines in order, then calls by line and then stop, all as 43, then 45; and what
--- the archive call answers and leaves in the lent row.
+-- Document 02, A.1: the archive form of a network (its canonical form), lines in order, then calls by line and then stop, all as 43, then 45, with its 56
+-- first where the edition isn't 1 (A.6); and what the archive call answers and leaves in the lent row.
 use Prim.Native.Nat.{ℕ, _+_, _*_, _/_, _%_}
 use mathlib.Core.Path.{_≡_}
 use mathlib.Core.List.{List, [], _∷_, _++_}
-use lib.Dec.{leb}
+use lib.Dec.{eqb, leb}
 use lib.ListN.{length, drop}
 use Rattle.network.specs.declared.ArchiveAnswer.{ArchiveAnswer}
 use Rattle.network.specs.declared.ArchiveAnswer.the-variants as answer
 use Rattle.network.specs.declared.Call.{Call}
 use Rattle.network.specs.Lists.{pick, joined}
-use Rattle.network.specs.Network.{Net, withCalls}
+use Rattle.network.specs.Network.{Net, firstEdition, withCalls}
 use Rattle.network.specs.Tidy.{tidy, howOften}
 use Rattle.network.specs.Reading.{Reading, accepted, refused, Outcome, values, refusal}
 
 -- A number as two bytes, most significant byte first
 unfoldable pub wordBytes : ℕ → List ℕ
 wordBytes number = number / 256 ∷ number % 256 ∷ []
+
+-- 56 edition; edition 1 is stated by no command
+unfoldable pub editionBytes : ℕ → List ℕ
+editionBytes edition = pick (eqb edition firstEdition) [] (0x56 ∷ edition ∷ [])
 
 -- 4C period
 unfoldable pub lineBytes : ℕ → List ℕ
@@ -25,9 +29,9 @@ lineBytes period = 0x4C ∷ wordBytes period
 unfoldable pub callBytes : Call → List ℕ
 callBytes c = 0x43 ∷ c .line ∷ c .stop ∷ wordBytes (c .offset)
 
--- The file that states a network by these commands alone: its lines, then its calls in their order, then 45
+-- The file that states a network by these commands alone: its edition, its lines, then its calls in their order, then 45
 unfoldable pub fileOf : Net → List ℕ
-fileOf n = joined lineBytes (n .periods) ++ joined callBytes (n .calls) ++ (0x45 ∷ [])
+fileOf n = editionBytes (n .edition) ++ joined lineBytes (n .periods) ++ joined callBytes (n .calls) ++ (0x45 ∷ [])
 
 -- The network with its calls by line, then stop, then offset
 unfoldable pub tidied : Net → Net
@@ -37,12 +41,13 @@ tidied n = withCalls n (tidy (n .calls))
 unfoldable pub archive : Net → List ℕ
 archive n = fileOf (tidied n)
 
--- Its length
+-- Its length: two bytes for an edition that is stated, 3 for each line, 5 for each call, and 45
 unfoldable pub archiveLength : Net → ℕ
-archiveLength n = 3 * length (n .periods) + 5 * length (n .calls) + 1
+archiveLength n = pick (eqb (n .edition) firstEdition) 0 2 + 3 * length (n .periods) + 5 * length (n .calls) + 1
 
--- Periods and offsets are equal: the same periods line by line, and every call, a line at a stop with an offset, stated as often
+-- Periods, offsets and edition are equal: the same periods line by line, and every call, a line at a stop with an offset, stated as often
 pub record SameNetwork (m n : Net) : Type 0 where
+  pub same-edition : m .edition ≡ n .edition
   pub same-periods : m .periods ≡ n .periods
   pub same-calls : (c : Call) → howOften c (m .calls) ≡ howOften c (n .calls)
 

@@ -1,4 +1,5 @@
--- Document 01, "Grounds for refusing", the file's author: each command's grounds, in the order in which they are tried.
+-- Document 01, "Grounds for refusing", the file's author, with grounds 19 to 21 of document 02, A.6: each command's grounds, in the order in which they
+-- are tried.
 use Prim.Native.Nat.{ℕ, _+_}
 use mathlib.Core.Bool.{Bool, true, false, not, _||_}
 use mathlib.Core.List.{List, [], _∷_, _++_}
@@ -8,9 +9,9 @@ use Rattle.network.specs.declared.Check.{Check}
 use Rattle.network.specs.declared.Check.the-variants.{Passes, Refused}
 use Rattle.network.specs.Divisor.{lcm}
 use Rattle.network.specs.Lists.{allBelow}
-use Rattle.network.specs.Network.{Net, SoFar, Command, statesLine, callsByOffset, callsByRide, ends, unknown}
-use Rattle.network.specs.Network.{maxLines, maxPeriod, maxCycle, maxStop, maxOffset, maxCalls, maxCallsAtStop}
-use Rattle.network.specs.Network.{cycle, howOftenAt, callsAnywhere, word, operandBytes, lineOperand, stopOperand, rideOffset}
+use Rattle.network.specs.Network.{Net, SoFar, Command, statesLine, callsByOffset, callsByRide, ends, statesEdition, unknown}
+use Rattle.network.specs.Network.{firstEdition, latestEdition, maxLines, maxPeriod, maxCycle, maxStop, maxOffset, maxCalls, maxCallsAtStop}
+use Rattle.network.specs.Network.{cycle, howOftenAt, callsAnywhere, word, operandBytes, lineOperand, stopOperand, editionOperand, rideOffset}
 
 -- A ground has its number, the place that a refusal names, and the test by which it applies
 infix 1 _at_when_
@@ -32,6 +33,9 @@ cutOff c behind = ltb (length behind) (operandBytes c)
 
 unfoldable pub periodOutOfRange : ℕ → Bool
 periodOutOfRange period = ltb period 1 || ltb maxPeriod period
+
+unfoldable pub editionUnknown : ℕ → Bool
+editionUnknown edition = ltb edition firstEdition || ltb latestEdition edition
 
 -- A line without call
 unfoldable pub someLineSilent : Net → Bool
@@ -58,6 +62,7 @@ grounds statesLine f p behind =
 grounds callsByOffset f p behind = (3 at p when cutOff callsByOffset behind) ∷ callGrounds f p behind
 grounds callsByRide f p behind =
     (3 at p when cutOff callsByRide behind) ∷
+    (19 at p when ltb firstEdition (f .network .edition)) ∷
     callGrounds f p behind ++
     (11 at p when not (callsAnywhere (lineOperand behind) (f .network .calls))) ∷
     (12 at p when ltb maxOffset (rideOffset (f .network) behind)) ∷
@@ -65,4 +70,9 @@ grounds callsByRide f p behind =
 grounds ends f p behind =
     (13 at p when eqb (length (f .network .periods)) 0 || someLineSilent (f .network)) ∷
     (14 at p + 1 when leb 1 (length behind)) ∷
+    []
+grounds statesEdition f p behind =
+    (3 at p when cutOff statesEdition behind) ∷
+    (20 at p when ltb 0 p) ∷
+    (21 at p when editionUnknown (editionOperand behind)) ∷
     []

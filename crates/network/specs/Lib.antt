@@ -5,6 +5,7 @@ pub mod Tidy
 pub mod Grounds
 pub mod Reading
 pub mod Gives
+pub mod Editions
 pub mod Archive
 pub mod Refusals
 pub mod Valid

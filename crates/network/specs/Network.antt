@@ -1,4 +1,5 @@
--- Document 01, "The network file": what a file states, and its commands. A network is its lines' periods and its calls, both in file order.
+-- Document 01, "The network file": what a file states, and its commands. A network is its edition (document 02, A.6), its lines' periods and its calls,
+-- both in file order.
 use Prim.Native.Nat.{ℕ, _+_, _*_}
 use mathlib.Core.Bool.{Bool, _&&_}
 use mathlib.Core.List.{List, [], _∷_, _++_}
@@ -8,24 +9,37 @@ use Rattle.network.specs.declared.Call.{Call}
 use Rattle.network.specs.Divisor.{commonCycle}
 use Rattle.network.specs.Lists.{pick, any, keep, countBelow}
 
--- Lines count from 0 in the order of `periods`; a call has the fields `line`, `stop` and `offset`
+-- Lines count from 0 in the order of `periods`; a call has the fields `line`, `stop` and `offset`. The edition (format version) says which commands
+-- its file may have
 pub record Net : Type 0 where
+  pub edition : ℕ
   pub periods : List ℕ
   pub calls : List Call
 
--- The network of these periods and calls; a network with other periods, or other calls. No other line builds a network
-abbrev pub netWith : List ℕ → List Call → Net
-netWith periods calls = record { periods = periods; calls = calls }
+-- The network of this edition with these periods and calls; a network in another edition, with other periods, or other calls. No other line builds a
+-- network
+abbrev pub netWith : ℕ → List ℕ → List Call → Net
+netWith edition periods calls = record { edition = edition; periods = periods; calls = calls }
+
+abbrev pub withEdition : Net → ℕ → Net
+withEdition n edition = netWith edition (n .periods) (n .calls)
 
 abbrev pub withPeriods : Net → List ℕ → Net
-withPeriods n periods = netWith periods (n .calls)
+withPeriods n periods = netWith (n .edition) periods (n .calls)
 
 abbrev pub withCalls : Net → List Call → Net
-withCalls n calls = netWith (n .periods) calls
+withCalls n calls = netWith (n .edition) (n .periods) calls
+
+-- Document 02, A.6: the edition of a file that states none, and the last that is known
+abbrev pub firstEdition : ℕ
+firstEdition = 1
+
+abbrev pub latestEdition : ℕ
+latestEdition = 2
 
 -- The network before the first command
 abbrev pub emptyNet : Net
-emptyNet = netWith [] []
+emptyNet = netWith firstEdition [] []
 
 -- The limits of document 01
 abbrev pub maxLines : ℕ
@@ -100,12 +114,15 @@ pub data Command : Type 0 where
   callsByRide : Command
   -- 45
   ends : Command
+  -- 56 edition (1), of document 02, A.6
+  statesEdition : Command
   unknown : Command
 
 unfoldable pub command : ℕ → Command
 command b =
     pick (eqb b 0x4C) statesLine
-    (pick (eqb b 0x43) callsByOffset (pick (eqb b 0x46) callsByRide (pick (eqb b 0x45) ends unknown)))
+    (pick (eqb b 0x43) callsByOffset
+    (pick (eqb b 0x46) callsByRide (pick (eqb b 0x45) ends (pick (eqb b 0x56) statesEdition unknown))))
 
 -- How many bytes of operands a command has
 unfoldable pub operandBytes : Command → ℕ
@@ -113,6 +130,7 @@ operandBytes statesLine = 2
 operandBytes callsByOffset = 4
 operandBytes callsByRide = 4
 operandBytes ends = 0
+operandBytes statesEdition = 1
 operandBytes unknown = 0
 
 -- The operands of 43 and 46 ..
@@ -128,6 +146,10 @@ statedOffset operands = word operands 2
 
 unfoldable pub rideOffset : Net → List ℕ → ℕ
 rideOffset n operands = latestOffset (lineOperand operands) 0 (n .calls) + word operands 2
+
+-- The operand of 56
+unfoldable pub editionOperand : List ℕ → ℕ
+editionOperand operands = getD operands 0 0
 
 -- A network with one line or one call more
 unfoldable pub withLine : Net → ℕ → Net
@@ -161,4 +183,5 @@ extend statesLine f operands = withNetwork f (withLine (f .network) (word operan
 extend callsByOffset f operands = withNetwork f (withCall (f .network) (callOf operands (statedOffset operands)))
 extend callsByRide f operands = withNetwork f (withCall (f .network) (callOf operands (rideOffset (f .network) operands)))
 extend ends f operands = f
+extend statesEdition f operands = withNetwork f (withEdition (f .network) (editionOperand operands))
 extend unknown f operands = f

@@ -7,7 +7,7 @@ use Rattle.network.specs.declared.Check.{Check}
 use Rattle.network.specs.declared.Check.the-variants.{Passes, Refused}
 use Rattle.network.specs.declared.ReadAnswer.{ReadAnswer}
 use Rattle.network.specs.declared.ReadAnswer.the-variants as answer
-use Rattle.network.specs.Network.{Net, SoFar, nothingRead, Command, statesLine, callsByOffset, callsByRide, ends, unknown}
+use Rattle.network.specs.Network.{Net, SoFar, nothingRead, Command, statesLine, callsByOffset, callsByRide, ends, statesEdition, unknown}
 use Rattle.network.specs.Network.{command, operandBytes, extend, cycle, servedStops}
 use Rattle.network.specs.Grounds.{first, grounds}
 
@@ -23,6 +23,7 @@ proceed Passes statesLine f onward = onward
 proceed Passes callsByOffset f onward = onward
 proceed Passes callsByRide f onward = onward
 proceed Passes ends f onward = accepted (f .network)
+proceed Passes statesEdition f onward = onward
 proceed Passes unknown f onward = onward
 
 -- The file from place `p` on, of which `f` has been read before it; `operands` bytes belong to the command before and are passed over.

@@ -1,6 +1,6 @@
 -- Document 01, "Grounds for refusing, by their origin": when a call refuses, with which number and place; and what the order's first demand
 -- asks of a call.
-use Prim.Native.Nat.{ℕ, _<_}
+use Prim.Native.Nat.{ℕ, _<_, _≤_}
 use mathlib.Core.Path.{_≡_}
 use mathlib.Core.List.{List}
 use mathlib.Core.Logic.{_⊎_}
@@ -9,6 +9,10 @@ use lib.ListN.{length}
 use Rattle.network.specs.Network.{Net, stopCount}
 use Rattle.network.specs.Reading.{readFile, accepted, refused}
 use Rattle.network.specs.Archive.{archiveLength}
+
+-- The grounds of a file's author: document 01's fourteen, and 19 to 21 of document 02, A.6
+unfoldable pub OfFile : ℕ → Type 0
+OfFile number = ((1 ≤ number) × (number ≤ 14)) ⊎ ((19 ≤ number) × (number ≤ 21))
 
 -- A call on a file and what else is lent to it refuses by the file's own ground, at its place; or, after the file, at place 0, by the call's own
 -- ground (15 to 18) where what is lent doesn't fit the file's network

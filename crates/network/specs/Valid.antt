@@ -5,7 +5,7 @@ use mathlib.Core.Bool.{true}
 use mathlib.Core.List.{List}
 use lib.ListN.{length, getD}
 use Rattle.network.specs.declared.Call.{Call}
-use Rattle.network.specs.Network.{Net, maxLines, maxPeriod, maxCycle, maxStop, maxOffset, maxCalls, maxCallsAtStop, cycle, howOftenAt, callsAnywhere}
+use Rattle.network.specs.Network.{Net, firstEdition, latestEdition, maxLines, maxPeriod, maxCycle, maxStop, maxOffset, maxCalls, maxCallsAtStop, cycle, howOftenAt, callsAnywhere}
 
 -- A list of bytes
 unfoldable pub IsBytes : List ℕ → Type 0
@@ -16,6 +16,9 @@ abbrev pub noCall : Call
 noCall = record { line = 0; stop = 0; offset = 0 }
 
 pub record Valid (n : Net) : Type 0 where
+  -- the edition is known
+  pub edition-from : firstEdition ≤ n .edition
+  pub edition-to : n .edition ≤ latestEdition
   -- 1 to 16 lines
   pub some-line : 0 < length (n .periods)
   pub lines : length (n .periods) ≤ maxLines

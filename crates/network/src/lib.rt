@@ -49,17 +49,23 @@ impl Call {
     }
 }
 
-// A network: the periods of its lines and its calls, each packed, both in file order, and the common cycle. Of each row the first places
-// count: `lines` says how many places of `periods` count, and `count` says how many places of `list` count.
+// A network: the periods of its lines and its calls, each packed, both in file order, the common cycle, and its edition. Of each row the first
+// places count: `lines` says how many places of `periods` count, and `count` says how many places of `list` count.
 pub struct Network {
     pub lines: usize,
     pub periods: [u16; Network::MAX_LINES],
     pub count: usize,
     pub list: [u32; Network::MAX_CALLS],
     pub cycle: u32,
+    pub edition: u8,
 }
 
 impl Network {
+    // The edition of a file that states none, and the last that is known.
+    pub const FIRST_EDITION: u8 = 1;
+
+    pub const LATEST_EDITION: u8 = 2;
+
     pub const MAX_LINES: usize = 16;
 
     pub const MAX_PERIOD: u16 = 1440;
@@ -103,6 +109,7 @@ impl Network {
             count: 0,
             list: [0u32; Network::MAX_CALLS],
             cycle: 1,
+            edition: Network::FIRST_EDITION,
         }
     }
 
@@ -141,13 +148,15 @@ struct Totals {
     pub lines: usize,
     pub calls: usize,
     pub cycle: u32,
+    pub edition: u8,
 }
 
-// What a command tells: the ground that refuses it, or the line or call that it states, or that the file ends.
+// What a command tells: the ground that refuses it, or the line, call or edition that it states, or that the file ends.
 enum Parsed {
     Refused { number: u8, place: usize },
     Line { period: u16, cycle: u32 },
     Calls { call: Call },
+    Edition { edition: u8 },
     End,
 }
 

@@ -57,6 +57,7 @@ fn operand_bytes(code: u8) -> usize
         0x4C => 2,
         0x43 => 4,
         0x46 => 4,
+        0x56 => 1,
         _ => 0,
     }
 }
@@ -185,7 +186,7 @@ fn read_call(totals: Totals, often: &[u8; Network::TABLE], behind: &[u8], at: us
     }
 }
 
-// 46: the grounds of a call, then those of the ride.
+// 46: ground 19, the grounds of a call, then those of the ride.
 fn read_ride(
     totals: Totals,
     often: &[u8; Network::TABLE],
@@ -199,6 +200,12 @@ fn read_ride(
     if call_cut_off(behind) {
         return Parsed::Refused {
             number: 3,
+            place: at,
+        };
+    }
+    if Network::FIRST_EDITION < totals.edition {
+        return Parsed::Refused {
+            number: 19,
             place: at,
         };
     }
@@ -217,10 +224,10 @@ fn latest_of(latest: &[u32; Network::MAX_LINES], line: u8) -> u32
     latest[line as usize]
 }
 
-// 46 where the grounds of a call are passed: grounds 11 and 12, or a call. The sum is of 64 bits, so that it fits whatever the row holds.
+// 46 where ground 19 and the grounds of a call are passed: grounds 11 and 12, or a call. The sum is of 64 bits, so that it fits whatever the row holds.
 fn read_following_call(latest: &[u32; Network::MAX_LINES], behind: &[u8], at: usize) -> Parsed
     requires { ⌜ (4 ≤ length (now behind)) × (getD (now behind) 0 0 < net.maxLines) ⌝ }
-    ensures { λ r. ⌜ ((f : net.SoFar) → Latest (now (latest .entry)) (f .network .calls) → ground.first (ground.callGrounds f at (now (behind .entry))) ≡ Check.Passes → IsParsed net.callsByRide f at (now (behind .entry)) r) ⌝ }
+    ensures { λ r. ⌜ ((f : net.SoFar) → Latest (now (latest .entry)) (f .network .calls) → f .network .edition ≤ net.firstEdition → ground.first (ground.callGrounds f at (now (behind .entry))) ≡ Check.Passes → IsParsed net.callsByRide f at (now (behind .entry)) r) ⌝ }
 {
     let line = behind[0];
     let before = latest_of(latest, line);
@@ -284,6 +291,38 @@ fn read_end(lines: usize, latest: &[u32; Network::MAX_LINES], behind: &[u8], at:
     }
 }
 
+// 56: grounds 3, 20 and 21, or an edition. It may only open a file.
+fn read_edition(behind: &[u8], at: usize) -> Parsed
+    ensures { λ r. ⌜ ((f : net.SoFar) → IsParsed net.statesEdition f at (now (behind .entry)) r) ⌝ }
+{
+    if behind.len() < 1 {
+        return Parsed::Refused {
+            number: 3,
+            place: at,
+        };
+    }
+    if 0 < at {
+        return Parsed::Refused {
+            number: 20,
+            place: at,
+        };
+    }
+    let edition = behind[0];
+    if edition < Network::FIRST_EDITION {
+        return Parsed::Refused {
+            number: 21,
+            place: at,
+        };
+    }
+    if Network::LATEST_EDITION < edition {
+        return Parsed::Refused {
+            number: 21,
+            place: at,
+        };
+    }
+    Parsed::Edition { edition }
+}
+
 // One command: its grounds, or what it states. `behind` is the part of the file behind its byte.
 fn read_command(
     code: u8,
@@ -301,6 +340,7 @@ fn read_command(
         0x43 => read_call(totals, often, behind, at),
         0x46 => read_ride(totals, often, latest, behind, at),
         0x45 => read_end(totals.lines, latest, behind, at),
+        0x56 => read_edition(behind, at),
         _ => Parsed::Refused {
             number: 2,
             place: at,
@@ -326,11 +366,15 @@ pub fn read_network(file: &[u8]) -> Step
             lines: network.lines,
             calls: network.count,
             cycle: network.cycle,
+            edition: network.edition,
         };
         let parsed = read_command(code, totals, &often, &latest, behind, at);
         match parsed {
             Parsed::Refused { number, place } => return refused(network, number, place),
             Parsed::End => return passed(network),
+            Parsed::Edition { edition } => {
+                network.edition = edition;
+            }
             Parsed::Line { period, cycle } => {
                 let line = network.lines;
                 network.periods[line] = period;

@@ -21,7 +21,7 @@ use Rattle.network.specs.Reading.{Reading, accepted, refused, refusal, readFile
 use Rattle.network.specs.Refusals.{Refuses, by-file, after-file, Unfit}
 use Rattle.network.specs.Valid.{IsBytes}
 use Rattle.network.proofs.Laws.Lists.{zero-ne-one}
-use Rattle.network.proofs.Laws.Reading.{refused-number, refused-place}
+use Rattle.network.proofs.Laws.Reading.{refused-number-range, refused-place}
 use Rattle.network.proofs.Laws.Refusals.{on-sheet-refuses, on-sheet-refuses-only, read-refused-as, sheet-refuses, sheet-refuses-only, class-refuses-only}
 use Rattle.network.proofs.Laws.ArchiveCall.{archive-refuses-only}
 use Rattle.network.proofs.Laws.Gaps.{accepted-valid}
@@ -41,10 +41,10 @@ use Rattle.examination.proofs.Laws.Bytes.{sheetOf-fits, rated-on-bytes,
 
 -- ---- the numbers and places of refusals
 
--- A file's own refusal has number 1 to 14 and a place up to 1,329; a call's own ground stands at place 0
+-- A file's own refusal has number 1 to 21 and a place up to 1,331; a call's own ground stands at place 0
 pub refuses-range : {file : List ℕ} {ground : ℕ} {unfit : Net → Type 0} {number place : ℕ} → Refuses file ground unfit number place
-    → 15 ≤ ground → ground ≤ 18 → (1 ≤ number) × (number ≤ 18) × (place ≤ 1329)
-refuses-range {file} (by-file e) l h = omega (arith, refused-number file _ _ e, refused-place file _ _ e)
+    → 15 ≤ ground → ground ≤ 18 → (1 ≤ number) × (number ≤ 21) × (place ≤ 1331)
+refuses-range {file} (by-file e) l h = omega (arith, refused-number-range file _ _ e, refused-place file _ _ e)
 refuses-range (after-file e unfit) l h = omega arith
 
 -- ---- mark

@@ -1,28 +1,30 @@
--- The archive form: a file that states a valid network by lines, calls and the end is read back as that network, since each command passes and adds
+-- The archive form: a file that states a valid network by its edition, lines, calls and the end is read back as that network, since each command passes and adds
 -- what it states; so the archive form is read as the network with its calls in order, and settles the network. Assumes nothing.
 use Prim.Native.Nat.{ℕ, zero, suc, _+_, _*_, _<_, _≤_}
 use mathlib.Core.Path.{_≡_, refl, sym, ap, ap₂, subst, _∙_}
-use mathlib.Core.Bool.{_&&_}
+use mathlib.Core.Bool.{Bool, true, false, _&&_}
 use mathlib.Core.List.{List, [], _∷_, _++_, append-assoc, append-nil, List·Permᴰ, Permᴰ·symm}
 use native.Mathlib.Nat.{div-add-mod'}
 use native.Mathlib.Omega.{arith}
+use borrow.Author.Tests.{eqb-true, eqb-false}
 use lib.Dec.{eqb}
 use lib.ListN.{length, getD, take, drop, set, length-append}
-use lib.Seq.{getD-append-seam, take-at, drop-append-add, drop-drop}
+use lib.Seq.{getD-append-seam}
 use Rattle.network.specs.declared.Call.{Call}
-use Rattle.network.specs.Archive.{wordBytes, lineBytes, callBytes, fileOf, tidied, archive, archiveLength, SameNetwork}
+use Rattle.network.specs.Archive.{wordBytes, editionBytes, lineBytes, callBytes, fileOf, tidied, archive, archiveLength, SameNetwork}
 use Rattle.network.specs.Divisor.{commonCycle}
 use Rattle.network.specs.Grounds.{first}
-use Rattle.network.specs.Lists.{joined}
+use Rattle.network.specs.Lists.{pick, joined}
 use Rattle.network.specs.Network.{Net, netWith, soFar, nothingRead, callsByOffset, command, operandBytes}
-use Rattle.network.specs.Network.{maxLines, maxPeriod, maxCycle, maxStop, maxOffset, maxCalls, maxCallsAtStop}
+use Rattle.network.specs.Network.{firstEdition, latestEdition, maxLines, maxPeriod, maxCycle, maxStop, maxOffset, maxCalls, maxCallsAtStop}
 use Rattle.network.specs.Network.{cycle, howOftenAt, callsAnywhere, word, lineOperand, stopOperand, statedOffset, callOf, withLine, withCall, extend}
 use Rattle.network.specs.Reading.{accepted, readFrom, readFile}
 use Rattle.network.specs.Tidy.{tidy}
 use Rattle.network.specs.Valid.{IsBytes, noCall, Valid}
 use Rattle.network.proofs.Laws.Divisor.{commonCycle-snoc, commonCycle-prefix-le}
+use Rattle.network.proofs.Laws.Editions.{read-edition}
 use Rattle.network.proofs.Laws.Grounds.{LineFits, CallFits, line-fits-passes, offset-fits-passes, end-fits-passes}
-use Rattle.network.proofs.Laws.Joined.{length-joined, sets-behind}
+use Rattle.network.proofs.Laws.Joined.{length-joined, written-behind, sets-behind}
 use Rattle.network.proofs.Laws.Lists.{zero-ne-one}
 use Rattle.network.proofs.Laws.Members.{All}
 use Rattle.network.proofs.Laws.Often.{howOftenAt-before}
@@ -37,6 +39,31 @@ word-of-bytes : (number : ℕ) (rest : List ℕ) → word (wordBytes number ++ r
 unfolding word wordBytes
 word-of-bytes number rest = div-add-mod' number 256
 
+-- ---- the edition, which the first needs no bytes to state
+
+-- By whether it is the first
+pub edition-cases : (P : List ℕ → ℕ → Type 0) (edition : ℕ) → (edition ≡ firstEdition → P [] 0)
+    → ((edition ≡ firstEdition → ⊥) → P (0x56 ∷ edition ∷ []) 2) → P (editionBytes edition) (pick (eqb edition firstEdition) 0 2)
+unfolding editionBytes
+edition-cases P edition unstated stated = go (eqb edition firstEdition) (eqb-true edition firstEdition) (eqb-false edition firstEdition)
+  where
+    go : (t : Bool) → (t ≡ true → edition ≡ firstEdition) → (t ≡ false → edition ≡ firstEdition → ⊥)
+        → P (pick t [] (0x56 ∷ edition ∷ [])) (pick t 0 2)
+    go true is isnt = unstated (is refl)
+    go false is isnt = stated (isnt refl)
+
+pub length-edition : (edition : ℕ) → length (editionBytes edition) ≡ pick (eqb edition firstEdition) 0 2
+length-edition edition = edition-cases (λ bytes k. length bytes ≡ k) edition (λ e. refl) (λ h. refl)
+
+pub length-edition-le : (edition : ℕ) → length (editionBytes edition) ≤ 2
+length-edition-le edition = edition-cases (λ bytes k. length bytes ≤ 2) edition (λ e. omega arith) (λ h. omega arith)
+
+read-opening : (edition : ℕ) (rest : List ℕ) → firstEdition ≤ edition → edition ≤ latestEdition
+    → readFrom nothingRead 0 0 (editionBytes edition ++ rest) ≡ readFrom (soFar (netWith edition [] [])) (length (editionBytes edition)) 0 rest
+read-opening edition rest low high =
+    edition-cases (λ bytes k. readFrom nothingRead 0 0 (bytes ++ rest) ≡ readFrom (soFar (netWith edition [] [])) (length bytes) 0 rest) edition
+    (λ e. ap (λ (k : ℕ). readFrom (soFar (netWith k [] [])) 0 0 rest) (sym e)) (λ h. read-edition edition rest low high)
+
 -- ---- a line
 
 read-line : (n : Net) (p period : ℕ) (rest : List ℕ) → LineFits n (wordBytes period ++ rest)
@@ -47,9 +74,9 @@ read-line n p period rest fits =
     (ap (λ (t : ℕ). soFar (withLine n t)) (sym (word-of-bytes period rest)))
     ∙ ap (λ (q : ℕ). readFrom (soFar (withLine n period)) q 0 rest) (omega arith)
 
-module _ (all : List ℕ) (few : length all ≤ maxLines) (period-pos : (i : ℕ) → i < length all → 0 < getD all i 0)
+module _ (edition : ℕ) (all : List ℕ) (few : length all ≤ maxLines) (period-pos : (i : ℕ) → i < length all → 0 < getD all i 0)
     (period-max : (i : ℕ) → i < length all → getD all i 0 ≤ maxPeriod) (cycle-max : commonCycle all ≤ maxCycle) where
-  line-fits : (ps : List ℕ) (q : ℕ) (qs rest : List ℕ) → ps ++ (q ∷ qs) ≡ all → LineFits (netWith ps []) (wordBytes q ++ rest)
+  line-fits : (ps : List ℕ) (q : ℕ) (qs rest : List ℕ) → ps ++ (q ∷ qs) ≡ all → LineFits (netWith edition ps []) (wordBytes q ++ rest)
   unfolding cycle wordBytes
   line-fits ps q qs rest e =
       let here : length ps < length all = omega (arith, ap length e, length-append ps (q ∷ qs)) in
@@ -69,15 +96,15 @@ module _ (all : List ℕ) (few : length all ≤ maxLines) (period-pos : (i : ℕ
       }
 
   read-lines : (ps qs rest : List ℕ) (p : ℕ) → ps ++ qs ≡ all
-      → readFrom (soFar (netWith ps [])) p 0 (joined lineBytes qs ++ rest) ≡ readFrom (soFar (netWith all [])) (p + 3 * length qs) 0 rest
+      → readFrom (soFar (netWith edition ps [])) p 0 (joined lineBytes qs ++ rest) ≡ readFrom (soFar (netWith edition all [])) (p + 3 * length qs) 0 rest
   unfolding joined withLine
   read-lines ps [] rest p e =
-      ap₂ (λ (l : List ℕ) (q : ℕ). readFrom (soFar (netWith l [])) q 0 rest) (sym (append-nil ps) ∙ e) (omega arith)
+      ap₂ (λ (l : List ℕ) (q : ℕ). readFrom (soFar (netWith edition l [])) q 0 rest) (sym (append-nil ps) ∙ e) (omega arith)
   read-lines ps (q ∷ qs) rest p e =
-      ap (readFrom (soFar (netWith ps [])) p 0) (append-assoc (lineBytes q) (joined lineBytes qs) rest)
-      ∙ read-line (netWith ps []) p q (joined lineBytes qs ++ rest) (line-fits ps q qs (joined lineBytes qs ++ rest) e)
+      ap (readFrom (soFar (netWith edition ps [])) p 0) (append-assoc (lineBytes q) (joined lineBytes qs) rest)
+      ∙ read-line (netWith edition ps []) p q (joined lineBytes qs ++ rest) (line-fits ps q qs (joined lineBytes qs ++ rest) e)
       ∙ read-lines (ps ++ (q ∷ [])) qs rest (p + 3) (append-assoc ps (q ∷ []) qs ∙ e)
-      ∙ ap (λ (k : ℕ). readFrom (soFar (netWith all [])) k 0 rest) (omega arith)
+      ∙ ap (λ (k : ℕ). readFrom (soFar (netWith edition all [])) k 0 rest) (omega arith)
 
 -- ---- a call
 
@@ -97,9 +124,9 @@ read-call n p c rest fits =
     (ap (λ (d : Call). soFar (withCall n d)) (sym (call-of-bytes c rest)))
     ∙ ap (λ (q : ℕ). readFrom (soFar (withCall n c)) q 0 rest) (omega arith)
 
-module _ (periods : List ℕ) (all : List Call) (few : length all ≤ maxCalls) (line-stated : All noCall (λ c. c .line < length periods) all)
+module _ (edition : ℕ) (periods : List ℕ) (all : List Call) (few : length all ≤ maxCalls) (line-stated : All noCall (λ c. c .line < length periods) all)
     (stop-max : All noCall (λ c. c .stop ≤ maxStop) all) (often : (line stop : ℕ) → howOftenAt line stop all ≤ maxCallsAtStop) where
-  call-fits : (cs : List Call) (d : Call) (ds : List Call) (rest : List ℕ) → cs ++ (d ∷ ds) ≡ all → CallFits callsByOffset (netWith periods cs) (operandsOf d rest)
+  call-fits : (cs : List Call) (d : Call) (ds : List Call) (rest : List ℕ) → cs ++ (d ∷ ds) ≡ all → CallFits callsByOffset (netWith edition periods cs) (operandsOf d rest)
   unfolding operandBytes lineOperand stopOperand wordBytes
   call-fits cs d ds rest e =
       let here : length cs < length all = omega (arith, ap length e, length-append cs (d ∷ ds)) in
@@ -113,27 +140,30 @@ module _ (periods : List ℕ) (all : List Call) (few : length all ≤ maxCalls) 
       }
 
   read-calls : (cs ds : List Call) (rest : List ℕ) (p : ℕ) → cs ++ ds ≡ all
-      → readFrom (soFar (netWith periods cs)) p 0 (joined callBytes ds ++ rest) ≡ readFrom (soFar (netWith periods all)) (p + 5 * length ds) 0 rest
+      → readFrom (soFar (netWith edition periods cs)) p 0 (joined callBytes ds ++ rest) ≡ readFrom (soFar (netWith edition periods all)) (p + 5 * length ds) 0 rest
   unfolding joined withCall
   read-calls cs [] rest p e =
-      ap₂ (λ (l : List Call) (q : ℕ). readFrom (soFar (netWith periods l)) q 0 rest) (sym (append-nil cs) ∙ e) (omega arith)
+      ap₂ (λ (l : List Call) (q : ℕ). readFrom (soFar (netWith edition periods l)) q 0 rest) (sym (append-nil cs) ∙ e) (omega arith)
   read-calls cs (d ∷ ds) rest p e =
-      ap (readFrom (soFar (netWith periods cs)) p 0) (append-assoc (callBytes d) (joined callBytes ds) rest)
-      ∙ read-call (netWith periods cs) p d (joined callBytes ds ++ rest) (call-fits cs d ds (joined callBytes ds ++ rest) e)
+      ap (readFrom (soFar (netWith edition periods cs)) p 0) (append-assoc (callBytes d) (joined callBytes ds) rest)
+      ∙ read-call (netWith edition periods cs) p d (joined callBytes ds ++ rest) (call-fits cs d ds (joined callBytes ds ++ rest) e)
       ∙ read-calls (cs ++ (d ∷ [])) ds rest (p + 5) (append-assoc cs (d ∷ []) ds ∙ e)
-      ∙ ap (λ (k : ℕ). readFrom (soFar (netWith periods all)) k 0 rest) (omega arith)
+      ∙ ap (λ (k : ℕ). readFrom (soFar (netWith edition periods all)) k 0 rest) (omega arith)
 
 -- ---- the whole file
 
 pub read-fileOf : {n : Net} → Valid n → readFile (fileOf n) ≡ accepted n
 unfolding readFile fileOf cycle command
 read-fileOf {n} v =
+    let edition = editionBytes (n .edition) in
     let lines = joined lineBytes (n .periods) in
     let calls = joined callBytes (n .calls) in
-    let behind = 0 + 3 * length (n .periods) in
-    ap (readFrom nothingRead 0 0) (append-assoc lines calls (0x45 ∷ []))
-    ∙ read-lines (n .periods) (v .lines) (v .period-pos) (v .period) (v .cycle-max) [] (n .periods) (calls ++ (0x45 ∷ [])) 0 refl
-    ∙ read-calls (n .periods) (n .calls) (v .calls) (v .call-line) (v .call-stop) (v .often) [] (n .calls) (0x45 ∷ []) behind refl
+    let behind = length edition + 3 * length (n .periods) in
+    ap (readFrom nothingRead 0 0)
+    (append-assoc (edition ++ lines) calls (0x45 ∷ []) ∙ append-assoc edition lines (calls ++ (0x45 ∷ [])))
+    ∙ read-opening (n .edition) (lines ++ (calls ++ (0x45 ∷ []))) (v .edition-from) (v .edition-to)
+    ∙ read-lines (n .edition) (n .periods) (v .lines) (v .period-pos) (v .period) (v .cycle-max) [] (n .periods) (calls ++ (0x45 ∷ [])) (length edition) refl
+    ∙ read-calls (n .edition) (n .periods) (n .calls) (v .calls) (v .call-line) (v .call-stop) (v .often) [] (n .calls) (0x45 ∷ []) behind refl
     ∙ read-ended 0x45 (soFar n) (behind + 5 * length (n .calls)) []
     (end-fits-passes (soFar n) _ [] (record { some-line = v .some-line; every-line-calls = v .every-line-calls; last = refl })) refl
 
@@ -144,6 +174,8 @@ unfolding tidied cycle howOftenAt callsAnywhere
 tidied-valid {n} v =
     let π : List·Permᴰ (n .calls) (tidy (n .calls)) = Permᴰ·symm (tidy-is-permutation (n .calls)) in
     record {
+      edition-from = v .edition-from;
+      edition-to = v .edition-to;
       some-line = v .some-line;
       lines = v .lines;
       period-pos = v .period-pos;
@@ -167,17 +199,18 @@ read-archive v = read-fileOf (tidied-valid v)
 -- which is the same network
 pub same-tidied : (n : Net) → SameNetwork (tidied n) n
 unfolding tidied
-same-tidied n = record { same-periods = refl; same-calls = howOften-of-tidy (tidy (n .calls)) (n .calls) (tidy-tidy (n .calls)) }
+same-tidied n = record { same-edition = refl; same-periods = refl; same-calls = howOften-of-tidy (tidy (n .calls)) (n .calls) (tidy-tidy (n .calls)) }
 
 -- Its archive form is itself
 pub archive-tidied : (n : Net) → archive (tidied n) ≡ archive n
 unfolding archive tidied
-archive-tidied n = ap (λ (cs : List Call). fileOf (netWith (n .periods) cs)) (tidy-tidy (n .calls))
+archive-tidied n = ap (λ (cs : List Call). fileOf (netWith (n .edition) (n .periods) cs)) (tidy-tidy (n .calls))
 
 pub archive-of-same : {m n : Net} → SameNetwork m n → archive m ≡ archive n
 unfolding archive tidied
 archive-of-same {m} {n} same =
-    ap₂ (λ (ps : List ℕ) (cs : List Call). fileOf (netWith ps cs)) (same .same-periods) (tidy-of-howOften (m .calls) (n .calls) (same .same-calls))
+    ap₂ (λ (edition : ℕ) (ps : List ℕ). fileOf (netWith edition ps (tidy (m .calls)))) (same .same-edition) (same .same-periods)
+    ∙ ap (λ (cs : List Call). fileOf (netWith (n .edition) (n .periods) cs)) (tidy-of-howOften (m .calls) (n .calls) (same .same-calls))
 
 accepted-injective : {m n : Net} → accepted m ≡ accepted n → m ≡ n
 accepted-injective e = cc
@@ -187,6 +220,7 @@ unfolding tidied
 same-of-archive {m} {n} v w e =
     let equal : tidied m ≡ tidied n = accepted-injective (sym (read-archive v) ∙ ap readFile e ∙ read-archive w) in
     record {
+      same-edition = ap (λ (k : Net). k .edition) equal;
       same-periods = ap (λ (k : Net). k .periods) equal;
       same-calls = howOften-of-tidy (m .calls) (n .calls) (ap (λ (k : Net). k .calls) equal);
     }
@@ -202,10 +236,13 @@ length-call c = refl
 pub length-archive : (n : Net) → length (archive n) ≡ archiveLength n
 unfolding archive archiveLength fileOf tidied
 length-archive n =
-    length-append (joined lineBytes (n .periods) ++ joined callBytes (tidy (n .calls))) (0x45 ∷ [])
+    let edition = editionBytes (n .edition) in
+    length-append (edition ++ joined lineBytes (n .periods) ++ joined callBytes (tidy (n .calls))) (0x45 ∷ [])
     ∙ omega (
       arith,
-      length-append (joined lineBytes (n .periods)) (joined callBytes (tidy (n .calls))),
+      length-append (edition ++ joined lineBytes (n .periods)) (joined callBytes (tidy (n .calls))),
+      length-append edition (joined lineBytes (n .periods)),
+      length-edition (n .edition),
       length-joined lineBytes 3 length-line (n .periods),
       length-joined callBytes 5 length-call (tidy (n .calls)),
       length-tidy (n .calls),
@@ -223,6 +260,15 @@ bytes-joined : {A : Type 0} (f : A → List ℕ) (d : A) (xs : List A) → All d
 unfolding joined IsBytes
 bytes-joined f d [] h i = omega arith
 bytes-joined f d (x ∷ xs) h i = bytes-append (f x) (joined f xs) (h 0 (omega arith)) (bytes-joined f d xs (λ j l. h (suc j) (omega (arith, l)))) i
+
+edition-bytes : (edition : ℕ) → edition < 256 → IsBytes (editionBytes edition)
+unfolding IsBytes
+edition-bytes edition h = edition-cases (λ bytes k. IsBytes bytes) edition (λ e i. omega arith) (λ k. stated)
+  where
+    stated : (i : ℕ) → getD (0x56 ∷ edition ∷ []) i 0 < 256
+    stated zero = omega arith
+    stated (suc zero) = h
+    stated (suc (suc i)) = omega arith
 
 line-bytes : (period : ℕ) → period ≤ maxOffset → IsBytes (lineBytes period)
 unfolding IsBytes lineBytes wordBytes
@@ -248,9 +294,11 @@ end-byte (suc i) = omega arith
 fileOf-bytes : {n : Net} → Valid n → IsBytes (fileOf n)
 unfolding fileOf
 fileOf-bytes {n} v =
-    bytes-append (joined lineBytes (n .periods) ++ joined callBytes (n .calls)) (0x45 ∷ [])
-    (bytes-append (joined lineBytes (n .periods)) (joined callBytes (n .calls))
-    (bytes-joined lineBytes 0 (n .periods) (λ i h. line-bytes _ (omega (arith, v .period i h))))
+    let edition = editionBytes (n .edition) in
+    bytes-append (edition ++ joined lineBytes (n .periods) ++ joined callBytes (n .calls)) (0x45 ∷ [])
+    (bytes-append (edition ++ joined lineBytes (n .periods)) (joined callBytes (n .calls))
+    (bytes-append edition (joined lineBytes (n .periods)) (edition-bytes (n .edition) (omega (arith, v .edition-to)))
+    (bytes-joined lineBytes 0 (n .periods) (λ i h. line-bytes _ (omega (arith, v .period i h)))))
     (bytes-joined callBytes noCall (n .calls) (λ i h. call-bytes _ (limits v i h))))
     end-byte
 
@@ -258,27 +306,31 @@ pub archive-bytes : {n : Net} → Valid n → IsBytes (archive n)
 unfolding archive
 archive-bytes v = fileOf-bytes (tidied-valid v)
 
--- ---- written part by part: the lines, the calls behind them, and the end
+-- ---- written part by part: the edition, the lines and the calls one behind the other, and the end
 
-pub put-together : (n : Net) (lines calls : ℕ) (ds : List Call) (row lined called : List ℕ) → length (n .periods) ≡ lines → length (n .calls) ≡ calls
-    → ds ≡ tidy (n .calls) → 3 * lines + 5 * calls + 1 ≤ length row → lined ≡ joined lineBytes (n .periods) ++ drop (3 * lines) row
-    → called ≡ take (3 * lines) lined ++ joined callBytes ds ++ drop (3 * lines + 5 * calls) lined
-    → set called (3 * lines + 5 * calls) 0x45 ≡ archive n ++ drop (archiveLength n) row
+pub put-together : (n : Net) (width lines calls : ℕ) (ds : List Call) (row editioned lined called : List ℕ) → length (editionBytes (n .edition)) ≡ width
+    → length (n .periods) ≡ lines → length (n .calls) ≡ calls → ds ≡ tidy (n .calls) → width + 3 * lines + 5 * calls + 1 ≤ length row
+    → editioned ≡ editionBytes (n .edition) ++ drop width row
+    → lined ≡ take width editioned ++ joined lineBytes (n .periods) ++ drop (width + 3 * lines) editioned
+    → called ≡ take (width + 3 * lines) lined ++ joined callBytes ds ++ drop (width + 3 * lines + 5 * calls) lined
+    → set called (width + 3 * lines + 5 * calls) 0x45 ≡ archive n ++ drop (archiveLength n) row
 unfolding archive archiveLength fileOf tidied
-put-together n lines calls ds row lined called few many is room put-lines put-calls =
+put-together n width lines calls ds row editioned lined called wide few many is room put-edition put-lines put-calls =
+    let edition = editionBytes (n .edition) in
     let first = joined lineBytes (n .periods) in
     let second = joined callBytes (tidy (n .calls)) in
     let length-first : length first ≡ 3 * lines = length-joined lineBytes 3 length-line (n .periods) ∙ omega (arith, few) in
     let length-second : length second ≡ 5 * calls =
     length-joined callBytes 5 length-call (tidy (n .calls)) ∙ omega (arith, length-tidy (n .calls), many) in
-    let taken : take (3 * lines) lined ≡ first = ap (take (3 * lines)) put-lines ∙ take-at first (drop (3 * lines) row) (3 * lines) length-first in
-    let behind : drop (3 * lines + 5 * calls) lined ≡ drop (3 * lines + 5 * calls) row =
-    ap (drop (3 * lines + 5 * calls)) put-lines
-    ∙ ap (λ (k : ℕ). drop (k + 5 * calls) (first ++ drop (3 * lines) row)) (sym length-first)
-    ∙ drop-append-add first (drop (3 * lines) row) (5 * calls)
-    ∙ drop-drop (5 * calls) (3 * lines) row in
-    let both : length (first ++ second) ≡ 3 * lines + 5 * calls = length-append first second ∙ omega (arith, length-first, length-second) in
-    ap (λ (l : List ℕ). set l (3 * lines + 5 * calls) 0x45)
-    (put-calls ∙ ap₂ (λ (l r : List ℕ). l ++ joined callBytes ds ++ r) taken behind ∙ ap (λ (cs : List Call). first ++ joined callBytes cs ++ drop (3 * lines + 5 * calls) row) is)
-    ∙ sets-behind (first ++ second) (0x45 ∷ []) row (3 * lines + 5 * calls) 1 both refl room
-    ∙ ap (λ (k : ℕ). first ++ second ++ (0x45 ∷ []) ++ drop k row) (ap₂ (λ (a b : ℕ). 3 * a + 5 * b + 1) (sym few) (sym many))
+    let with-lines = written-behind edition row width (3 * lines) wide first editioned lined put-edition put-lines in
+    let before : length (edition ++ first) ≡ width + 3 * lines = length-append edition first ∙ omega (arith, wide, length-first) in
+    let put : called ≡ take (width + 3 * lines) lined ++ second ++ drop (width + 3 * lines + 5 * calls) lined =
+    put-calls ∙ ap (λ (cs : List Call). take (width + 3 * lines) lined ++ joined callBytes cs ++ drop (width + 3 * lines + 5 * calls) lined) is in
+    let with-calls = written-behind (edition ++ first) row (width + 3 * lines) (5 * calls) before second lined called with-lines put in
+    let all : length (edition ++ first ++ second) ≡ width + 3 * lines + 5 * calls =
+    length-append (edition ++ first) second ∙ omega (arith, before, length-second) in
+    ap (λ (l : List ℕ). set l (width + 3 * lines + 5 * calls) 0x45) with-calls
+    ∙ sets-behind (edition ++ first ++ second) row (width + 3 * lines + 5 * calls) 1 all (0x45 ∷ []) refl room
+    ∙ ap (λ (k : ℕ). edition ++ first ++ second ++ (0x45 ∷ []) ++ drop k row)
+    (ap₂ (λ (a b : ℕ). a + 3 * b + 5 * calls + 1) (sym wide ∙ length-edition (n .edition)) (sym few)
+    ∙ ap (λ (b : ℕ). pick (eqb (n .edition) firstEdition) 0 2 + 3 * length (n .periods) + 5 * b + 1) (sym many))

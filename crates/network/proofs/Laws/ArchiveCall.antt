@@ -1,16 +1,16 @@
 -- The archive call: what the answer and the row are in each case, and when it refuses, both ways: the definitions go by the reading and by one test of
 -- the row's length. Assumes nothing.
-use Prim.Native.Nat.{ℕ, _≤_, _<_}
+use Prim.Native.Nat.{ℕ, _+_, _*_, _≤_, _<_}
 use mathlib.Core.Path.{_≡_, refl, ap, _∙_}
 use mathlib.Core.Bool.{Bool, true, false}
 use mathlib.Core.List.{List, [], _∷_, _++_}
 use native.Mathlib.Omega.{arith}
 use borrow.Author.Tests.{le-leb, lt-leb, leb-false}
-use lib.Dec.{leb}
+use lib.Dec.{eqb, leb}
 use lib.ListN.{length, drop}
 use Rattle.network.specs.Archive.{archive, archiveLength, archiveOutcome, archiveRowAfter}
 use Rattle.network.specs.Lists.{pick}
-use Rattle.network.specs.Network.{Net}
+use Rattle.network.specs.Network.{Net, firstEdition}
 use Rattle.network.specs.Reading.{Reading, accepted, refused, Outcome, values, refusal, readFile}
 use Rattle.network.specs.Refusals.{Refuses, by-file, after-file, TooShort}
 use Rattle.network.specs.Valid.{IsBytes, Valid}
@@ -18,10 +18,14 @@ use Rattle.network.proofs.Laws.Lists.{zero-ne-one}
 use Rattle.network.proofs.Laws.Refusals.{same-refusal}
 use Rattle.network.proofs.Laws.Valid.{accepted-valid}
 
--- 16 lines and 256 calls at most
-archiveLength-le : {n : Net} → Valid n → archiveLength n ≤ 1329
+-- An edition, 16 lines and 256 calls at most
+pub archiveLength-le : {n : Net} → Valid n → archiveLength n ≤ 1331
 unfolding archiveLength
-archiveLength-le v = omega (arith, v .lines, v .calls)
+archiveLength-le {n} v = go (eqb (n .edition) firstEdition)
+  where
+    go : (t : Bool) → pick t 0 2 + 3 * length (n .periods) + 5 * length (n .calls) + 1 ≤ 1331
+    go true = omega (arith, v .lines, v .calls)
+    go false = omega (arith, v .lines, v .calls)
 
 -- The answer and the row afterwards
 abbrev pub Archived : Reading → List ℕ → Outcome → List ℕ → Type 0
@@ -75,19 +79,19 @@ module _ (file row : List ℕ) where
     pub archive-row-as-found : archiveRowAfter (readFile file) row ≡ row
     archive-row-as-found = archive-refused (readFile file) refl h .1
 
-  -- An answer is at most 1,329 bytes long
-  pub archive-answer-le : IsBytes file → (bytes : ℕ) (others : List ℕ) → archiveOutcome (readFile file) (length row) ≡ values (bytes ∷ others) → bytes ≤ 1329
+  -- An answer is at most 1,331 bytes long
+  pub archive-answer-le : IsBytes file → (bytes : ℕ) (others : List ℕ) → archiveOutcome (readFile file) (length row) ≡ values (bytes ∷ others) → bytes ≤ 1331
   unfolding archiveOutcome
   archive-answer-le is-bytes bytes others = go (readFile file) refl
     where
-      longest : (n : Net) → readFile file ≡ accepted n → archiveLength n ≤ 1329
+      longest : (n : Net) → readFile file ≡ accepted n → archiveLength n ≤ 1331
       longest n e = archiveLength-le (accepted-valid file n is-bytes e)
 
-      at : (n : Net) → readFile file ≡ accepted n → (b : Bool) → pick b (values (archiveLength n ∷ [])) (refusal 18 0) ≡ values (bytes ∷ others) → bytes ≤ 1329
+      at : (n : Net) → readFile file ≡ accepted n → (b : Bool) → pick b (values (archiveLength n ∷ [])) (refusal 18 0) ≡ values (bytes ∷ others) → bytes ≤ 1331
       at n e true f = let is : archiveLength n ≡ bytes = cc in rw (← is) (longest n e)
       at n e false f = absurd (zero-ne-one (cc))
 
-      go : (read : Reading) → readFile file ≡ read → archiveOutcome read (length row) ≡ values (bytes ∷ others) → bytes ≤ 1329
+      go : (read : Reading) → readFile file ≡ read → archiveOutcome read (length row) ≡ values (bytes ∷ others) → bytes ≤ 1331
       go (refused number place) e f = absurd (zero-ne-one (cc))
       go (accepted n) e f = at n e (leb (archiveLength n) (length row)) f
 

@@ -5,15 +5,17 @@ use mathlib.Core.Path.{_≡_, refl, ap, subst₂, _∙_}
 use native.Mathlib.Omega.{arith}
 use mathlib.Core.Bool.{Bool, true, false, not, or-true}
 use mathlib.Core.List.{List, [], _∷_, _++_}
+use mathlib.Core.Logic.{inl, inr}
 use lib.Dec.{eqb, ltb}
 use lib.ListN.{length}
 use borrow.Author.Tests.{lt-ltb, le-ltb, lt-leb, ne-eqb, ltb-false, leb-false, eqb-false, not-false}
 use Rattle.network.specs.declared.Check.the-variants.{Passes, Refused}
 use Rattle.network.specs.Divisor.{lcm}
-use Rattle.network.specs.Network.{Net, SoFar, Command, statesLine, callsByOffset, callsByRide, ends, unknown}
-use Rattle.network.specs.Network.{maxLines, maxPeriod, maxCycle, maxStop, maxOffset, maxCalls, maxCallsAtStop}
-use Rattle.network.specs.Network.{cycle, howOftenAt, callsAnywhere, word, operandBytes, lineOperand, stopOperand, rideOffset}
-use Rattle.network.specs.Grounds.{Ground, _at_when_, first, cutOff, periodOutOfRange, someLineSilent, callGrounds, grounds}
+use Rattle.network.specs.Network.{Net, SoFar, Command, statesLine, callsByOffset, callsByRide, ends, statesEdition, unknown}
+use Rattle.network.specs.Network.{firstEdition, latestEdition, maxLines, maxPeriod, maxCycle, maxStop, maxOffset, maxCalls, maxCallsAtStop}
+use Rattle.network.specs.Network.{cycle, howOftenAt, callsAnywhere, word, operandBytes, lineOperand, stopOperand, editionOperand, rideOffset}
+use Rattle.network.specs.Grounds.{Ground, _at_when_, first, cutOff, periodOutOfRange, editionUnknown, someLineSilent, callGrounds, grounds}
+use Rattle.network.specs.Refusals.{OfFile}
 use Rattle.network.proofs.Laws.Lists.{zero-ne-one, or-neither, or-none}
 use Rattle.network.proofs.Laws.Tables.{allBelow-at, allBelow-of-each}
 
@@ -69,6 +71,19 @@ period-too-long period h = rw (lt-ltb maxPeriod period h) (or-true (ltb period 1
 pub period-in-range : (period : ℕ) → 1 ≤ period → period ≤ maxPeriod → periodOutOfRange period ≡ false
 unfolding periodOutOfRange
 period-in-range period h k = rw (le-ltb period 1 h, le-ltb maxPeriod period k)
+
+-- The editions that are known
+pub edition-too-low : (edition : ℕ) → edition < firstEdition → editionUnknown edition ≡ true
+unfolding editionUnknown
+edition-too-low edition h = rw (lt-ltb edition firstEdition h)
+
+pub edition-too-high : (edition : ℕ) → latestEdition < edition → editionUnknown edition ≡ true
+unfolding editionUnknown
+edition-too-high edition h = rw (lt-ltb latestEdition edition h) (or-true (ltb edition firstEdition))
+
+pub edition-known : (edition : ℕ) → firstEdition ≤ edition → edition ≤ latestEdition → editionUnknown edition ≡ false
+unfolding editionUnknown
+edition-known edition h k = rw (le-ltb edition firstEdition h, le-ltb latestEdition edition k)
 
 -- ---- what it tells of a command that no ground applies
 
@@ -132,14 +147,15 @@ offset-passes f p behind e₀ =
     call-passes callsByOffset f p behind cut e₁
 
 pub ride-passes : (f : SoFar) (p : ℕ) (behind : List ℕ) → first (grounds callsByRide f p behind) ≡ Passes
-    → CallFits callsByRide (f .network) behind × (rideOffset (f .network) behind ≤ maxOffset)
+    → CallFits callsByRide (f .network) behind × (rideOffset (f .network) behind ≤ maxOffset) × (f .network .edition ≤ firstEdition)
 unfolding grounds
 ride-passes f p behind e₀ =
     let (cut, e) = first-passes _ _ _ _ e₀ in
-    let (shared, e₁) = first-append-passes (callGrounds f p behind) _ e in
+    let (retired, e′) = first-passes _ _ _ _ e in
+    let (shared, e₁) = first-append-passes (callGrounds f p behind) _ e′ in
     let (none, e₂) = first-passes _ _ _ _ e₁ in
     let (late, e₃) = first-passes _ _ _ _ e₂ in
-    (call-passes callsByRide f p behind cut shared, ltb-false _ _ late)
+    (call-passes callsByRide f p behind cut shared, ltb-false _ _ late, ltb-false _ _ retired)
 
 -- 43 and 46 are as long, so that ground 3 applies to both alike
 pub cut-off-alike : (behind : List ℕ) → cutOff callsByRide behind ≡ cutOff callsByOffset behind
@@ -165,6 +181,29 @@ end-passes f p behind e₀ =
       some-line = omega (arith, eqb-false (length (f .network .periods)) 0 empty);
       every-line-calls = λ i. allBelow-at (λ line. callsAnywhere line (f .network .calls)) (length (f .network .periods)) i (not-false _ silent);
       last = omega (arith, leb-false 1 (length behind) more);
+    }
+
+pub edition-not-end : statesEdition ≡ ends → ⊥
+edition-not-end e = zero-ne-one (cc)
+
+pub record EditionFits (p : ℕ) (behind : List ℕ) : Type 0 where
+  pub operands : 1 ≤ length behind
+  pub opens : p ≡ 0
+  pub from : firstEdition ≤ editionOperand behind
+  pub to : editionOperand behind ≤ latestEdition
+
+pub edition-passes : (f : SoFar) (p : ℕ) (behind : List ℕ) → first (grounds statesEdition f p behind) ≡ Passes → EditionFits p behind
+unfolding grounds editionUnknown operandBytes
+edition-passes f p behind e₀ =
+    let (cut, e₁) = first-passes _ _ _ _ e₀ in
+    let (late, e₂) = first-passes _ _ _ _ e₁ in
+    let (strange, e₃) = first-passes _ _ _ _ e₂ in
+    let (low, high) = or-neither _ _ strange in
+    record {
+      operands = not-cut-off statesEdition behind cut;
+      opens = omega (arith, ltb-false 0 p late);
+      from = ltb-false _ _ low;
+      to = ltb-false _ _ high;
     }
 
 -- ---- and where it fits, none applies
@@ -198,7 +237,15 @@ end-fits-passes f p behind fits =
     ∙ first-miss _ _ _ _ (lt-leb 1 (length behind) (omega (arith, fits .last)))
     ∙ first-none
 
--- ---- what a refusal names: a number of document 01's fourteen, and the command's place or, by ground 14, the next
+pub edition-fits-passes : (f : SoFar) (p : ℕ) (behind : List ℕ) → EditionFits p behind → first (grounds statesEdition f p behind) ≡ Passes
+unfolding grounds cutOff operandBytes
+edition-fits-passes f p behind fits =
+    first-miss _ _ _ _ (le-ltb _ _ (fits .operands))
+    ∙ first-miss _ _ _ _ (le-ltb 0 p (omega (arith, fits .opens)))
+    ∙ first-miss _ _ _ _ (edition-known _ (fits .from) (fits .to))
+    ∙ first-none
+
+-- ---- what a refusal names: a ground of the file, and the command's place or, by ground 14, the next
 
 abbrev AllNamed : (ℕ → ℕ → Type 0) → List Ground → Type 0
 AllNamed P [] = Unit {0}
@@ -212,18 +259,35 @@ first-named P ((m at q when true) ∷ gs) number place h e = let i : m ≡ numbe
 first-named P ((m at q when false) ∷ gs) number place h e = first-named P gs number place (h .1) e
 
 abbrev Named : ℕ → ℕ → ℕ → Type 0
-Named p number place = (1 ≤ number) × (number ≤ 14) × (p ≤ place) × (place ≤ p + 1)
+Named p number place = OfFile number × (p ≤ place) × (place ≤ p + 1)
+
+-- a ground of document 01, or of A.6
+old : {p number place : ℕ} → (1 ≤ number) × (number ≤ 14) × (p ≤ place) × (place ≤ p + 1) → Named p number place
+unfolding OfFile
+old (low, high, from, to) = (inl (low, high), from, to)
+
+new : {p number place : ℕ} → (19 ≤ number) × (number ≤ 21) × (p ≤ place) × (place ≤ p + 1) → Named p number place
+unfolding OfFile
+new (low, high, from, to) = (inr (low, high), from, to)
 
 grounds-named : (c : Command) (f : SoFar) (p : ℕ) (behind : List ℕ) → AllNamed (Named p) (grounds c f p behind)
 unfolding grounds callGrounds
-grounds-named statesLine f p behind = omega arith
-grounds-named callsByOffset f p behind = omega arith
-grounds-named callsByRide f p behind = omega arith
-grounds-named ends f p behind = omega arith
-grounds-named unknown f p behind = omega arith
+grounds-named statesLine f p behind = (old (omega arith), (old (omega arith), (old (omega arith), (old (omega arith), tt))))
+grounds-named callsByOffset f p behind =
+    (old (omega arith), (old (omega arith), (old (omega arith), (old (omega arith), (old (omega arith), tt)))))
+grounds-named callsByRide f p behind = (
+  old (omega arith),
+  (
+    new (omega arith),
+    (old (omega arith), (old (omega arith), (old (omega arith), (old (omega arith), (old (omega arith), (old (omega arith), tt)))))),
+  ),
+)
+grounds-named ends f p behind = (old (omega arith), (old (omega arith), tt))
+grounds-named statesEdition f p behind = (old (omega arith), (new (omega arith), (new (omega arith), tt)))
+grounds-named unknown f p behind = (old (omega arith), tt)
 
 pub refused-named : (c : Command) (f : SoFar) (p : ℕ) (behind : List ℕ) (number place : ℕ)
-    → first (grounds c f p behind) ≡ Refused number place → (1 ≤ number) × (number ≤ 14) × (p ≤ place) × (place ≤ p + 1)
+    → first (grounds c f p behind) ≡ Refused number place → OfFile number × (p ≤ place) × (place ≤ p + 1)
 refused-named c f p behind number place = first-named (Named p) (grounds c f p behind) number place (grounds-named c f p behind)
 
 -- .. and a refused line its own place

@@ -33,12 +33,24 @@ module _ {A : Type 0} (f : A → List ℕ) where
   length-joined k each [] = omega arith
   length-joined k each (x ∷ xs) = length-append (f x) (joined f xs) ∙ omega (arith, each x, length-joined k each xs)
 
--- A part written behind what has been written
-pub sets-behind : (xs part row : List ℕ) (at size : ℕ) → length xs ≡ at → length part ≡ size → at + size ≤ length row
-    → sets (xs ++ drop at row) at part ≡ xs ++ part ++ drop (at + size) row
-sets-behind xs part row at size e f h =
-    sets-eq part (xs ++ drop at row) at (omega (arith, f, h, e, length-append xs (drop at row), length-drop at row))
-    ∙ ap₂ (λ (l r : List ℕ). l ++ part ++ r) (take-at xs (drop at row) at e)
-    (ap (λ (k : ℕ). drop k (xs ++ drop at row)) (ap₂ _+_ (sym e) f)
-    ∙ drop-append-add xs (drop at row) size
-    ∙ drop-drop size at row)
+-- Behind what has been written stands what stood there
+module _ (xs row : List ℕ) (at size : ℕ) (e : length xs ≡ at) where
+  drop-behind : drop (at + size) (xs ++ drop at row) ≡ drop (at + size) row
+  drop-behind =
+      ap (λ (k : ℕ). drop (k + size) (xs ++ drop at row)) (sym e)
+      ∙ drop-append-add xs (drop at row) size
+      ∙ drop-drop size at row
+
+  -- A part written behind what has been written
+  pub sets-behind : (part : List ℕ) → length part ≡ size → at + size ≤ length row
+      → sets (xs ++ drop at row) at part ≡ xs ++ part ++ drop (at + size) row
+  sets-behind part f h =
+      sets-eq part (xs ++ drop at row) at (omega (arith, f, h, e, length-append xs (drop at row), length-drop at row))
+      ∙ ap₂ (λ (l r : List ℕ). l ++ part ++ r) (take-at xs (drop at row) at e)
+      (ap (λ (k : ℕ). drop (at + k) (xs ++ drop at row)) f ∙ drop-behind)
+
+  -- .. by what it leaves of the row before it
+  pub written-behind : (part before after : List ℕ) → before ≡ xs ++ drop at row → after ≡ take at before ++ part ++ drop (at + size) before
+      → after ≡ xs ++ part ++ drop (at + size) row
+  written-behind part before after b a =
+      a ∙ ap₂ (λ (l r : List ℕ). l ++ part ++ r) (ap (take at) b ∙ take-at xs (drop at row) at e) (ap (drop (at + size)) b ∙ drop-behind)

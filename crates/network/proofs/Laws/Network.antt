@@ -12,15 +12,17 @@ use Rattle.network.specs.Network.{Net, ends, unknown, command, operandBy
 use Rattle.network.proofs.Laws.Divisor.{commonCycle-snoc}
 
 -- A byte that is no command with operands
-module _ (b : ℕ) (not-line : b ≡ 0x4C → ⊥) (not-call : b ≡ 0x43 → ⊥) (not-ride : b ≡ 0x46 → ⊥) where
+module _ (b : ℕ) (not-line : b ≡ 0x4C → ⊥) (not-call : b ≡ 0x43 → ⊥) (not-ride : b ≡ 0x46 → ⊥) (not-edition : b ≡ 0x56 → ⊥) where
   pub command-unknown : (b ≡ 0x45 → ⊥) → command b ≡ unknown
   unfolding command
-  command-unknown f = rw (ne-eqb b 0x4C not-line, ne-eqb b 0x43 not-call, ne-eqb b 0x46 not-ride, ne-eqb b 0x45 f)
+  command-unknown f =
+      rw (ne-eqb b 0x4C not-line, ne-eqb b 0x43 not-call, ne-eqb b 0x46 not-ride, ne-eqb b 0x45 f, ne-eqb b 0x56 not-edition)
 
   -- neither 45 nor an unknown command has operands
   pub operandBytes-others : operandBytes (command b) ≡ 0
   unfolding command operandBytes
-  operandBytes-others = rw (ne-eqb b 0x4C not-line, ne-eqb b 0x43 not-call, ne-eqb b 0x46 not-ride) (go (eqb b 0x45))
+  operandBytes-others =
+      rw (ne-eqb b 0x4C not-line, ne-eqb b 0x43 not-call, ne-eqb b 0x46 not-ride, ne-eqb b 0x56 not-edition) (go (eqb b 0x45))
     where
       go : (t : Bool) → operandBytes (pick t ends unknown) ≡ 0
       go true = refl

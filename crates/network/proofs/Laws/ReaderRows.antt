@@ -8,7 +8,7 @@ use Rattle.network.specs.declared.Call.{Call}
 use Rattle.network.specs.declared.Network.{Network}
 use Rattle.network.specs.Network.{Net, maxLines, maxCycle, maxStop, maxCalls, cycle, withLine, withCall}
 use Rattle.network.specs.Engine.Stored.{netOf, packed, callIn, Sound, Latest, Often, ComesTo}
-use Rattle.network.proofs.Laws.Stored.{lineAdded, callAdded, sound-line, sound-call, call-added}
+use Rattle.network.proofs.Laws.Stored.{editionPut, lineAdded, callAdded, sound-edition, sound-line, sound-call, call-added}
 use Rattle.network.proofs.Laws.Latest.{latest-call}
 use Rattle.network.proofs.Laws.Often.{often-call}
 
@@ -26,6 +26,17 @@ pub record ReaderTurn (file : List ℕ) (n : Network) (often latest rest : List 
   pub comes-here : ComesTo file rest n
 
 module _ (n : Network) (often latest : List ℕ) (k : ReaderRows n often latest) where
+  pub rows-with-edition : (edition : ℕ) → ReaderRows (editionPut n edition) often latest
+  unfolding netOf
+  rows-with-edition edition =
+      record {
+        sound = sound-edition n edition (k .sound);
+        often-row = k .often-row;
+        often-is = k .often-is;
+        latest-row = k .latest-row;
+        latest-is = k .latest-is;
+      }
+
   pub rows-with-line : (period common : ℕ) → n .lines < maxLines → 0 < common → common ≤ maxCycle → common ≡ cycle (withLine (netOf n) period)
       → ReaderRows (lineAdded n period common) often latest
   unfolding netOf

@@ -1,9 +1,10 @@
--- Laws of reading a file: it is read from one command's place to the next, and each command that passes makes the network one line or one
--- call longer, which bounds the place. Assumes nothing.
+-- Laws of reading a file: it is read from one command's place to the next, and each command that passes opens the file or makes the network one line
+-- or one call longer, which bounds the place. Assumes nothing.
 use Prim.Native.Nat.{ℕ, zero, suc, _+_, _*_, _≤_, _<_}
 use mathlib.Core.Path.{_≡_, refl, sym, ap, _∙_, subst}
 use mathlib.Core.Bool.{Bool, true, false}
 use mathlib.Core.List.{List, [], _∷_, _++_}
+use mathlib.Core.Logic.{inl, ⊎-elim}
 use native.Mathlib.Omega.{arith}
 use lib.Dec.{ltb, leb}
 use lib.ListN.{length, getD, take, drop, length-append, length-take, length-drop}
@@ -12,14 +13,15 @@ use borrow.Author.Tests.{ltb-true, ltb-false, leb-true, leb-false, lt-ltb, le-lt
 use Rattle.network.specs.declared.Call.{Call}
 use Rattle.network.specs.declared.Check.{Check}
 use Rattle.network.specs.declared.Check.the-variants.{Passes, Refused}
-use Rattle.network.specs.Network.{Net, SoFar, nothingRead, Command, statesLine, callsByOffset, callsByRide, ends, unknown}
-use Rattle.network.specs.Network.{maxLines, maxCalls, command, operandBytes, word, lineOperand, stopOperand}
-use Rattle.network.specs.Network.{statedOffset, rideOffset, withLine, withCall, callOf, withNetwork, extend}
+use Rattle.network.specs.Network.{Net, SoFar, nothingRead, Command, statesLine, callsByOffset, callsByRide, ends, statesEdition, unknown}
+use Rattle.network.specs.Network.{maxLines, maxCalls, command, operandBytes, word, lineOperand, stopOperand, editionOperand}
+use Rattle.network.specs.Network.{statedOffset, rideOffset, withEdition, withLine, withCall, callOf, withNetwork, extend}
 use Rattle.network.specs.Grounds.{first, grounds, callGrounds, cutOff}
 use Rattle.network.specs.Reading.{Reading, accepted, refused, proceed, readFrom, readFile}
 use Rattle.network.specs.Gives.{Reached, start, next, Gives, runs-out, refuses, accepts}
 use Rattle.network.proofs.Laws.Lists.{zero-ne-one}
-use Rattle.network.proofs.Laws.Grounds.{line-passes, offset-passes, ride-passes, refused-named}
+use Rattle.network.specs.Refusals.{OfFile}
+use Rattle.network.proofs.Laws.Grounds.{line-passes, offset-passes, ride-passes, edition-passes, refused-named}
 
 -- The operands of the command before are passed over
 pub readFrom-skip : (f : SoFar) (p k : ℕ) (bs : List ℕ) → k ≤ length bs → readFrom f p k bs ≡ readFrom f (p + k) 0 (drop k bs)
@@ -37,12 +39,13 @@ passes-operands statesLine f p behind e = line-passes f p behind e .operands
 passes-operands callsByOffset f p behind e = offset-passes f p behind e .operands
 passes-operands callsByRide f p behind e = ride-passes f p behind e .0 .operands
 passes-operands ends f p behind e = omega arith
+passes-operands statesEdition f p behind e = edition-passes f p behind e .operands
 passes-operands unknown f p behind e = omega arith
 
 -- ---- how many lines and calls are stated before a place
 
 pub record Within (f : SoFar) (p : ℕ) : Type 0 where
-  pub place : p ≤ 3 * length (f .network .periods) + 5 * length (f .network .calls)
+  pub place : p ≤ 2 + 3 * length (f .network .periods) + 5 * length (f .network .calls)
   pub lines : length (f .network .periods) ≤ maxLines
   pub calls : length (f .network .calls) ≤ maxCalls
 
@@ -61,6 +64,9 @@ within-call f p c room r =
     let e : length (f .network .calls ++ (c ∷ [])) ≡ length (f .network .calls) + 1 = length-append (f .network .calls) (c ∷ []) in
     record { place = omega arith; lines = r .lines; calls = omega arith }
 
+within-edition : (f : SoFar) (p : ℕ) (edition : ℕ) → p ≡ 0 → Within f p → Within (withNetwork f (withEdition (f .network) edition)) (p + 1 + 1)
+within-edition f p edition opens r = record { place = omega arith; lines = r .lines; calls = r .calls }
+
 -- The next command's place, behind one that passes
 within-next : (c : Command) (f : SoFar) (p : ℕ) (behind : List ℕ) → first (grounds c f p behind) ≡ Passes → (c ≡ ends → ⊥)
     → Within f p → Within (extend c f behind) (p + 1 + operandBytes c)
@@ -69,12 +75,13 @@ within-next statesLine f p behind e h r = within-line f p _ (line-passes f p beh
 within-next callsByOffset f p behind e h r = within-call f p _ (offset-passes f p behind e .room) r
 within-next callsByRide f p behind e h r = within-call f p _ (ride-passes f p behind e .0 .room) r
 within-next ends f p behind e h r = absurd (h refl)
+within-next statesEdition f p behind e h r = within-edition f p _ (edition-passes f p behind e .opens) r
 within-next unknown f p behind e h r = absurd (zero-ne-one (cc))
 
 -- ---- the places to which the reader comes, and what the file gives
 
 -- What a command does with the reading behind it: nothing, where it refuses or ends, and else it hands it on
-proceed-cases : (P : (Reading → Reading) → Type 0) (q : Check) (c : Command) (f : SoFar)
+pub proceed-cases : (P : (Reading → Reading) → Type 0) (q : Check) (c : Command) (f : SoFar)
     → ((number place : ℕ) → q ≡ Refused number place → P (λ onward. refused number place))
     → (c ≡ ends → q ≡ Passes → P (λ onward. accepted (f .network)))
     → ((c ≡ ends → ⊥) → q ≡ Passes → P (λ onward. onward))
@@ -85,6 +92,7 @@ proceed-cases P Passes statesLine f x y z = z (λ e. zero-ne-one (cc)) refl
 proceed-cases P Passes callsByOffset f x y z = z (λ e. zero-ne-one (cc)) refl
 proceed-cases P Passes callsByRide f x y z = z (λ e. zero-ne-one (cc)) refl
 proceed-cases P Passes ends f x y z = y refl refl
+proceed-cases P Passes statesEdition f x y z = z (λ e. zero-ne-one (cc)) refl
 proceed-cases P Passes unknown f x y z = z (λ e. zero-ne-one (cc)) refl
 
 -- By the number of bytes that are left
@@ -115,6 +123,7 @@ proceed-onward statesLine f onward h = refl
 proceed-onward callsByOffset f onward h = refl
 proceed-onward callsByRide f onward h = refl
 proceed-onward ends f onward h = absurd (h refl)
+proceed-onward statesEdition f onward h = refl
 proceed-onward unknown f onward h = refl
 
 module _ (b : ℕ) (f : SoFar) (p : ℕ) (behind : List ℕ) where
@@ -182,19 +191,26 @@ module _ {file : List ℕ} where
 
 -- ---- what a reading tells
 
--- A refusal's place is at most 3 * 16 + 5 * 256, or one more by ground 14
-gives-named : {file : List ℕ} {number place : ℕ} → Gives file (refused number place) → (1 ≤ number) × (number ≤ 14) × (place ≤ 1329)
-gives-named (runs-out r) = omega (arith, reached-within r)
+-- A refusal's place is at most 2 + 3 * 16 + 5 * 256, or one more by ground 14
+gives-named : {file : List ℕ} {number place : ℕ} → Gives file (refused number place) → OfFile number × (place ≤ 1331)
+unfolding OfFile
+gives-named (runs-out r) = (inl (omega arith), omega (arith, reached-within r))
 gives-named {number = number} {place = place} (refuses {f = f} {p = p} {b = b} {behind = behind} r e) =
-    omega (arith, reached-within r, refused-named (command b) f p behind number place e)
+    let (of-file, low, high) = refused-named (command b) f p behind number place e in (of-file, omega (arith, reached-within r, high))
 
-pub refused-place : (file : List ℕ) (number place : ℕ) → readFile file ≡ refused number place → place ≤ 1329
-refused-place file number place e = gives-named (rw e at (readFile-gives file)) .2
+pub refused-place : (file : List ℕ) (number place : ℕ) → readFile file ≡ refused number place → place ≤ 1331
+refused-place file number place e = gives-named (rw e at (readFile-gives file)) .1
 
-pub refused-number : (file : List ℕ) (number place : ℕ) → readFile file ≡ refused number place → (1 ≤ number) × (number ≤ 14)
-refused-number file number place e = omega (arith, gives-named (rw e at (readFile-gives file)))
+pub refused-number : (file : List ℕ) (number place : ℕ) → readFile file ≡ refused number place → OfFile number
+refused-number file number place e = gives-named (rw e at (readFile-gives file)) .0
 
--- ---- the first 4,096 bytes decide: a command that is read stands at 1,328 or before, and looks at four bytes behind it at most
+-- .. which is 1 to 21
+pub refused-number-range : (file : List ℕ) (number place : ℕ) → readFile file ≡ refused number place → (1 ≤ number) × (number ≤ 21)
+unfolding OfFile
+refused-number-range file number place e =
+    ⊎-elim (λ r. omega (arith, r)) (λ r. omega (arith, r)) (refused-number file number place e)
+
+-- ---- the first 4,096 bytes decide: a command that is read stands at 1,330 or before, and looks at four bytes behind it at most
 
 ltb-take : (m k : ℕ) (l : List ℕ) → k ≤ m → ltb (length (take m l)) k ≡ ltb (length l) k
 ltb-take m k l h = go (ltb (length l) k) refl
@@ -226,6 +242,10 @@ module _ (m : ℕ) (enough : 4 ≤ m) (behind : List ℕ) where
   unfolding stopOperand
   stop-take = at-take 1 (omega arith)
 
+  edition-take : editionOperand (take m behind) ≡ editionOperand behind
+  unfolding editionOperand
+  edition-take = at-take 0 (omega arith)
+
   ride-take : (n : Net) → rideOffset n (take m behind) ≡ rideOffset n behind
   unfolding rideOffset
   ride-take n = rw (line-take, word-take 2 (omega arith))
@@ -236,6 +256,7 @@ module _ (m : ℕ) (enough : 4 ≤ m) (behind : List ℕ) where
   extend-take callsByOffset f = rw (line-take, stop-take, word-take 2 (omega arith))
   extend-take callsByRide f = rw (line-take, stop-take, ride-take)
   extend-take ends f = refl
+  extend-take statesEdition f = rw edition-take
   extend-take unknown f = refl
 
   cut-off-take : (c : Command) → cutOff c (take m behind) ≡ cutOff c behind
@@ -244,6 +265,7 @@ module _ (m : ℕ) (enough : 4 ≤ m) (behind : List ℕ) where
   cut-off-take callsByOffset = ltb-take m 4 behind enough
   cut-off-take callsByRide = ltb-take m 4 behind enough
   cut-off-take ends = ltb-take m 0 behind (omega arith)
+  cut-off-take statesEdition = ltb-take m 1 behind (omega arith)
   cut-off-take unknown = ltb-take m 0 behind (omega arith)
 
   call-grounds-take : (f : SoFar) (p : ℕ) → callGrounds f p (take m behind) ≡ callGrounds f p behind
@@ -256,9 +278,10 @@ module _ (m : ℕ) (enough : 4 ≤ m) (behind : List ℕ) where
   grounds-take callsByOffset f p = rw (cut-off-take callsByOffset, call-grounds-take)
   grounds-take callsByRide f p = rw (cut-off-take callsByRide, call-grounds-take, line-take, ride-take)
   grounds-take ends f p = rw (leb-take m 1 behind (omega arith))
+  grounds-take statesEdition f p = rw (cut-off-take statesEdition, edition-take)
   grounds-take unknown f p = refl
 
-readFrom-take : (f : SoFar) (p k m : ℕ) (bs : List ℕ) → Within f (p + k) → 1333 ≤ p + m → readFrom f p k (take m bs) ≡ readFrom f p k bs
+readFrom-take : (f : SoFar) (p k m : ℕ) (bs : List ℕ) → Within f (p + k) → 1335 ≤ p + m → readFrom f p k (take m bs) ≡ readFrom f p k bs
 unfolding readFrom
 readFrom-take f p k zero bs r h = absurd (omega arith)
 readFrom-take f p k (suc m) [] r h = refl

@@ -7,7 +7,7 @@ use native.Mathlib.Omega.{arith}
 use lib.ListN.{length, getD}
 use Rattle.network.specs.declared.Check.the-variants.{Passes}
 use Rattle.network.specs.Divisor.{IsLeastCommonMultiple}
-use Rattle.network.specs.Network.{SoFar, Command, statesLine, callsByOffset, callsByRide, ends, unknown, word, cycle, maxCycle, withLine, withCall, command, extend}
+use Rattle.network.specs.Network.{SoFar, Command, statesLine, callsByOffset, callsByRide, ends, statesEdition, unknown, word, cycle, maxCycle, withLine, withCall, command, extend}
 use Rattle.network.specs.Grounds.{first, grounds}
 use Rattle.network.specs.Gives.{Reached, start, next}
 use Rattle.network.proofs.Laws.Members.{all-snoc}
@@ -25,6 +25,7 @@ positive-next statesLine f p behind e h = all-snoc 0 (λ q. 0 < q) (f .network .
 positive-next callsByOffset f p behind e h = h
 positive-next callsByRide f p behind e h = h
 positive-next ends f p behind e h = h
+positive-next statesEdition f p behind e h = h
 positive-next unknown f p behind e h = h
 
 module _ {file : List ℕ} where
@@ -60,4 +61,5 @@ module _ (f : SoFar) (behind : List ℕ) where
   others-state-no-line callsByOffset h = (refl, refl)
   others-state-no-line callsByRide h = (refl, refl)
   others-state-no-line ends h = (refl, refl)
+  others-state-no-line statesEdition h = (refl, refl)
   others-state-no-line unknown h = (refl, refl)

@@ -29,7 +29,9 @@ use Rattle.network.proofs.Laws.Tidy.{length-tidy, tidy-is-permutation, 
 -- One network, with its calls in order
 pub tidied-same : {m n : Net} → SameNetwork m n → tidied m ≡ tidied n
 unfolding tidied
-tidied-same {m} {n} same = ap₂ netWith (same .same-periods) (tidy-of-howOften (m .calls) (n .calls) (same .same-calls))
+tidied-same {m} {n} same =
+    ap₂ (λ (edition : ℕ) (ps : List ℕ). netWith edition ps (tidy (m .calls))) (same .same-edition) (same .same-periods)
+    ∙ ap (netWith (n .edition) (n .periods)) (tidy-of-howOften (m .calls) (n .calls) (same .same-calls))
 
 -- ---- served stops, the read call
 

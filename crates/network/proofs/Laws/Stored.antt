@@ -12,7 +12,7 @@ use Rattle.network.specs.declared.Call.{Call}
 use Rattle.network.specs.declared.Check.the-variants.{Passes, Refused}
 use Rattle.network.specs.declared.Network.{Network}
 use Rattle.network.specs.declared.Parsed.the-variants as parsed
-use Rattle.network.specs.Network.{Net, netWith, SoFar, withNetwork, Command, callsByOffset, callsByRide, ends, extend}
+use Rattle.network.specs.Network.{netWith, SoFar, withNetwork, withEdition, withCalls, Command, callsByOffset, callsByRide, ends, extend}
 use Rattle.network.specs.Network.{maxLines, maxCycle, maxStop, maxCalls, maxCallsAtStop, cycle, howOftenAt, word, callOf, withLine, withCall}
 use Rattle.network.specs.Valid.{Valid, IsBytes, noCall}
 use Rattle.network.specs.Reading.{accepted, refused}
@@ -22,7 +22,7 @@ use Rattle.network.specs.Engine.Stored.{netOf, packed, callIn, callsIn, 
 use Rattle.network.proofs.Laws.Lists.{zero-ne-one, map-set, take-set-next}
 use Rattle.network.proofs.Laws.Divisor.{lcm-pos}
 use Rattle.network.proofs.Laws.Network.{cycle-withLine}
-use Rattle.network.proofs.Laws.Grounds.{CallFits, line-not-end, line-passes, offset-passes, ride-passes}
+use Rattle.network.proofs.Laws.Grounds.{CallFits, line-not-end, edition-not-end, line-passes, offset-passes, ride-passes}
 
 pub held-lines : (n : Network) → Sound n → length (netOf n .periods) ≡ n .lines
 unfolding netOf
@@ -55,22 +55,45 @@ module _ (n : Network) (s : Sound n) (v : Valid (netOf n)) where
   pub held-period-pos : (line : ℕ) → line < n .lines → 0 < getD (n .periods) line 0
   held-period-pos line h = rw (held-period n line h) at (v .period-pos line (rw (held-lines n s) h))
 
--- ---- one line or one call more, written behind those that count
+-- ---- another edition, or one line or one call more, written behind those that count
+
+abbrev pub editionPut : Network → ℕ → Network
+editionPut n edition =
+    record { edition = edition; lines = n .lines; periods = n .periods; count = n .count; list = n .list; cycle = n .cycle }
 
 abbrev pub lineAdded : Network → ℕ → ℕ → Network
 lineAdded n period common =
-    record { lines = n .lines + 1; periods = set (n .periods) (n .lines) period; count = n .count; list = n .list; cycle = common }
+    record { edition = n .edition; lines = n .lines + 1; periods = set (n .periods) (n .lines) period; count = n .count; list = n .list; cycle = common }
 
 abbrev pub callAdded : Network → ℕ → Network
 callAdded n code =
-    record { lines = n .lines; periods = n .periods; count = n .count + 1; list = set (n .list) (n .count) code; cycle = n .cycle }
+    record { edition = n .edition; lines = n .lines; periods = n .periods; count = n .count + 1; list = set (n .list) (n .count) code; cycle = n .cycle }
+
+module _ (n : Network) (edition : ℕ) where
+  pub edition-put : netOf (editionPut n edition) ≡ withEdition (netOf n) edition
+  unfolding netOf
+  edition-put = refl
+
+  pub sound-edition : Sound n → Sound (editionPut n edition)
+  unfolding netOf cycle
+  sound-edition s =
+      record {
+        periods-row = s .periods-row;
+        list-row = s .list-row;
+        lines = s .lines;
+        calls = s .calls;
+        packs = s .packs;
+        cycle-is = s .cycle-is;
+        cycle-pos = s .cycle-pos;
+        cycle-le = s .cycle-le;
+      }
 
 module _ (n : Network) (s : Sound n) where
   module _ (period common : ℕ) (room : n .lines < maxLines) where
     pub line-added : netOf (lineAdded n period common) ≡ withLine (netOf n) period
     unfolding netOf withLine
     line-added =
-        ap (λ (ps : List ℕ). netWith ps (take (n .count) (callsIn (n .list))))
+        ap (λ (ps : List ℕ). netWith (n .edition) ps (take (n .count) (callsIn (n .list))))
         (take-set-next (n .periods) (n .lines) period (omega (arith, s .periods-row)))
 
     pub sound-line : 0 < common → common ≤ maxCycle → common ≡ cycle (withLine (netOf n) period) → Sound (lineAdded n period common)
@@ -90,10 +113,10 @@ module _ (n : Network) (s : Sound n) where
     pub call-added : (call : Call) → callIn code ≡ call → netOf (callAdded n code) ≡ withCall (netOf n) call
     unfolding netOf withCall
     call-added call e =
-        ap (λ (cs : List Call). netWith (take (n .lines) (n .periods)) (take (n .count + 1) cs)) (map-set callIn (n .list) (n .count) code)
-        ∙ ap (λ (cs : List Call). netWith (take (n .lines) (n .periods)) cs)
+        ap (λ (cs : List Call). netWith (n .edition) (take (n .lines) (n .periods)) (take (n .count + 1) cs)) (map-set callIn (n .list) (n .count) code)
+        ∙ ap (λ (cs : List Call). netWith (n .edition) (take (n .lines) (n .periods)) cs)
         (take-set-next (callsIn (n .list)) (n .count) (callIn code) (omega (arith, length-held n s)))
-        ∙ ap (λ (c : Call). netWith (take (n .lines) (n .periods)) (take (n .count) (callsIn (n .list)) ++ (c ∷ []))) e
+        ∙ ap (λ (c : Call). netWith (n .edition) (take (n .lines) (n .periods)) (take (n .count) (callsIn (n .list)) ++ (c ∷ []))) e
 
     pub sound-call : packed (callIn code) ≡ code → Sound (callAdded n code)
     unfolding netOf cycle
@@ -121,8 +144,9 @@ module _ (n : Network) (s : Sound n) where
             ap (λ (k : ℕ). packed (callIn k)) there ∙ s .packs i (omega (arith, h, f)) ∙ sym there
 
 -- The numbers of a network that is held are those that the grounds ask for
-pub has-totals : (n : Network) → Sound n → HasTotals (netOf n) (record { lines = n .lines; calls = n .count; cycle = n .cycle })
-has-totals n s = record { lines = sym (held-lines n s); calls = sym (held-calls n s); cycle-is = s .cycle-is }
+pub has-totals : (n : Network) → Sound n → HasTotals (netOf n) (record { edition = n .edition; lines = n .lines; calls = n .count; cycle = n .cycle })
+unfolding netOf
+has-totals n s = record { edition = refl; lines = sym (held-lines n s); calls = sym (held-calls n s); cycle-is = s .cycle-is }
 
 -- ---- what a command tells
 
@@ -182,6 +206,21 @@ call-of-parsed c f p behind call (passes, inr (is, made)) =
     call-parsed c callsByRide f p behind call _ passes (λ e. zero-ne-one (cc)) is made refl
     (ride-passes f p behind (ap (λ (d : Command). first (grounds d f p behind)) (sym is) ∙ passes) .0)
 
+pub record EditionParsed (c : Command) (f : SoFar) (p : ℕ) (behind : List ℕ) (edition : ℕ) : Type 0 where
+  pub passes : first (grounds c f p behind) ≡ Passes
+  pub onward : c ≡ ends → ⊥
+  pub extended : withNetwork f (withEdition (f .network) edition) ≡ extend c f behind
+
+pub edition-of-parsed : (c : Command) (f : SoFar) (p : ℕ) (behind : List ℕ) (edition : ℕ) → IsParsed c f p behind (parsed.Edition edition)
+    → EditionParsed c f p behind edition
+unfolding IsParsed extend
+edition-of-parsed c f p behind edition (passes, is, stated) =
+    record {
+      passes = passes;
+      onward = λ e. edition-not-end (sym is ∙ e);
+      extended = ap (λ (m : ℕ). withNetwork f (withEdition (f .network) m)) stated ∙ ap (λ (d : Command). extend d f behind) (sym is);
+    }
+
 -- ---- what other crates read of the network that is held
 
 pub held-periods : (n : Network) → netOf n .periods ≡ take (n .lines) (n .periods)
@@ -203,9 +242,9 @@ lentRows n s v =
 
 -- without its calls
 abbrev pub callsDropped : Network → Network
-callsDropped n = record { lines = n .lines; periods = n .periods; count = 0; list = n .list; cycle = n .cycle }
+callsDropped n = record { edition = n .edition; lines = n .lines; periods = n .periods; count = 0; list = n .list; cycle = n .cycle }
 
-pub netOf-callsDropped : (n : Network) → netOf (callsDropped n) ≡ netWith (netOf n .periods) []
+pub netOf-callsDropped : (n : Network) → netOf (callsDropped n) ≡ withCalls (netOf n) []
 unfolding netOf
 netOf-callsDropped n = refl
 
@@ -224,14 +263,9 @@ sound-callsDropped n s =
     }
 
 -- with a call more
-module _ (n m : Network) (c : Call) (is : netOf m ≡ withCall (netOf n) c) where
-  pub held-periods-withCall : netOf m .periods ≡ netOf n .periods
-  unfolding withCall
-  held-periods-withCall = ap (λ (k : Net). k .periods) is
-
-  pub held-calls-withCall : netOf m .calls ≡ netOf n .calls ++ (c ∷ [])
-  unfolding withCall
-  held-calls-withCall = ap (λ (k : Net). k .calls) is
+pub held-withCall : (n m : Network) (c : Call) → netOf m ≡ withCall (netOf n) c → netOf m ≡ withCalls (netOf n) (netOf n .calls ++ (c ∷ []))
+unfolding withCall
+held-withCall n m c is = is
 
 -- ---- what reading a file gives
 

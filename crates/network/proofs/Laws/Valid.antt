@@ -10,9 +10,9 @@ use Rattle.network.specs.declared.Call.{Call}
 use Rattle.network.specs.declared.Check.the-variants.{Passes}
 use Rattle.network.specs.Divisor.{Divides, cycleFrom, commonCycle}
 use Rattle.network.specs.Lists.{keep}
-use Rattle.network.specs.Network.{Net, SoFar, emptyNet, Command, statesLine, callsByOffset, callsByRide, ends, unknown}
+use Rattle.network.specs.Network.{Net, SoFar, emptyNet, Command, statesLine, callsByOffset, callsByRide, ends, statesEdition, unknown}
 use Rattle.network.specs.Network.{maxLines, maxPeriod, maxCycle, maxStop, maxOffset, maxCallsAtStop, cycle, howOftenAt, command, operandBytes}
-use Rattle.network.specs.Network.{word, statedOffset, withLine, withCall, callOf, extend}
+use Rattle.network.specs.Network.{word, statedOffset, withEdition, withLine, withCall, callOf, extend}
 use Rattle.network.specs.Grounds.{first, grounds}
 use Rattle.network.specs.Reading.{Reading, readFile, accepted, refused, Outcome, values, refusal, readOutcome}
 use Rattle.network.specs.Gives.{Reached, start, next, Gives, accepts}
@@ -20,12 +20,13 @@ use Rattle.network.specs.Valid.{IsBytes, noCall, Valid}
 use Rattle.network.proofs.Laws.Lists.{zero-ne-one}
 use Rattle.network.proofs.Laws.Members.{all-snoc}
 use Rattle.network.proofs.Laws.Divisor.{commonCycle-snoc, period-divides-commonCycle, commonCycle-least, commonCycle-pos}
+use Rattle.network.proofs.Laws.Editions.{reached-known}
 use Rattle.network.proofs.Laws.Grounds.{LineFits, CallFits, line-passes, offset-passes, ride-passes, end-passes}
 use Rattle.network.proofs.Laws.Reading.{reached-within, readFile-gives}
 use Rattle.network.proofs.Laws.RunningCycle.{reached-positive}
 use Rattle.network.proofs.Laws.Often.{often-more}
 
--- What `Valid` asks of a network on the way, besides the numbers of lines and calls, and that periods are positive
+-- What `Valid` asks of a network on the way, besides its edition, the numbers of lines and calls, and that periods are positive
 record ValidSoFar (n : Net) : Type 0 where
   period : (i : ℕ) → i < length (n .periods) → getD (n .periods) i 0 ≤ maxPeriod
   cycle-max : cycle n ≤ maxCycle
@@ -37,6 +38,18 @@ record ValidSoFar (n : Net) : Type 0 where
 validSoFar-empty : ValidSoFar emptyNet
 unfolding cycle commonCycle cycleFrom howOftenAt keep
 validSoFar-empty = omega arith
+
+validSoFar-edition : (n : Net) (edition : ℕ) → ValidSoFar n → ValidSoFar (withEdition n edition)
+unfolding cycle
+validSoFar-edition n edition s =
+    record {
+      period = s .period;
+      cycle-max = s .cycle-max;
+      call-line = s .call-line;
+      call-stop = s .call-stop;
+      call-offset = s .call-offset;
+      often = s .often;
+    }
 
 validSoFar-line : (n : Net) (behind : List ℕ) → LineFits n behind → ValidSoFar n → ValidSoFar (withLine n (word behind 0))
 unfolding withLine cycle
@@ -77,6 +90,7 @@ validSoFar-next callsByOffset f p behind e h b s =
     validSoFar-call callsByOffset (f .network) behind _ (offset-passes f p behind e) (stated-max behind b) s
 validSoFar-next callsByRide f p behind e h b s = let fits = ride-passes f p behind e in validSoFar-call callsByRide (f .network) behind _ (fits .0) (fits .1) s
 validSoFar-next ends f p behind e h b s = absurd (h refl)
+validSoFar-next statesEdition f p behind e h b s = validSoFar-edition (f .network) _ s
 validSoFar-next unknown f p behind e h b s = absurd (zero-ne-one (cc))
 
 module _ {file : List ℕ} (bytes : IsBytes file) where
@@ -97,6 +111,8 @@ module _ {file : List ℕ} (bytes : IsBytes file) where
       let s : ValidSoFar (f .network) = reached-validSoFar r in
       let end = end-passes f p behind (rw i at e) in
       record {
+        edition-from = reached-known r .0;
+        edition-to = reached-known r .1;
         some-line = end .some-line;
         lines = reached-within r .lines;
         period-pos = reached-positive r;

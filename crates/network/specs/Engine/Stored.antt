@@ -13,8 +13,8 @@ use Rattle.network.specs.declared.Parsed.{Parsed}
 use Rattle.network.specs.declared.Parsed.the-variants as parsed
 use Rattle.network.specs.Divisor.{lcm}
 use Rattle.network.specs.Lists.{pick}
-use Rattle.network.specs.Network.{Net, netWith, SoFar, soFar, Command, statesLine, callsByOffset, callsByRide, ends, maxLines, maxStop, maxCalls, maxCycle, cycle}
-use Rattle.network.specs.Network.{callsAnywhere, howOftenAt, latestOffset, word, callOf, statedOffset, rideOffset}
+use Rattle.network.specs.Network.{Net, netWith, SoFar, soFar, Command, statesLine, callsByOffset, callsByRide, ends, statesEdition, maxLines, maxStop, maxCalls, maxCycle, cycle}
+use Rattle.network.specs.Network.{callsAnywhere, howOftenAt, latestOffset, word, callOf, statedOffset, rideOffset, editionOperand}
 use Rattle.network.specs.Grounds.{first, grounds}
 use Rattle.network.specs.Reading.{Reading, accepted, refused}
 use Rattle.network.specs.Gives.{Reached}
@@ -33,7 +33,7 @@ callsIn row = map callIn row
 
 -- The network that is held
 unfoldable pub netOf : Network → Net
-netOf n = netWith (take (n .lines) (n .periods)) (take (n .count) (callsIn (n .list)))
+netOf n = netWith (n .edition) (take (n .lines) (n .periods)) (take (n .count) (callsIn (n .list)))
 
 -- The counts are within the rows, each number is a call packed, and the cycle is that of the periods
 pub record Sound (n : Network) : Type 0 where
@@ -48,6 +48,7 @@ pub record Sound (n : Network) : Type 0 where
 
 -- The numbers that the grounds ask of a network
 pub record HasTotals (n : Net) (s : Totals) : Type 0 where
+  pub edition : s .edition ≡ n .edition
   pub lines : s .lines ≡ length (n .periods)
   pub calls : s .calls ≡ length (n .calls)
   pub cycle-is : s .cycle ≡ cycle n
@@ -60,7 +61,7 @@ Latest latest cs = (line : ℕ) → line < maxLines → getD latest line 0 ≡ p
 unfoldable pub Often : List ℕ → List Call → Type 0
 Often often cs = (line stop : ℕ) → line < maxLines → stop ≤ maxStop → getD often (stop * maxLines + line) 0 ≡ howOftenAt line stop cs
 
--- What one command's function tells is right: the ground that applies first, or, where none does, the command's line or call, or the end
+-- What one command's function tells is right: the ground that applies first, or, where none does, the command's line, call or edition, or the end
 unfoldable pub IsParsed : Command → SoFar → ℕ → List ℕ → Parsed → Type 0
 IsParsed c f p behind (parsed.Refused number place) = first (grounds c f p behind) ≡ Refused number place
 IsParsed c f p behind (parsed.Line period common) =
@@ -68,6 +69,8 @@ IsParsed c f p behind (parsed.Line period common) =
 IsParsed c f p behind (parsed.Calls call) =
     (first (grounds c f p behind) ≡ Passes)
     × (((c ≡ callsByOffset) × (call ≡ callOf behind (statedOffset behind))) ⊎ ((c ≡ callsByRide) × (call ≡ callOf behind (rideOffset (f .network) behind))))
+IsParsed c f p behind (parsed.Edition edition) =
+    (first (grounds c f p behind) ≡ Passes) × (c ≡ statesEdition) × (edition ≡ editionOperand behind)
 IsParsed c f p behind parsed.End = (first (grounds c f p behind) ≡ Passes) × (c ≡ ends)
 
 -- Reading comes to the part `rest` of a file with this network: it is what has been read before that part

@@ -101,7 +101,7 @@ module _
     (sound : Sound network)
     (valid : Valid (netOf network))
     (by-sound : Sound by)
-    (ordered : netOf by ≡ inLineOrder (netOf network .periods) (netOf network .calls) (length (netOf network .periods))) where
+    (ordered : netOf by ≡ inLineOrder (netOf network) (netOf network .calls) (length (netOf network .periods))) where
   abbrev callsInOrder : List Call
   callsInOrder = byLine (netOf network .calls) (length (netOf network .periods))
 

@@ -5,25 +5,25 @@ use Rattle.cases_typed.proofs.large.put_lines.Statement.{statement}
 use Rattle.cases_typed.proofs.large.put_lines.Tie as tie
 
 abbrev Inv-loop : tie.InvT-loop
-Inv-loop file₀ lines period line₀ file line = line ≤ lines
+Inv-loop file₀ from lines period line₀ file line = line ≤ lines
 
 abbrev μ-loop : tie.MeasureT-loop
-μ-loop file₀ lines period line₀ file line = lines - line
+μ-loop file₀ from lines period line₀ file line = lines - line
 
 loop-holds : tie.Need-loop-holds Inv-loop μ-loop
 loop-holds c = search needs
 
-mul-file : tie.Need-mul-file Inv-loop μ-loop
-mul-file c = search needs
+mul-at : tie.Need-mul-at Inv-loop μ-loop
+mul-at c = search needs
+
+add-at : tie.Need-add-at Inv-loop μ-loop
+add-at c = search needs
 
 element-write-file : tie.Need-element-write-file Inv-loop μ-loop
 element-write-file c = search needs
 
 cast-file : tie.Need-cast-file Inv-loop μ-loop
 cast-file c = search needs
-
-mul-file-2 : tie.Need-mul-file-2 Inv-loop μ-loop
-mul-file-2 c = search needs
 
 add-file : tie.Need-add-file Inv-loop μ-loop
 add-file c = search needs
@@ -33,9 +33,6 @@ element-write-file-2 c = search needs
 
 cast-file-2 : tie.Need-cast-file-2 Inv-loop μ-loop
 cast-file-2 c = search needs
-
-mul-file-3 : tie.Need-mul-file-3 Inv-loop μ-loop
-mul-file-3 c = search needs
 
 add-file-2 : tie.Need-add-file-2 Inv-loop μ-loop
 add-file-2 c = search needs
@@ -62,14 +59,13 @@ put-lines-spec =
     Inv-loop
     μ-loop
     loop-holds
-    mul-file
+    mul-at
+    add-at
     element-write-file
     cast-file
-    mul-file-2
     add-file
     element-write-file-2
     cast-file-2
-    mul-file-3
     add-file-2
     element-write-file-3
     add-line

@@ -19,7 +19,13 @@ unfolding command operandBytes
 returns-3 c = sym (ap (λ b. operandBytes (command b)) (c .match .keys3))
 
 returns-4 : tie.Need-returns-4
-returns-4 c = sym (operandBytes-others (c .before .args .code) (c .match .rest .0 .0 .1) (c .match .rest .0 .1) (c .match .rest .1))
+unfolding command operandBytes
+returns-4 c = sym (ap (λ b. operandBytes (command b)) (c .match .keys4))
+
+returns-5 : tie.Need-returns-5
+returns-5 c =
+    let r = c .match .rest in
+    sym (operandBytes-others (c .before .args .code) (r .0 .0 .0 .1) (r .0 .0 .1) (r .0 .1) (r .1))
 
 pub operand-bytes-spec : {M : Type 1} → statement M
-operand-bytes-spec = tie.close (tie.spec returns returns-2 returns-3 returns-4)
+operand-bytes-spec = tie.close (tie.spec returns returns-2 returns-3 returns-4 returns-5)

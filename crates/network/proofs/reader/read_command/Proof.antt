@@ -1,7 +1,7 @@
 -- `network::reader::read_command` meets its contract: each arm is the command's own function. Assumes nothing.
 use mathlib.Core.Path.{_≡_, refl, ap}
 use borrow.Author.Needs.{needs}
-use Rattle.network.specs.Network.{statesLine, callsByOffset, callsByRide, ends, command}
+use Rattle.network.specs.Network.{statesLine, callsByOffset, callsByRide, ends, statesEdition, command}
 use Rattle.network.specs.Grounds.{grounds}
 use Rattle.network.specs.Engine.Stored.{IsParsed}
 use Rattle.network.proofs.Laws.Network.{command-unknown}
@@ -20,6 +20,9 @@ read-ride-requires c κs = search needs
 
 read-end-requires : tie.Need-read-end-requires
 read-end-requires c κs = search needs
+
+read-edition-requires : tie.Need-read-edition-requires
+read-edition-requires c κs = search needs
 
 returns : tie.Need-returns
 unfolding command
@@ -46,11 +49,17 @@ returns-4 c =
     λ f h o l. rw e (c .read-end .ensures f (h .lines) l)
 
 returns-5 : tie.Need-returns-5
-unfolding IsParsed grounds
+unfolding command
 returns-5 c =
+    let e : command (c .before .before .before .args .code) ≡ statesEdition = ap command (c .before .match .keys5) in
+    λ f h o l. rw e (c .read-edition .ensures f)
+
+returns-6 : tie.Need-returns-6
+unfolding IsParsed grounds
+returns-6 c =
     let s = c .before .before in
     let r = c .match .rest in
-    λ f h o l. rw (command-unknown (s .args .code) (r .0 .0 .0 .1) (r .0 .0 .1) (r .0 .1) (r .1)) (first-hit _ _ _ _ refl)
+    λ f h o l. rw (command-unknown (s .args .code) (r .0 .0 .0 .0 .1) (r .0 .0 .0 .1) (r .0 .0 .1) (r .1) (r .0 .1)) (first-hit _ _ _ _ refl)
 
 pub read-command-spec : {M : Type 1} → statement M
 read-command-spec =
@@ -60,8 +69,10 @@ read-command-spec =
     read-call-requires
     read-ride-requires
     read-end-requires
+    read-edition-requires
     returns
     returns-2
     returns-3
     returns-4
-    returns-5)
+    returns-5
+    returns-6)

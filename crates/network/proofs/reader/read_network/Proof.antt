@@ -23,10 +23,10 @@ use Rattle.network.specs.Engine.Stored.{netOf, Often, IsParsed, readingO
 use Rattle.network.proofs.Laws.Lists.{take-rest, getD-zeros}
 use Rattle.network.proofs.Laws.Reading.{passes-operands, gives-what-is-read}
 use Rattle.network.proofs.Laws.Often.{often-none}
-use Rattle.network.proofs.Laws.Stored.{LineParsed, CallParsed, held-lines, held-calls, has-totals, line-added, call-added, line-of-parsed}
-use Rattle.network.proofs.Laws.Stored.{call-of-parsed}
+use Rattle.network.proofs.Laws.Stored.{LineParsed, CallParsed, EditionParsed, held-lines, held-calls, has-totals, edition-put, line-added, call-added, line-of-parsed}
+use Rattle.network.proofs.Laws.Stored.{call-of-parsed, edition-of-parsed}
 use Rattle.network.proofs.Laws.Latest.{latest-none}
-use Rattle.network.proofs.Laws.ReaderRows.{ReaderRows, ReaderTurn, rows-with-line, rows-with-call}
+use Rattle.network.proofs.Laws.ReaderRows.{ReaderRows, ReaderTurn, rows-with-edition, rows-with-line, rows-with-call}
 use Rattle.network.proofs.reader.read_network.Statement.{statement}
 use Rattle.network.proofs.reader.read_network.Tie as tie
 
@@ -89,6 +89,9 @@ module _ (r : tie.After-read-command Inv-loop μ-loop) where
   call-parsed : {call : Call} → result ≡ parsed.Calls call → CallParsed code (soFar (netOf network)) place behind call
   call-parsed e = call-of-parsed code (soFar (netOf network)) place behind _ (parsed-here _ e)
 
+  edition-parsed : {edition : ℕ} → result ≡ parsed.Edition edition → EditionParsed code (soFar (netOf network)) place behind edition
+  edition-parsed e = edition-of-parsed code (soFar (netOf network)) place behind _ (parsed-here _ e)
+
   line-room : {period common : ℕ} → result ≡ parsed.Line period common → network .lines < maxLines
   line-room e = omega (arith, line-parsed e .room, held-lines network (kept .sound))
 
@@ -107,7 +110,7 @@ module _ (r : tie.After-read-command Inv-loop μ-loop) where
   unfolding Often
   often-low e = omega (arith, call-parsed e .often, kept .often-is _ _ (line-low e) (stop-low e))
 
-  -- a line or a call goes on with the part behind it
+  -- an edition, a line or a call goes on with the part behind it
   record Next (n : Network) (often latest : List ℕ) : Type 0 where
     kept-on : ReaderRows n often latest
     passes : first (grounds code (soFar (netOf network)) place behind) ≡ Passes
@@ -118,12 +121,22 @@ module _ (r : tie.After-read-command Inv-loop μ-loop) where
   next-as n m a b c d e f g x =
       subst (λ (k : Network). Next k a c) (sym e) (subst (λ (k : List ℕ). Next m k c) (sym f) (subst (λ (k : List ℕ). Next m b k) (sym g) x))
 
--- Where a line or a call has been written
+-- Where an edition, a line or a call has been written
 next : (c : tie.At-match-came Inv-loop μ-loop) → Next (c .before) (c .match .network) (c .match .often) (c .match .latest)
 next c =
     let r = c .before in
     let k = kept r in
     ⊎-elim
+    (λ w.
+    let t = edition-parsed r (w .1 .given .1) in
+    next-as r _ _ _ _ _ _ (w .3) (w .4) (w .5)
+    (record {
+      kept-on = rows-with-edition (network r) _ _ k _;
+      passes = t .passes;
+      onward = t .onward;
+      extended = ap soFar (edition-put (network r) _) ∙ t .extended;
+    }))
+    (⊎-elim
     (λ w.
     let t = line-parsed r (w .1 .given .1) in
     let room = line-room r (w .1 .given .1) in
@@ -143,7 +156,7 @@ next c =
       passes = t .passes;
       onward = t .onward;
       extended = ap soFar (call-added (network r) (k .sound) _ room _ (w .3 .ensures .1)) ∙ t .extended;
-    }))
+    })))
     (c .match .came)
 
 -- Where nothing is left, a command is due
@@ -227,50 +240,53 @@ returns-2 c =
 enum-known-parsed-2 : tie.Need-enum-known-parsed-2 Inv-loop μ-loop
 enum-known-parsed-2 c = search needs
 
-mul-network : tie.Need-mul-network Inv-loop μ-loop
-mul-network c = omega (arith, line-room (c .before .before .before) (c .before .parsed2 .given .1))
-
-element-write-network : tie.Need-element-write-network Inv-loop μ-loop
-element-write-network c = omega (arith, line-room (c .before .before .before) (c .before .parsed2 .given .1))
-
-add-network : tie.Need-add-network Inv-loop μ-loop
-add-network c = omega (arith, line-room (c .before .before .before) (c .before .parsed2 .given .1))
-
 enum-known-parsed-3 : tie.Need-enum-known-parsed-3 Inv-loop μ-loop
 enum-known-parsed-3 c = search needs
 
+mul-network : tie.Need-mul-network Inv-loop μ-loop
+mul-network c = omega (arith, line-room (c .before .before .before) (c .before .parsed3 .given .1))
+
+element-write-network : tie.Need-element-write-network Inv-loop μ-loop
+element-write-network c = omega (arith, line-room (c .before .before .before) (c .before .parsed3 .given .1))
+
+add-network : tie.Need-add-network Inv-loop μ-loop
+add-network c = omega (arith, line-room (c .before .before .before) (c .before .parsed3 .given .1))
+
+enum-known-parsed-4 : tie.Need-enum-known-parsed-4 Inv-loop μ-loop
+enum-known-parsed-4 c = search needs
+
 packed-requires : tie.Need-packed-requires Inv-loop μ-loop
-packed-requires c κs = (line-low (c .before .before .before) (c .before .parsed3 .given .1), stop-low (c .before .before .before) (c .before .parsed3 .given .1))
+packed-requires c κs = (line-low (c .before .before .before) (c .before .parsed4 .given .1), stop-low (c .before .before .before) (c .before .parsed4 .given .1))
 
 mul-network-2 : tie.Need-mul-network-2 Inv-loop μ-loop
-mul-network-2 c = omega (arith, call-room (c .before .before .before .before) (c .before .before .parsed3 .given .1))
+mul-network-2 c = omega (arith, call-room (c .before .before .before .before) (c .before .before .parsed4 .given .1))
 
 element-write-network-2 : tie.Need-element-write-network-2 Inv-loop μ-loop
-element-write-network-2 c = omega (arith, call-room (c .before .before .before .before) (c .before .before .parsed3 .given .1))
+element-write-network-2 c = omega (arith, call-room (c .before .before .before .before) (c .before .before .parsed4 .given .1))
 
 add-network-2 : tie.Need-add-network-2 Inv-loop μ-loop
-add-network-2 c = omega (arith, call-room (c .before .before .before .before) (c .before .before .parsed3 .given .1))
+add-network-2 c = omega (arith, call-room (c .before .before .before .before) (c .before .before .parsed4 .given .1))
 
 cast-at-stop : tie.Need-cast-at-stop Inv-loop μ-loop
-cast-at-stop c = omega (arith, line-low (c .before .before .before .before .before) (c .before .before .before .parsed3 .given .1), stop-low (c .before .before .before .before .before) (c .before .before .before .parsed3 .given .1))
+cast-at-stop c = omega (arith, line-low (c .before .before .before .before .before) (c .before .before .before .parsed4 .given .1), stop-low (c .before .before .before .before .before) (c .before .before .before .parsed4 .given .1))
 
 mul-at-stop : tie.Need-mul-at-stop Inv-loop μ-loop
-mul-at-stop c = omega (arith, line-low (c .before .before .before .before .before) (c .before .before .before .parsed3 .given .1), stop-low (c .before .before .before .before .before) (c .before .before .before .parsed3 .given .1))
+mul-at-stop c = omega (arith, line-low (c .before .before .before .before .before) (c .before .before .before .parsed4 .given .1), stop-low (c .before .before .before .before .before) (c .before .before .before .parsed4 .given .1))
 
 cast-at-stop-2 : tie.Need-cast-at-stop-2 Inv-loop μ-loop
-cast-at-stop-2 c = omega (arith, line-low (c .before .before .before .before .before .before) (c .before .before .before .before .parsed3 .given .1), stop-low (c .before .before .before .before .before .before) (c .before .before .before .before .parsed3 .given .1))
+cast-at-stop-2 c = omega (arith, line-low (c .before .before .before .before .before .before) (c .before .before .before .before .parsed4 .given .1), stop-low (c .before .before .before .before .before .before) (c .before .before .before .before .parsed4 .given .1))
 
 add-at-stop : tie.Need-add-at-stop Inv-loop μ-loop
-add-at-stop c = omega (arith, line-low (c .before .before .before .before .before .before) (c .before .before .before .before .parsed3 .given .1), stop-low (c .before .before .before .before .before .before) (c .before .before .before .before .parsed3 .given .1))
+add-at-stop c = omega (arith, line-low (c .before .before .before .before .before .before) (c .before .before .before .before .parsed4 .given .1), stop-low (c .before .before .before .before .before .before) (c .before .before .before .before .parsed4 .given .1))
 
 array-read-often : tie.Need-array-read-often Inv-loop μ-loop
-array-read-often c = omega (arith, line-low (c .before .before .before .before .before .before) (c .before .before .before .before .parsed3 .given .1), stop-low (c .before .before .before .before .before .before) (c .before .before .before .before .parsed3 .given .1))
+array-read-often c = omega (arith, line-low (c .before .before .before .before .before .before) (c .before .before .before .before .parsed4 .given .1), stop-low (c .before .before .before .before .before .before) (c .before .before .before .before .parsed4 .given .1))
 
 add-often : tie.Need-add-often Inv-loop μ-loop
-add-often c = omega (arith, often-low (c .before .before .before .before .before .before) (c .before .before .before .before .parsed3 .given .1))
+add-often c = omega (arith, often-low (c .before .before .before .before .before .before) (c .before .before .before .before .parsed4 .given .1))
 
 array-write-often : tie.Need-array-write-often Inv-loop μ-loop
-array-write-often c = omega (arith, line-low (c .before .before .before .before .before .before) (c .before .before .before .before .parsed3 .given .1), stop-low (c .before .before .before .before .before .before) (c .before .before .before .before .parsed3 .given .1))
+array-write-often c = omega (arith, line-low (c .before .before .before .before .before .before) (c .before .before .before .before .parsed4 .given .1), stop-low (c .before .before .before .before .before .before) (c .before .before .before .before .parsed4 .given .1))
 
 cast-latest : tie.Need-cast-latest Inv-loop μ-loop
 cast-latest c = omega (arith, c .struct-known3 .given)
@@ -279,13 +295,13 @@ add-latest : tie.Need-add-latest Inv-loop μ-loop
 add-latest c = omega (arith, c .struct-known3 .given)
 
 cast-latest-2 : tie.Need-cast-latest-2 Inv-loop μ-loop
-cast-latest-2 c = omega (arith, line-low (c .before .before .before .before .before .before .before .before) (c .before .before .before .before .before .before .parsed3 .given .1), stop-low (c .before .before .before .before .before .before .before .before) (c .before .before .before .before .before .before .parsed3 .given .1))
+cast-latest-2 c = omega (arith, line-low (c .before .before .before .before .before .before .before .before) (c .before .before .before .before .before .before .parsed4 .given .1), stop-low (c .before .before .before .before .before .before .before .before) (c .before .before .before .before .before .before .parsed4 .given .1))
 
 mul-latest : tie.Need-mul-latest Inv-loop μ-loop
-mul-latest c = omega (arith, line-low (c .before .before .before .before .before .before .before .before) (c .before .before .before .before .before .before .parsed3 .given .1), stop-low (c .before .before .before .before .before .before .before .before) (c .before .before .before .before .before .before .parsed3 .given .1))
+mul-latest c = omega (arith, line-low (c .before .before .before .before .before .before .before .before) (c .before .before .before .before .before .before .parsed4 .given .1), stop-low (c .before .before .before .before .before .before .before .before) (c .before .before .before .before .before .before .parsed4 .given .1))
 
 array-write-latest : tie.Need-array-write-latest Inv-loop μ-loop
-array-write-latest c = omega (arith, line-low (c .before .before .before .before .before .before .before .before) (c .before .before .before .before .before .before .parsed3 .given .1), stop-low (c .before .before .before .before .before .before .before .before) (c .before .before .before .before .before .before .parsed3 .given .1))
+array-write-latest c = omega (arith, line-low (c .before .before .before .before .before .before .before .before) (c .before .before .before .before .before .before .parsed4 .given .1), stop-low (c .before .before .before .before .before .before .before .before) (c .before .before .before .before .before .before .parsed4 .given .1))
 
 part-behind-requires : tie.Need-part-behind-requires Inv-loop μ-loop
 part-behind-requires c κs =
@@ -347,10 +363,11 @@ read-network-spec =
     passed-requires
     returns-2
     enum-known-parsed-2
+    enum-known-parsed-3
     mul-network
     element-write-network
     add-network
-    enum-known-parsed-3
+    enum-known-parsed-4
     packed-requires
     mul-network-2
     element-write-network-2

@@ -1,0 +1,409 @@
+-- Laws of editions: 56 passes at byte 0 alone, so that the edition behind it is the one that opens the file; in edition 1 every other command is tried
+-- by the grounds before A.6; and the archive form has no command but 4C, 43 and 45 behind its edition. Each follows from one command's grounds.
+-- Assumes nothing.
+use Prim.Native.Nat.{ℕ, zero, suc, _+_, _<_, _≤_}
+use mathlib.Core.Path.{_≡_, refl, sym, ap, ap₂, subst, _∙_}
+use mathlib.Core.Bool.{Bool, true, false, _||_}
+use mathlib.Core.List.{List, [], _∷_, _++_}
+use mathlib.Core.Logic.{_⊎_, inl, inr, ⊎-elim, _↔_}
+use native.Mathlib.Omega.{arith}
+use borrow.Author.Tests.{eq-eqb, ne-eqb, eqb-true, eqb-false, lt-ltb, le-ltb}
+use lib.Dec.{eqb, leb}
+use lib.ListN.{length, getD, take, drop, length-drop}
+use Rattle.network.specs.declared.Check.{Check}
+use Rattle.network.specs.declared.Check.the-variants.{Passes, Refused}
+use Rattle.network.specs.Lists.{pick}
+use Rattle.network.specs.Network.{Net, netWith, SoFar, soFar, nothingRead, Command, statesLine, callsByOffset, callsByRide, ends, statesEdition, unknown}
+use Rattle.network.specs.Network.{firstEdition, latestEdition, command, operandBytes, editionOperand, withLine, withCall, extend}
+use Rattle.network.specs.Grounds.{Ground, _at_when_, first, cutOff, editionUnknown, someLineSilent, callGrounds, grounds}
+use Rattle.network.specs.Reading.{Reading, accepted, refused, proceed, readFrom, readFile}
+use Rattle.network.specs.Gives.{Reached, start, next, Gives, accepts, refuses}
+use Rattle.network.specs.Editions.{openingEdition, Meets, moved, commandBefore, groundsBefore, readFromBefore, readFileBefore}
+use Rattle.network.proofs.Laws.Lists.{zero-ne-one}
+use Rattle.network.proofs.Laws.Grounds.{ride-passes, edition-not-end, edition-passes, edition-fits-passes}
+use Rattle.network.proofs.Laws.Reading.{passes-operands, proceed-cases, read-onward, readFrom-skip, readFile-gives, gives-what-is-read}
+
+-- ---- the byte of 56
+
+pub command-edition : (b : ℕ) → command b ≡ statesEdition → b ≡ 0x56
+unfolding command
+command-edition b e = go (eqb b 0x4C) (eqb b 0x43) (eqb b 0x46) (eqb b 0x45) (eqb b 0x56) (eqb-true b 0x56) e
+  where
+    go : (l c r n v : Bool) → (v ≡ true → b ≡ 0x56)
+        → pick l statesLine (pick c callsByOffset (pick r callsByRide (pick n ends (pick v statesEdition unknown)))) ≡ statesEdition → b ≡ 0x56
+    go true c r n v is f = absurd (zero-ne-one (cc))
+    go false true r n v is f = absurd (zero-ne-one (cc))
+    go false false true n v is f = absurd (zero-ne-one (cc))
+    go false false false true v is f = absurd (zero-ne-one (cc))
+    go false false false false true is f = is refl
+    go false false false false false is f = absurd (zero-ne-one (cc))
+
+-- .. and any other command keeps the edition
+others-keep-edition : (c : Command) (f : SoFar) (behind : List ℕ) → (c ≡ statesEdition → ⊥) → extend c f behind .network .edition ≡ f .network .edition
+unfolding extend withLine withCall
+others-keep-edition statesLine f behind h = refl
+others-keep-edition callsByOffset f behind h = refl
+others-keep-edition callsByRide f behind h = refl
+others-keep-edition ends f behind h = refl
+others-keep-edition statesEdition f behind h = absurd (h refl)
+others-keep-edition unknown f behind h = refl
+
+states-it : (c : Command) (f : SoFar) (behind : List ℕ) → c ≡ statesEdition → extend c f behind .network .edition ≡ editionOperand behind
+unfolding extend
+states-it c f behind is = ap (λ (d : Command). extend d f behind .network .edition) is
+
+edition-or-not : (c : Command) → (c ≡ statesEdition) ⊎ (c ≡ statesEdition → ⊥)
+edition-or-not statesLine = inr (λ e. zero-ne-one (cc))
+edition-or-not callsByOffset = inr (λ e. zero-ne-one (cc))
+edition-or-not callsByRide = inr (λ e. zero-ne-one (cc))
+edition-or-not ends = inr (λ e. zero-ne-one (cc))
+edition-or-not statesEdition = inl refl
+edition-or-not unknown = inr (λ e. zero-ne-one (cc))
+
+-- ---- the edition at a place to which reading comes
+
+-- What stands at byte 0 is the file
+reached-first : {file : List ℕ} {f : SoFar} {p : ℕ} {rest : List ℕ} → Reached file f p rest → p ≡ 0 → rest ≡ file
+reached-first start e = refl
+reached-first (next r passes h) e = absurd (omega (arith, e))
+
+opening-stated : (b : ℕ) (behind file : List ℕ) → b ∷ behind ≡ file → b ≡ 0x56 → openingEdition file ≡ editionOperand behind
+unfolding openingEdition editionOperand
+opening-stated b behind file is e =
+    ap (λ (l : List ℕ). pick (eqb (getD l 0 0) 0x56) (getD l 1 0) firstEdition) (sym is)
+    ∙ ap (λ (t : Bool). pick t (getD behind 0 0) firstEdition) (eq-eqb b 0x56 e)
+
+opening-unstated : (b : ℕ) (behind file : List ℕ) → b ∷ behind ≡ file → (b ≡ 0x56 → ⊥) → openingEdition file ≡ firstEdition
+unfolding openingEdition
+opening-unstated b behind file is h =
+    ap (λ (l : List ℕ). pick (eqb (getD l 0 0) 0x56) (getD l 1 0) firstEdition) (sym is)
+    ∙ ap (λ (t : Bool). pick t (getD behind 0 0) firstEdition) (ne-eqb b 0x56 h)
+
+is-edition : (b : ℕ) → b ≡ 0x56 → command b ≡ statesEdition
+unfolding command
+is-edition b e = ap command e
+
+-- At byte 0 it is the first, and behind it the one that opens the file ..
+abbrev EditionAt : List ℕ → SoFar → ℕ → Type 0
+EditionAt file f p = (p ≡ 0 → f .network .edition ≡ firstEdition) × (0 < p → f .network .edition ≡ openingEdition file)
+
+abbrev IsKnown : ℕ → Type 0
+IsKnown edition = (firstEdition ≤ edition) × (edition ≤ latestEdition)
+
+known-behind : (c : Command) (f : SoFar) (p : ℕ) (behind : List ℕ) → first (grounds c f p behind) ≡ Passes → IsKnown (f .network .edition)
+    → (c ≡ statesEdition) ⊎ (c ≡ statesEdition → ⊥) → IsKnown (extend c f behind .network .edition)
+known-behind c f p behind passes known (inl is) =
+    let fits = edition-passes f p behind (ap (λ (d : Command). first (grounds d f p behind)) (sym is) ∙ passes) in
+    rw (states-it c f behind is) (fits .from, fits .to)
+known-behind c f p behind passes known (inr other) = rw (others-keep-edition c f behind other) known
+
+module _ {file : List ℕ} where
+  -- .. so that, where another command stands, it is that one
+  edition-there : {f : SoFar} {p b : ℕ} {behind : List ℕ} → Reached file f p (b ∷ behind) → EditionAt file f p → (command b ≡ statesEdition → ⊥)
+      → f .network .edition ≡ openingEdition file
+  edition-there {p = zero} {b = b} {behind = behind} r (at-first, further) other =
+      at-first refl ∙ sym (opening-unstated b behind file (reached-first r refl) (λ e. other (is-edition b e)))
+  edition-there {p = suc p} r (at-first, further) other = further (omega arith)
+
+  edition-behind : {f : SoFar} {p b : ℕ} {behind : List ℕ} → Reached file f p (b ∷ behind) → EditionAt file f p
+      → first (grounds (command b) f p behind) ≡ Passes → (command b ≡ statesEdition) ⊎ (command b ≡ statesEdition → ⊥)
+      → extend (command b) f behind .network .edition ≡ openingEdition file
+  edition-behind {f} {p} {b} {behind} r h passes (inl is) =
+      let fits = edition-passes f p behind (ap (λ (c : Command). first (grounds c f p behind)) (sym is) ∙ passes) in
+      states-it (command b) f behind is
+      ∙ sym (opening-stated b behind file (reached-first r (fits .opens)) (command-edition b is))
+  edition-behind {f} {p} {b} {behind} r h passes (inr other) = others-keep-edition (command b) f behind other ∙ edition-there r h other
+
+  reached-edition : {f : SoFar} {p : ℕ} {rest : List ℕ} → Reached file f p rest → EditionAt file f p
+  reached-edition start = (λ e. refl, λ h. absurd (omega (arith, h)))
+  reached-edition (next {b = b} r passes h) =
+      (λ e. absurd (omega (arith, e)), λ k. edition-behind r (reached-edition r) passes (edition-or-not (command b)))
+
+  pub met-edition : {f : SoFar} {p b : ℕ} {behind : List ℕ} → Reached file f p (b ∷ behind) → (command b ≡ statesEdition → ⊥)
+      → f .network .edition ≡ openingEdition file
+  met-edition r other = edition-there r (reached-edition r) other
+
+  -- A file that doesn't begin with 56 stays in the first
+  pub first-edition-throughout : {f : SoFar} {p : ℕ} {rest : List ℕ} → (getD file 0 0 ≡ 0x56 → ⊥) → Reached file f p rest
+      → f .network .edition ≡ firstEdition
+  unfolding openingEdition
+  first-edition-throughout {p = zero} h r = reached-edition r .0 refl
+  first-edition-throughout {p = suc p} h r =
+      reached-edition r .1 (omega arith) ∙ ap (λ (t : Bool). pick t (getD file 1 0) firstEdition) (ne-eqb (getD file 0 0) 0x56 h)
+
+  -- It is known
+  pub reached-known : {f : SoFar} {p : ℕ} {rest : List ℕ} → Reached file f p rest → (firstEdition ≤ f .network .edition) × (f .network .edition ≤ latestEdition)
+  reached-known start = (omega arith, omega arith)
+  reached-known (next {f = f} {p = p} {b = b} {behind = behind} r passes h) =
+      known-behind (command b) f p behind passes (reached-known r) (edition-or-not (command b))
+
+-- ---- which editions there are, and the file's first two bytes
+
+pub known-editions : (edition : ℕ) → firstEdition ≤ edition → edition ≤ latestEdition → (edition ≡ 1) ⊎ (edition ≡ 2)
+known-editions zero low high = absurd (omega (arith, low))
+known-editions (suc zero) low high = inl refl
+known-editions (suc (suc zero)) low high = inr refl
+known-editions (suc (suc (suc edition))) low high = absurd (omega (arith, high))
+
+module _ (edition : ℕ) (later : firstEdition < edition) where
+  opening-begins : (file : List ℕ) → openingEdition file ≡ edition → take 2 file ≡ 0x56 ∷ edition ∷ []
+  unfolding openingEdition
+  opening-begins [] e = absurd (omega (arith, e, later))
+  opening-begins (a ∷ []) e = go (eqb a 0x56) e
+    where
+      go : (t : Bool) → pick t 0 firstEdition ≡ edition → a ∷ [] ≡ 0x56 ∷ edition ∷ []
+      go true i = absurd (omega (arith, i, later))
+      go false i = absurd (omega (arith, i, later))
+  opening-begins (a ∷ b ∷ rest) e = go (eqb a 0x56) (eqb-true a 0x56) e
+    where
+      go : (t : Bool) → (t ≡ true → a ≡ 0x56) → pick t b firstEdition ≡ edition → a ∷ b ∷ [] ≡ 0x56 ∷ edition ∷ []
+      go true is i = ap₂ (λ (x y : ℕ). x ∷ y ∷ []) (is refl) i
+      go false is i = absurd (omega (arith, i, later))
+
+  begins-opening : (file : List ℕ) → take 2 file ≡ 0x56 ∷ edition ∷ [] → openingEdition file ≡ edition
+  unfolding openingEdition
+  begins-opening [] e = absurd (zero-ne-one (cc (e)))
+  begins-opening (a ∷ []) e = absurd (zero-ne-one (cc (e)))
+  begins-opening (a ∷ b ∷ rest) e =
+      let second : b ≡ edition = ap (λ (l : List ℕ). getD l 1 0) e in
+      ap (λ (t : Bool). pick t b firstEdition) (eq-eqb a 0x56 (ap (λ (l : List ℕ). getD l 0 0) e)) ∙ second
+
+  pub opening-exactly : (file : List ℕ) → (openingEdition file ≡ edition) ↔ (take 2 file ≡ 0x56 ∷ edition ∷ [])
+  opening-exactly file = (opening-begins file, begins-opening file)
+
+-- ---- the edition of an accepted file
+
+ends-no-edition : (c : Command) → c ≡ ends → c ≡ statesEdition → ⊥
+ends-no-edition c e f = zero-ne-one (cc)
+
+ride-no-edition : (c : Command) → c ≡ callsByRide → c ≡ statesEdition → ⊥
+ride-no-edition c e f = zero-ne-one (cc)
+
+module _ (file : List ℕ) where
+  gives-edition : {n : Net} → Gives file (accepted n) → n .edition ≡ openingEdition file
+  gives-edition (accepts {b = b} r is passes) = met-edition r (ends-no-edition (command b) is)
+
+  gives-known : {n : Net} → Gives file (accepted n) → (firstEdition ≤ n .edition) × (n .edition ≤ latestEdition)
+  gives-known (accepts r is passes) = reached-known r
+
+  module _ {n : Net} (reads : readFile file ≡ accepted n) where
+    pub accepted-edition : n .edition ≡ openingEdition file
+    accepted-edition = gives-edition (rw reads at (readFile-gives file))
+
+    pub accepted-known : (firstEdition ≤ n .edition) × (n .edition ≤ latestEdition)
+    accepted-known = gives-known (rw reads at (readFile-gives file))
+
+    -- Each command that is met has passed
+    accepted-passes : {f : SoFar} {p b : ℕ} {behind : List ℕ} → Reached file f p (b ∷ behind) → first (grounds (command b) f p behind) ≡ Passes
+    accepted-passes {f} {p} {b} {behind} r = go (first (grounds (command b) f p behind)) refl
+      where
+        go : (k : Check) → first (grounds (command b) f p behind) ≡ k → k ≡ Passes
+        go Passes e = refl
+        go (Refused number place) e =
+            let same : accepted n ≡ refused number place = sym reads ∙ gives-what-is-read (refuses r e) in
+            absurd (zero-ne-one (cc (same)))
+
+    -- .. so that 46 is met in the first edition alone
+    pub rides-in-first-edition : Meets file callsByRide → n .edition ≡ firstEdition
+    rides-in-first-edition m =
+        let passes = ap (λ (c : Command). first (grounds c (m .so-far) (m .place) (m .behind))) (sym (m .is-command)) ∙ accepted-passes (m .comes-there) in
+        let one = ride-passes (m .so-far) (m .place) (m .behind) passes .2 in
+        let there = met-edition (m .comes-there) (ride-no-edition (command (m .byte)) (m .is-command)) in
+        omega (arith, accepted-known .0, accepted-edition ∙ sym there, one)
+
+-- ---- in the first edition every other command is tried as before
+
+-- A second ground that doesn't apply may go
+first-past : (number place : ℕ) (t : Bool) (m q : ℕ) (u : Bool) (gs : List Ground) → u ≡ false
+    → first ((number at place when t) ∷ (m at q when u) ∷ gs) ≡ first ((number at place when t) ∷ gs)
+unfolding first
+first-past number place true m q u gs e = refl
+first-past number place false m q u gs e = rw e refl
+
+pub grounds-as-before : (c : Command) (f : SoFar) (p : ℕ) (behind : List ℕ) → f .network .edition ≡ firstEdition → (c ≡ statesEdition → ⊥)
+    → first (grounds c f p behind) ≡ first (groundsBefore c f p behind)
+unfolding grounds groundsBefore
+grounds-as-before statesLine f p behind one h = refl
+grounds-as-before callsByOffset f p behind one h = refl
+grounds-as-before callsByRide f p behind one h =
+    first-past _ _ _ _ _ _ _ (le-ltb firstEdition (f .network .edition) (omega (arith, one)))
+grounds-as-before ends f p behind one h = refl
+grounds-as-before statesEdition f p behind one h = absurd (h refl)
+grounds-as-before unknown f p behind one h = refl
+
+-- ---- reading as before
+
+readFromBefore-skip : (f : SoFar) (p k : ℕ) (bs : List ℕ) → k ≤ length bs → readFromBefore f p k bs ≡ readFromBefore f (p + k) 0 (drop k bs)
+unfolding readFromBefore
+readFromBefore-skip f p zero bs h = ap (λ (q : ℕ). readFromBefore f q 0 bs) (omega arith)
+readFromBefore-skip f p (suc k) [] h = absurd (omega arith)
+readFromBefore-skip f p (suc k) (b ∷ bs) h =
+    readFromBefore-skip f (p + 1) k bs (omega arith) ∙ ap (λ (q : ℕ). readFromBefore f q 0 (drop k bs)) (omega arith)
+
+command-as-before : (b : ℕ) → (command b ≡ statesEdition → ⊥) → commandBefore b ≡ command b
+unfolding commandBefore
+command-as-before b h = ap (λ (t : Bool). pick t unknown (command b)) (ne-eqb b 0x56 (λ e. h (is-edition b e)))
+
+unknown-before : (b : ℕ) → command b ≡ statesEdition → commandBefore b ≡ unknown
+unfolding commandBefore
+unknown-before b is = ap (λ (t : Bool). pick t unknown (command b)) (eq-eqb b 0x56 (command-edition b is))
+
+met-before : (b : ℕ) (f : SoFar) (p : ℕ) (behind : List ℕ) → command b ≡ statesEdition → readFromBefore f p 0 (b ∷ behind) ≡ refused 2 p
+unfolding readFromBefore groundsBefore first proceed
+met-before b f p behind is =
+    ap (λ (c : Command). proceed (first (groundsBefore c f p behind)) c f (readFromBefore (extend c f behind) (p + 1) (operandBytes c) behind)) (unknown-before b is)
+
+-- A file that was accepted doesn't begin with 56
+not-opened : (file : List ℕ) {n : Net} → readFileBefore file ≡ accepted n → openingEdition file ≡ firstEdition
+unfolding readFileBefore openingEdition
+not-opened [] e = refl
+not-opened (b ∷ behind) {n} e =
+    ⊎-elim
+    (λ is.
+    let same : accepted n ≡ refused 2 0 = sym e ∙ met-before b nothingRead 0 behind is in
+    absurd (zero-ne-one (cc (same))))
+    (λ other. ap (λ (t : Bool). pick t (getD behind 0 0) firstEdition) (ne-eqb b 0x56 (λ i. other (is-edition b i)))) (edition-or-not (command b))
+
+module _ (file : List ℕ) where
+  -- What is read now is what was read before, or 56 is met, which was ground 2
+  abbrev AsBefore : Reading → Reading → Type 0
+  AsBefore now before = (now ≡ before) ⊎ (Meets file statesEdition × ((q : ℕ) × (before ≡ refused 2 q)))
+
+  module _ (b : ℕ) (f : SoFar) (p : ℕ) (behind : List ℕ) (r : Reached file f p (b ∷ behind)) (one : f .network .edition ≡ firstEdition)
+      (again : (g : SoFar) (q : ℕ) (rest : List ℕ) → length rest ≤ length behind → Reached file g q rest → g .network .edition ≡ firstEdition
+      → AsBefore (readFrom g q 0 rest) (readFromBefore g q 0 rest)) where
+    as-before-onward : first (grounds (command b) f p behind) ≡ Passes → (command b ≡ ends → ⊥) → (command b ≡ statesEdition → ⊥)
+        → AsBefore (readFrom (extend (command b) f behind) (p + 1) (operandBytes (command b)) behind)
+        (readFromBefore (extend (command b) f behind) (p + 1) (operandBytes (command b)) behind)
+    as-before-onward passes i other =
+        let k = operandBytes (command b) in
+        let whole = passes-operands (command b) f p behind passes in
+        rw (readFrom-skip (extend (command b) f behind) (p + 1) k behind whole, readFromBefore-skip (extend (command b) f behind) (p + 1) k behind whole)
+        (again _ _ _ (omega (arith, length-drop k behind)) (next r passes i) (others-keep-edition (command b) f behind other ∙ one))
+
+    as-before-step : (command b ≡ statesEdition) ⊎ (command b ≡ statesEdition → ⊥)
+        → AsBefore (readFrom f p 0 (b ∷ behind)) (readFromBefore f p 0 (b ∷ behind))
+    unfolding readFrom readFromBefore
+    as-before-step (inl is) =
+        inr (record { so-far = f; place = p; byte = b; behind = behind; comes-there = r; is-command = is }, (p, met-before b f p behind is))
+    as-before-step (inr other) =
+        rw (command-as-before b other, ← grounds-as-before (command b) f p behind one other)
+        (proceed-cases
+        (λ step. AsBefore (step (readFrom (extend (command b) f behind) (p + 1) (operandBytes (command b)) behind))
+        (step (readFromBefore (extend (command b) f behind) (p + 1) (operandBytes (command b)) behind)))
+        (first (grounds (command b) f p behind)) (command b) f
+        (λ number place e. inl refl)
+        (λ i e. inl refl)
+        (λ i e. as-before-onward e i other))
+
+  -- By the number of bytes that are left
+  as-before-from : (fuel : ℕ) (f : SoFar) (p : ℕ) (rest : List ℕ) → length rest ≤ fuel → Reached file f p rest → f .network .edition ≡ firstEdition
+      → AsBefore (readFrom f p 0 rest) (readFromBefore f p 0 rest)
+  unfolding readFrom readFromBefore
+  as-before-from zero f p [] h r one = inl refl
+  as-before-from zero f p (b ∷ behind) h r one = absurd (omega arith)
+  as-before-from (suc fuel) f p [] h r one = inl refl
+  as-before-from (suc fuel) f p (b ∷ behind) h r one =
+      as-before-step b f p behind r one (λ g q rest l r′ one′. as-before-from fuel g q rest (omega (arith, h, l)) r′ one′) (edition-or-not (command b))
+
+  as-before : AsBefore (readFile file) (readFileBefore file)
+  unfolding readFile readFileBefore
+  as-before = as-before-from (length file) nothingRead 0 file (omega arith) start refl
+
+  pub read-as-before : (Meets file statesEdition → ⊥) → readFile file ≡ readFileBefore file
+  read-as-before none = ⊎-elim (λ same. same) (λ w. absurd (none (w .0))) as-before
+
+  pub accepted-as-before : {n : Net} → readFileBefore file ≡ accepted n → readFile file ≡ accepted n
+  accepted-as-before {n} e =
+      ⊎-elim (λ same. same ∙ e)
+      (λ w.
+      let same : accepted n ≡ refused 2 (w .1 .0) = sym e ∙ w .1 .1 in
+      absurd (zero-ne-one (cc (same))))
+      as-before
+
+  -- .. and was in the first edition
+  pub accepted-before-edition : {n : Net} → readFileBefore file ≡ accepted n → n .edition ≡ firstEdition
+  accepted-before-edition {n} e = accepted-edition file (accepted-as-before e) ∙ not-opened file e
+
+-- ---- the same bytes some places on
+
+-- The same grounds so many places on
+moveGrounds : ℕ → List Ground → List Ground
+moveGrounds by [] = []
+moveGrounds by ((number at place when t) ∷ gs) = (number at by + place when t) ∷ moveGrounds by gs
+
+moveCheck : ℕ → Check → Check
+moveCheck by Passes = Passes
+moveCheck by (Refused number place) = Refused number (by + place)
+
+first-moved : (by : ℕ) (gs : List Ground) → first (moveGrounds by gs) ≡ moveCheck by (first gs)
+unfolding first moveGrounds moveCheck
+first-moved by [] = refl
+first-moved by ((number at place when true) ∷ gs) = refl
+first-moved by ((number at place when false) ∷ gs) = first-moved by gs
+
+-- 20 is the only ground that asks for the place
+grounds-moved : (by : ℕ) (c : Command) (f : SoFar) (p : ℕ) (behind : List ℕ) → (c ≡ statesEdition → 0 < p)
+    → grounds c f (by + p) behind ≡ moveGrounds by (grounds c f p behind)
+unfolding grounds callGrounds moveGrounds
+grounds-moved by statesLine f p behind h = refl
+grounds-moved by callsByOffset f p behind h = refl
+grounds-moved by callsByRide f p behind h = refl
+grounds-moved by ends f p behind h =
+    let next-place : by + p + 1 ≡ by + (p + 1) = omega arith in
+    ap
+    (λ (q : ℕ). (13 at by + p when eqb (length (f .network .periods)) 0 || someLineSilent (f .network)) ∷ (14 at q when leb 1 (length behind)) ∷ [])
+    next-place
+grounds-moved by statesEdition f p behind h =
+    ap
+    (λ (t : Bool).
+    (3 at by + p when cutOff statesEdition behind) ∷ (20 at by + p when t) ∷ (21 at by + p when editionUnknown (editionOperand behind)) ∷ [])
+    (lt-ltb 0 (by + p) (omega (arith, h refl)) ∙ sym (lt-ltb 0 p (h refl)))
+grounds-moved by unknown f p behind h = refl
+
+proceed-moved : (by : ℕ) (k : Check) (c : Command) (f : SoFar) (onward : Reading)
+    → proceed (moveCheck by k) c f (moved by onward) ≡ moved by (proceed k c f onward)
+unfolding proceed moved moveCheck
+proceed-moved by (Refused number place) c f onward = refl
+proceed-moved by Passes statesLine f onward = refl
+proceed-moved by Passes callsByOffset f onward = refl
+proceed-moved by Passes callsByRide f onward = refl
+proceed-moved by Passes ends f onward = refl
+proceed-moved by Passes statesEdition f onward = refl
+proceed-moved by Passes unknown f onward = refl
+
+-- No 56 stands at the place, or the place isn't byte 0
+abbrev NotOpened : ℕ → ℕ → List ℕ → Type 0
+NotOpened p k bs = p + k ≡ 0 → getD bs 0 0 ≡ 0x56 → ⊥
+
+readFrom-moved : (by : ℕ) (f : SoFar) (p k : ℕ) (bs : List ℕ) → NotOpened p k bs → readFrom f (by + p) k bs ≡ moved by (readFrom f p k bs)
+unfolding readFrom moved
+readFrom-moved by f p k [] h = refl
+readFrom-moved by f p (suc k) (b ∷ behind) h =
+    ap (λ (q : ℕ). readFrom f q k behind) (omega arith) ∙ readFrom-moved by f (p + 1) k behind (λ e. absurd (omega (arith, e)))
+readFrom-moved by f p zero (b ∷ behind) h =
+    let c = command b in
+    let onward = readFrom (extend c f behind) (p + 1) (operandBytes c) behind in
+    let behind-it : 0 < p + 1 = omega arith in
+    ap₂ (λ (k : Check) (m : Reading). proceed k c f m)
+    (ap first (grounds-moved by c f p behind (λ is. opened p (command-edition b is) h)) ∙ first-moved by (grounds c f p behind))
+    (ap (λ (q : ℕ). readFrom (extend c f behind) q (operandBytes c) behind) (omega arith)
+    ∙ readFrom-moved by (extend c f behind) (p + 1) (operandBytes c) behind (λ e. absurd (omega (arith, e))))
+    ∙ proceed-moved by (first (grounds c f p behind)) c f onward
+  where
+    opened : (q : ℕ) → b ≡ 0x56 → NotOpened q 0 (b ∷ behind) → 0 < q
+    opened zero e g = absurd (g refl e)
+    opened (suc q) e g = omega arith
+
+-- A file that states a known edition is read on behind it
+pub read-edition : (edition : ℕ) (rest : List ℕ) → firstEdition ≤ edition → edition ≤ latestEdition
+    → readFrom nothingRead 0 0 (0x56 ∷ edition ∷ rest) ≡ readFrom (soFar (netWith edition [] [])) 2 0 rest
+unfolding command operandBytes extend editionOperand
+read-edition edition rest low high =
+    read-onward 0x56 nothingRead 0 (edition ∷ rest) (soFar (netWith edition [] []))
+    (edition-fits-passes nothingRead 0 (edition ∷ rest) (record { operands = omega arith; opens = refl; from = low; to = high })) edition-not-end refl
+
+-- 56 01 before a file that doesn't begin with 56 changes nothing but the places
+pub first-edition-stated : (file : List ℕ) → (getD file 0 0 ≡ 0x56 → ⊥) → readFile (0x56 ∷ firstEdition ∷ file) ≡ moved 2 (readFile file)
+unfolding readFile
+first-edition-stated file h = read-edition firstEdition file (omega arith) (omega arith) ∙ readFrom-moved 2 nothingRead 0 0 file (λ e. h)
