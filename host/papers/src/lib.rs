@@ -6,6 +6,8 @@
 //!   here.
 //! * [`by_lines`] is that implementation as it stood before loop routes, which on
 //!   files without loops all calls still agree with.
+//! * [`before_editions`] is the reading as it stood before editions, by which files
+//!   without the command `56` are still read.
 //! * [`files`] makes network files and sheets, good and bad, from a seed, and
 //!   [`small`] networks so small that every timetable can be rated.
 //! * [`answers`] has the papers' answers in the types of the engine's wrapper.
@@ -17,6 +19,7 @@
 #![forbid(unsafe_code)]
 
 pub mod answers;
+pub mod before_editions;
 pub mod by_lines;
 pub mod child;
 pub mod files;

@@ -5,8 +5,8 @@
 //! walk of a mark does.
 
 use crate::sections::network::{
-    self, Call, Counts, Refusal, CALL, END, FOLLOW, LINE, MAX_CALLS, MAX_CYCLE, MAX_LINES,
-    MAX_OFFSET, MAX_PERIOD, STOPS,
+    self, Call, Counts, Refusal, CALL, EDITION, END, FIRST_EDITION, FOLLOW, LATEST_EDITION, LINE,
+    MAX_CALLS, MAX_CYCLE, MAX_LINES, MAX_OFFSET, MAX_PERIOD, STOPS,
 };
 use crate::sections::rating::Rating;
 use crate::sections::sheets::{Better, Marked};
@@ -86,6 +86,7 @@ pub fn mark_by(
 
 /// What has been read of a file.
 struct Network {
+    edition: u8,
     lines: usize,
     periods: LineRow,
     /// The least common multiple of the periods.
@@ -113,6 +114,7 @@ struct Network {
 impl Network {
     fn empty() -> Network {
         Network {
+            edition: FIRST_EDITION,
             lines: 0,
             periods: [0; MAX_LINES],
             cycle: 1,
@@ -140,8 +142,9 @@ impl Network {
                 [END] => return self.end().map_err(|number| Refusal { number, place }),
                 // Here the place is behind the command, if the end is in order.
                 [END, ..] => self.end().and(Err(14)),
+                [EDITION, edition, ..] => self.open(place, edition).map(|()| 2),
                 [] => Err(1),
-                [LINE | CALL | FOLLOW, ..] => Err(3),
+                [EDITION | LINE | CALL | FOLLOW, ..] => Err(3),
                 _ => Err(2),
             };
             place += taken.map_err(|number| Refusal {
@@ -149,6 +152,18 @@ impl Network {
                 place: place + usize::from(number == 14),
             })?;
         }
+    }
+
+    /// Grounds 20 and 21.
+    fn open(&mut self, place: usize, edition: u8) -> Result<(), u8> {
+        if place != 0 {
+            return Err(20);
+        }
+        if !(FIRST_EDITION..=LATEST_EDITION).contains(&edition) {
+            return Err(21);
+        }
+        self.edition = edition;
+        Ok(())
     }
 
     /// Grounds 4 to 6.
@@ -169,9 +184,12 @@ impl Network {
         Ok(())
     }
 
-    /// Grounds 7 to 12. The minutes count from the line's start or, where the
-    /// call follows, from its latest call.
+    /// Ground 19, where the call follows, and 7 to 12. The minutes count from the
+    /// line's start or, where the call follows, from its latest call.
     fn call(&mut self, line: usize, stop: usize, minutes: u32, follows: bool) -> Result<(), u8> {
+        if follows && self.edition > FIRST_EDITION {
+            return Err(19);
+        }
         if line >= self.lines {
             return Err(7);
         }
@@ -225,6 +243,7 @@ impl Network {
         let mut calls: Vec<Call> = (0..STOPS).flat_map(|stop| self.calls_at(stop)).collect();
         calls.sort_unstable();
         network::Network {
+            edition: self.edition,
             periods: self.periods[..self.lines].to_vec(),
             calls,
             cycle: self.cycle,

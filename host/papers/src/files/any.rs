@@ -3,7 +3,7 @@
 use super::bytes::{likely_bytes, random_bytes};
 use super::damaged::damaged_file;
 use super::dice::Dice;
-use super::faulty::faulty_file;
+use super::faulty::{faulty_file, GROUNDS};
 use super::large::{limit_file, very_long_file};
 use super::valid::valid_file;
 
@@ -13,7 +13,7 @@ pub fn any_file(dice: &mut Dice) -> Vec<u8> {
         0..=99 => valid_file(dice),
         100..=139 => damaged_file(dice),
         140..=169 => {
-            let ground = dice.within(1, 14) as u8;
+            let ground = dice.pick(&GROUNDS);
             faulty_file(dice, ground).bytes
         }
         170..=179 => limit_file(dice),

@@ -1,10 +1,11 @@
 //! Commands, their bytes and what they state.
 
-use crate::sections::network::{CALL, END, FOLLOW, LINE, STOPS};
+use crate::sections::network::{CALL, EDITION, END, FIRST_EDITION, FOLLOW, LINE, STOPS};
 
 /// One command of a file.
 #[derive(Clone, Copy, Debug, PartialEq, Eq)]
 pub enum Command {
+    Edition { edition: u8 },
     Line { period: u16 },
     Call { line: u8, stop: u8, offset: u16 },
     Follow { line: u8, stop: u8, ride: u16 },
@@ -15,6 +16,7 @@ impl Command {
     /// The bytes of the command.
     pub fn bytes(self) -> Vec<u8> {
         match self {
+            Command::Edition { edition } => vec![EDITION, edition],
             Command::Line { period } => [vec![LINE], period.to_be_bytes().to_vec()].concat(),
             Command::Call { line, stop, offset } => {
                 [vec![CALL, line, stop], offset.to_be_bytes().to_vec()].concat()
@@ -36,12 +38,23 @@ pub fn bytes_of(commands: &[Command]) -> Vec<u8> {
 }
 
 /// What a run of commands, each of them in order, has stated.
-#[derive(Clone, Debug, Default, PartialEq, Eq)]
+#[derive(Clone, Debug, PartialEq, Eq)]
 pub struct Stated {
+    pub edition: u8,
     /// The periods of the lines.
     pub periods: Vec<u16>,
     /// Line, stop and offset of each call, in file order.
     pub calls: Vec<(u8, u8, u16)>,
+}
+
+impl Default for Stated {
+    fn default() -> Stated {
+        Stated {
+            edition: FIRST_EDITION,
+            periods: Vec::new(),
+            calls: Vec::new(),
+        }
+    }
 }
 
 impl Stated {
@@ -56,6 +69,7 @@ impl Stated {
 
     pub(super) fn add(&mut self, command: Command) {
         match command {
+            Command::Edition { edition } => self.edition = edition,
             Command::Line { period } => self.periods.push(period),
             Command::Call { line, stop, offset } => self.calls.push((line, stop, offset)),
             Command::Follow { line, stop, ride } => {
@@ -64,6 +78,11 @@ impl Stated {
             }
             Command::End => {}
         }
+    }
+
+    /// Whether a call may be counted from the line's latest one.
+    pub fn has_rides(&self) -> bool {
+        self.edition == FIRST_EDITION
     }
 
     /// The offset of a line's latest call.

@@ -3,6 +3,7 @@
 use super::bytes::likely_bytes;
 use super::dice::Dice;
 use super::valid::valid_file;
+use crate::sections::network::EDITION;
 
 /// A valid file with some damage. It may by chance still be valid.
 pub fn damaged_file(dice: &mut Dice) -> Vec<u8> {
@@ -21,7 +22,7 @@ fn damage(dice: &mut Dice, bytes: &mut Vec<u8>) {
     }
     let at = dice.below(bytes.len());
     let other = dice.below(bytes.len());
-    match dice.below(9) {
+    match dice.below(10) {
         0 => bytes[at] = dice.byte(),
         1 => bytes[at] ^= 1 << dice.below(8),
         2 => bytes[at] = likely_bytes(dice, 1)[0],
@@ -30,6 +31,8 @@ fn damage(dice: &mut Dice, bytes: &mut Vec<u8>) {
         5 => bytes.truncate(at),
         6 => bytes.swap(at, other),
         7 => bytes.push(dice.byte()),
+        // An edition, as a rule not where it belongs.
+        8 => drop(bytes.splice(at..at, [EDITION, dice.pick(&[0, 1, 2, 2, 3])])),
         _ => {
             // A stretch of the file stands there twice.
             let stretch = bytes[at.min(other)..=at.max(other)].to_vec();

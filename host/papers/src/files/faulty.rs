@@ -3,13 +3,16 @@
 use super::bytes::random_bytes;
 use super::commands::{bytes_of, Command, Stated};
 use super::dice::Dice;
-use super::valid::{any_minutes, valid_commands};
+use super::valid::{any_minutes, opening, valid_commands};
 use crate::sections::network::{
-    CALL, END, FOLLOW, LINE, MAX_CALLS, MAX_CALLS_AT_STOP, MAX_CYCLE, MAX_LINES, MAX_OFFSET,
-    MAX_PERIOD, STOPS,
+    CALL, EDITION, END, FIRST_EDITION, FOLLOW, LATEST_EDITION, LINE, MAX_CALLS, MAX_CALLS_AT_STOP,
+    MAX_CYCLE, MAX_LINES, MAX_OFFSET, MAX_PERIOD, STOPS,
 };
 
-/// A refused file with the place that document 01 gives it.
+/// The grounds of a file's author: those of document 01 and of document 02, A.6.
+pub const GROUNDS: [u8; 17] = [1, 2, 3, 4, 5, 6, 7, 8, 9, 10, 11, 12, 13, 14, 19, 20, 21];
+
+/// A refused file with the place that the papers give it.
 #[derive(Clone, Debug, PartialEq, Eq)]
 pub struct Faulty {
     pub bytes: Vec<u8>,
@@ -17,7 +20,7 @@ pub struct Faulty {
     pub place: usize,
 }
 
-/// A file that is refused on the given ground, 1 to 14.
+/// A file that is refused on the given ground, one of [`GROUNDS`].
 pub fn faulty_file(dice: &mut Dice, ground: u8) -> Faulty {
     loop {
         // Not every valid file can be spoilt on every ground.
@@ -44,11 +47,10 @@ pub fn faulty_file(dice: &mut Dice, ground: u8) -> Faulty {
 
 /// A valid file whose lines each call at all of so many stops.
 fn crowded(dice: &mut Dice, lines: usize, stops: usize) -> Vec<Command> {
-    let mut commands: Vec<Command> = (0..lines)
-        .map(|_| Command::Line {
-            period: dice.pick(&[10, 12, 15, 20, 30, 60]),
-        })
-        .collect();
+    let mut commands = opening(dice);
+    commands.extend((0..lines).map(|_| Command::Line {
+        period: dice.pick(&[10, 12, 15, 20, 30, 60]),
+    }));
     for line in 0..lines {
         for stop in 0..stops {
             commands.push(Command::Call {
@@ -84,7 +86,7 @@ fn cut_or_unknown(dice: &mut Dice, commands: &[Command], ground: u8) -> (Vec<u8>
 fn unknown_command(dice: &mut Dice) -> u8 {
     loop {
         let byte = dice.byte();
-        if ![LINE, CALL, FOLLOW, END].contains(&byte) {
+        if ![EDITION, LINE, CALL, FOLLOW, END].contains(&byte) {
             return byte;
         }
     }
@@ -99,7 +101,7 @@ fn byte_behind(dice: &mut Dice, commands: &[Command]) -> (Vec<u8>, usize) {
     (bytes, place)
 }
 
-/// Grounds 4 to 13: one faulty command put before one of the valid ones. `None`
+/// Grounds 4 to 13 and 19 to 21: one faulty command put before one of the valid ones. `None`
 /// if what is stated there doesn't allow this fault.
 fn with_faulty_command(
     dice: &mut Dice,
@@ -110,6 +112,8 @@ fn with_faulty_command(
         // The places where these can occur are known.
         4 => dice.within(MAX_LINES, commands.len() - 1),
         10 => commands.len() - 1,
+        20 => dice.within(1, commands.len() - 1),
+        21 => 0,
         _ => dice.below(commands.len()),
     };
     let fault = faulty_command(dice, &Stated::by(&commands[..at]), ground)?;
@@ -119,12 +123,12 @@ fn with_faulty_command(
     Some(([before, fault.bytes(), behind].concat(), place))
 }
 
-/// A command that, after what is stated, has this ground and no lower one.
-/// Operands that only a higher ground would look at are free.
+/// A command that, after what is stated, has this ground and none that is tried
+/// before it. Operands that only a later ground would look at are free.
 fn faulty_command(dice: &mut Dice, stated: &Stated, ground: u8) -> Option<Command> {
     let lines = stated.periods.len();
     match ground {
-        4 => Some(Command::Line {
+        4 if lines == MAX_LINES => Some(Command::Line {
             period: dice.bits() as u16,
         }),
         5 if lines < MAX_LINES => Some(Command::Line {
@@ -133,18 +137,42 @@ fn faulty_command(dice: &mut Dice, stated: &Stated, ground: u8) -> Option<Comman
         6 if lines < MAX_LINES => too_long_a_cycle(dice, stated),
         7 => {
             let (line, stop) = (dice.within(lines, 255) as u8, dice.byte());
-            Some(either(dice, line, stop))
+            Some(either(dice, stated, line, stop))
         }
         13 if lines == 0 || !stated.silent_lines().is_empty() => Some(Command::End),
         8..=12 if lines > 0 => faulty_call(dice, stated, ground),
+        19 if !stated.has_rides() => Some(any_ride(dice, stated)),
+        20 => Some(Command::Edition {
+            edition: dice.pick(&[0, 1, 2, 2, 3, 255]),
+        }),
+        21 => Some(Command::Edition {
+            edition: unknown_edition(dice),
+        }),
         _ => None,
     }
 }
 
-/// A `43` or a `46` with any offset or ride.
-fn either(dice: &mut Dice, line: u8, stop: u8) -> Command {
+/// Ground 19: a `46` whose line may be stated or not, at a stop that there is or not.
+fn any_ride(dice: &mut Dice, stated: &Stated) -> Command {
+    let any = [dice.byte(), dice.byte()];
+    let lines = stated.periods.len();
+    let likely = [dice.below(lines + 2) as u8, dice.below(STOPS + 2) as u8];
+    let [line, stop] = if dice.once_in(4) { any } else { likely };
+    let ride = any_minutes(dice, u16::MAX);
+    Command::Follow { line, stop, ride }
+}
+
+/// Ground 21: 0 or above the latest.
+fn unknown_edition(dice: &mut Dice) -> u8 {
+    let next = LATEST_EDITION + 1;
+    let any = dice.within(usize::from(next), 255) as u8;
+    dice.pick(&[FIRST_EDITION - 1, next, u8::MAX, any])
+}
+
+/// A `43` or, where the edition has it, a `46`, with any offset or ride.
+fn either(dice: &mut Dice, stated: &Stated, line: u8, stop: u8) -> Command {
     let minutes = any_minutes(dice, u16::MAX);
-    match dice.once_in(2) {
+    match !stated.has_rides() || dice.once_in(2) {
         true => Command::Call {
             line,
             stop,
@@ -163,12 +191,12 @@ fn faulty_call(dice: &mut Dice, stated: &Stated, ground: u8) -> Option<Command> 
     let line = dice.below(stated.periods.len()) as u8;
     if ground == 8 {
         let stop = dice.within(STOPS, 255) as u8;
-        return Some(either(dice, line, stop));
+        return Some(either(dice, stated, line, stop));
     }
     if ground == 9 {
         let full = |call: &&(u8, u8, u16)| stated.how_often(call.0, call.1) == MAX_CALLS_AT_STOP;
         let (line, stop, _) = *stated.calls.iter().find(full)?;
-        return Some(either(dice, line, stop));
+        return Some(either(dice, stated, line, stop));
     }
     let free = stated.free_stops(line);
     if free.is_empty() {
@@ -177,7 +205,8 @@ fn faulty_call(dice: &mut Dice, stated: &Stated, ground: u8) -> Option<Command> 
     let stop = dice.pick(&free);
     let full = stated.calls.len() == MAX_CALLS;
     match (ground, stated.latest(line)) {
-        (10, _) if full => Some(either(dice, line, stop)),
+        (10, _) if full => Some(either(dice, stated, line, stop)),
+        (11 | 12, _) if !stated.has_rides() => None,
         (11, None) if !full => Some(Command::Follow {
             line,
             stop,

@@ -3,7 +3,7 @@
 use super::bytes::{likely_bytes, random_bytes};
 use super::commands::{bytes_of, Command};
 use super::dice::Dice;
-use super::valid::{valid_commands, valid_file};
+use super::valid::{known_edition, opening, valid_commands, valid_file};
 use crate::sections::network::MAX_CALLS;
 
 /// A network of exactly so many lines and stops, with as many calls as the
@@ -36,8 +36,8 @@ pub fn dense_file(dice: &mut Dice, lines: usize, stops: usize) -> Vec<u8> {
     bytes_of(&commands)
 }
 
-/// The longest file there is, 1,329 bytes: 16 lines, 256 calls in any order and
-/// the end.
+/// The longest file there is, 1,331 bytes: its edition, 16 lines, 256 calls in any
+/// order and the end.
 pub fn longest_file(dice: &mut Dice) -> Vec<u8> {
     let period = dice.pick(&[12, 60, 1_440]);
     let mut calls: Vec<Command> = (0..=255u8)
@@ -48,24 +48,24 @@ pub fn longest_file(dice: &mut Dice) -> Vec<u8> {
         })
         .collect();
     dice.shuffle(&mut calls);
+    let opening = vec![known_edition(dice)];
     let lines = vec![Command::Line { period }; 16];
-    bytes_of(&[lines, calls, vec![Command::End]].concat())
+    bytes_of(&[opening, lines, calls, vec![Command::End]].concat())
 }
 
 /// A file at one of the limits or beyond it: of lines, periods, the cycle,
-/// stops, calls or offsets.
+/// stops, calls or offsets, now and then in edition 2.
 pub fn limit_file(dice: &mut Dice) -> Vec<u8> {
     let lines = dice.pick(&[1, 4, 4, 5, 5, 8, 15, 16, 16, 17]);
     let stops = dice.pick(&[1, 2, 15, 16, 17, 32, 51, 52, 63, 64, 65]);
     let period = dice.pick(&[1, 7, 60, 60, 1_439, 1_440, 1_440, 1_441]);
-    let mut commands: Vec<Command> = (0..lines)
-        .map(|_| Command::Line {
-            period: match dice.below(60) {
-                0 => dice.pick(&[0, 7, 11, 1_440, 1_441]),
-                _ => period,
-            },
-        })
-        .collect();
+    let mut commands = opening(dice);
+    commands.extend((0..lines).map(|_| Command::Line {
+        period: match dice.below(60) {
+            0 => dice.pick(&[0, 7, 11, 1_440, 1_441]),
+            _ => period,
+        },
+    }));
     for line in 0..lines as u8 {
         for stop in 0..stops as u8 {
             let offset = dice.pick(&[0, 1, 59, 32_768, 65_534, 65_535]);

@@ -2,7 +2,9 @@
 
 use super::commands::{bytes_of, Command, Stated};
 use super::dice::Dice;
-use crate::sections::network::{MAX_CALLS, MAX_CALLS_AT_STOP, MAX_PERIOD, STOPS};
+use crate::sections::network::{
+    FIRST_EDITION, LATEST_EDITION, MAX_CALLS, MAX_CALLS_AT_STOP, MAX_PERIOD, STOPS,
+};
 
 /// Bounds for a generated network.
 #[derive(Clone, Debug)]
@@ -40,6 +42,22 @@ fn period_pool(size: &Size) -> Vec<u16> {
         .collect()
 }
 
+/// A quarter of the files begin with their edition, one of those that are known.
+pub(super) fn opening(dice: &mut Dice) -> Vec<Command> {
+    match dice.once_in(4) {
+        true => vec![known_edition(dice)],
+        false => Vec::new(),
+    }
+}
+
+/// An edition that is known.
+pub(super) fn known_edition(dice: &mut Dice) -> Command {
+    let [first, latest] = [FIRST_EDITION, LATEST_EDITION].map(usize::from);
+    Command::Edition {
+        edition: dice.within(first, latest) as u8,
+    }
+}
+
 /// The bytes of a file that is accepted.
 pub fn valid_file(dice: &mut Dice) -> Vec<u8> {
     bytes_of(&valid_commands(dice))
@@ -51,11 +69,10 @@ pub fn valid_file(dice: &mut Dice) -> Vec<u8> {
 pub fn roomy_file(dice: &mut Dice) -> Vec<u8> {
     let common = dice.pick(&[8, 10, 12, 20, 30]);
     let (lines, stops) = (dice.within(2, 5), dice.within(1, 4));
-    let mut commands: Vec<Command> = (0..lines)
-        .map(|_| Command::Line {
-            period: common * dice.pick(&[1, 1, 1, 2, 3]),
-        })
-        .collect();
+    let mut commands = opening(dice);
+    commands.extend((0..lines).map(|_| Command::Line {
+        period: common * dice.pick(&[1, 1, 1, 2, 3]),
+    }));
     for call in 0..lines * stops {
         let (line, stop) = (call / stops, call % stops);
         if line % stops == stop || dice.once_in(2) {
@@ -76,16 +93,16 @@ pub fn valid_commands(dice: &mut Dice) -> Vec<Command> {
     valid_commands_of(dice, &size)
 }
 
-/// The commands of a file that is accepted, within the bounds: lines and calls
-/// in a random order, each call after its line.
+/// The commands of a file that is accepted, within the bounds: now and then the
+/// edition, then lines and calls in a random order, each call after its line.
 pub fn valid_commands_of(dice: &mut Dice, size: &Size) -> Vec<Command> {
     let pool = period_pool(size);
     let lines = dice.within(size.lines.0, size.lines.1);
     let mut waiting = choose_stops(dice, size, lines);
     // By the second a line comes back to a stop.
     let road = choose_roads(dice);
-    let mut stated = Stated::default();
-    let mut commands = Vec::new();
+    let mut commands = opening(dice);
+    let mut stated = Stated::by(&commands);
     loop {
         let ready: Vec<usize> = (0..stated.periods.len())
             .filter(|&line| !waiting[line].is_empty())
@@ -164,7 +181,8 @@ fn choose_stops(dice: &mut Dice, size: &Size, lines: usize) -> Vec<Vec<u8>> {
         .collect()
 }
 
-/// A call of a line at a stop, as `43` or, where that is possible, as `46`.
+/// A call of a line at a stop, as `43` or, where that is possible in the edition, as
+/// `46`.
 pub(super) fn call_or_follow(
     dice: &mut Dice,
     stated: &Stated,
@@ -173,11 +191,13 @@ pub(super) fn call_or_follow(
     offset: u16,
 ) -> Command {
     match stated.latest(line) {
-        Some(latest) if latest <= offset && !dice.once_in(4) => Command::Follow {
-            line,
-            stop,
-            ride: offset - latest,
-        },
+        Some(latest) if stated.has_rides() && latest <= offset && !dice.once_in(4) => {
+            Command::Follow {
+                line,
+                stop,
+                ride: offset - latest,
+            }
+        }
         _ => Command::Call { line, stop, offset },
     }
 }

@@ -2,7 +2,8 @@
 //!
 //! | file          | section of document 01                              |
 //! |---------------|-----------------------------------------------------|
-//! | `network.rs`  | The network file; Grounds for refusing, 1 to 14     |
+//! | `network.rs`  | The network file; Grounds for refusing, 1 to 14;    |
+//! |               | document 02, A.6: editions, 19 to 21                |
 //! | `rating.rs`   | Gap and rating                                      |
 //! | `classes.rs`  | Classes of stops; ground 17                         |
 //! | `caps.rs`     | Caps                                                |

@@ -1,6 +1,6 @@
 //! Document 01, "The network file", and grounds 1 to 14 of "Grounds for
 //! refusing"; document 02, A.2: "A line may now call twice at a stop; ground 9
-//! is for the third."
+//! is for the third"; and A.6: the edition, with grounds 19 to 21.
 
 /// "at most 16 lines"
 pub const MAX_LINES: usize = 16;
@@ -16,8 +16,13 @@ pub const MAX_CYCLE: u32 = 10_080;
 pub const MAX_OFFSET: u32 = 65_535;
 /// "A line may now call twice at a stop"
 pub const MAX_CALLS_AT_STOP: usize = 2;
+/// "without it the edition is 1"
+pub const FIRST_EDITION: u8 = 1;
+/// The last edition that is known; a later request raises it.
+pub const LATEST_EDITION: u8 = 2;
 
-/// The four command bytes.
+/// The five command bytes.
+pub const EDITION: u8 = 0x56;
 pub const LINE: u8 = 0x4C;
 pub const CALL: u8 = 0x43;
 pub const FOLLOW: u8 = 0x46;
@@ -39,9 +44,10 @@ pub struct Call {
     pub offset: u32,
 }
 
-/// An accepted network.
+/// An accepted network. "The edition is part of the network."
 #[derive(Clone, Debug, PartialEq, Eq)]
 pub struct Network {
+    pub edition: u8,
     /// The period of each line, in file order.
     pub periods: Vec<u32>,
     /// The calls, in their order: nothing but reading goes by the file's.
@@ -102,7 +108,8 @@ pub fn read_counts(file: &[u8]) -> Result<Counts, Refusal> {
 }
 
 /// Reads a network file. "Commands are checked in file order, grounds in
-/// ascending order; the place is the command's byte."
+/// ascending order; the place is the command's byte." Of the later grounds 19 comes
+/// "between grounds 3 and 7", 20 "after ground 3", 21 "after 20".
 pub fn read(file: &[u8]) -> Result<Network, Refusal> {
     let mut reader = Reader::new();
     let mut place = 0;
@@ -113,7 +120,7 @@ pub fn read(file: &[u8]) -> Result<Network, Refusal> {
         let width = operand_width(command).ok_or(refuse(2))?;
         let behind = place + 1 + width;
         let operands = file.get(place + 1..behind).ok_or(refuse(3))?;
-        reader.command(command, operands).map_err(refuse)?;
+        reader.command(place, command, operands).map_err(refuse)?;
         if command == END {
             return match file.len() > behind {
                 true => Err(Refusal {
@@ -130,6 +137,7 @@ pub fn read(file: &[u8]) -> Result<Network, Refusal> {
 /// The number of operand bytes behind a command byte, if it is a command.
 fn operand_width(command: u8) -> Option<usize> {
     match command {
+        EDITION => Some(1),
         LINE => Some(2),
         CALL | FOLLOW => Some(4),
         END => Some(0),
@@ -155,6 +163,7 @@ type Ground = u8;
 impl Reader {
     fn new() -> Reader {
         let net = Network {
+            edition: FIRST_EDITION,
             periods: Vec::new(),
             calls: Vec::new(),
             cycle: 1,
@@ -171,9 +180,10 @@ impl Reader {
         self.net
     }
 
-    /// Takes one command whose operands are all there.
-    fn command(&mut self, command: u8, operands: &[u8]) -> Result<(), Ground> {
+    /// Takes the command at a place, whose operands are all there.
+    fn command(&mut self, place: usize, command: u8, operands: &[u8]) -> Result<(), Ground> {
         match command {
+            EDITION => self.edition(place, operands[0]),
             LINE => self.line(number(operands)),
             CALL | FOLLOW => self.call(
                 command,
@@ -183,6 +193,14 @@ impl Reader {
             ),
             _ => self.end(),
         }
+    }
+
+    /// `56`: grounds 20, 21.
+    fn edition(&mut self, place: usize, edition: u8) -> Result<(), Ground> {
+        check(place == 0, 20)?;
+        check((FIRST_EDITION..=LATEST_EDITION).contains(&edition), 21)?;
+        self.net.edition = edition;
+        Ok(())
     }
 
     /// `4C`: grounds 4, 5, 6.
@@ -195,9 +213,10 @@ impl Reader {
         Ok(())
     }
 
-    /// `43` and `46`: grounds 7 to 12. The last operand is the offset or the
-    /// ride.
+    /// `43` and `46`: grounds 7 to 12, and for `46` before them 19: "Edition 2 has no
+    /// `46`", nor have later ones. The last operand is the offset or the ride.
     fn call(&mut self, command: u8, line: usize, stop: usize, last: u32) -> Result<(), Ground> {
+        check(command != FOLLOW || self.net.edition == FIRST_EDITION, 19)?;
         check(line < self.net.lines(), 7)?;
         check(stop < STOPS, 8)?;
         let there = |call: &&Call| (call.line, call.stop) == (line, stop);
