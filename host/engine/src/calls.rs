@@ -11,9 +11,9 @@ use crate::refusal::Refusal;
 use crate::sheet::Sheet;
 use std::ops::RangeInclusive;
 
-/// How long an archive form is: a line takes 3 bytes, a call 5, the end 1, and
-/// there are at most 16 lines and 256 calls.
-const ARCHIVE_LENGTHS: RangeInclusive<usize> = 3 + 5 + 1..=16 * 3 + 256 * 5 + 1;
+/// How long an archive form is: an edition above 1 takes 2 bytes, a line 3, a call 5,
+/// the end 1, and there are at most 16 lines and 256 calls.
+const ARCHIVE_LENGTHS: RangeInclusive<usize> = 3 + 5 + 1..=2 + 16 * 3 + 256 * 5 + 1;
 
 /// Return values from here on are refusals (docs/ABI.md, "How things cross").
 const REFUSED: u32 = 65_536;

@@ -2,7 +2,7 @@
 
 use crate::calls::archive;
 use crate::refusal::Refusal;
-use crate::typed::{commands, CALL, END, LINE};
+use crate::typed::{commands, CALL, EDITION, END, LINE};
 
 /// What an accepted network file says. It is taken from the archive form, which
 /// the engine writes, and never from the file: what stands here is what the
@@ -14,7 +14,7 @@ use crate::typed::{commands, CALL, END, LINE};
 /// // A ride: 3 minutes, and 5 more.
 /// let network = typed::read(b"4C000F 4300050003 4600000005 45")?;
 /// let contents = contents(network.bytes()).expect("an accepted network");
-/// assert_eq!(contents.periods, [15]);
+/// assert_eq!((contents.edition, &contents.periods[..]), (1, &[15][..]));
 /// let call = |stop, offset| Call { line: 0, stop, offset };
 /// assert_eq!(contents.calls, [call(0, 8), call(5, 3)]);
 /// # Ok::<(), typed::Mistyped>(())
@@ -22,6 +22,8 @@ use crate::typed::{commands, CALL, END, LINE};
 #[derive(Clone, Debug, PartialEq, Eq)]
 #[non_exhaustive]
 pub struct Contents {
+    /// The edition by whose rules the file is read, 1 where it states none.
+    pub edition: u8,
     /// The periods in line order, in minutes.
     pub periods: Vec<u16>,
     /// The calls in the order of the archive form: by line, then stop, then
@@ -87,11 +89,14 @@ impl Contents {
 pub fn contents(file: &[u8]) -> Result<Contents, Refusal> {
     let form = archive(file)?;
     let mut contents = Contents {
+        // An archive form states every other.
+        edition: 1,
         periods: Vec::new(),
         calls: Vec::new(),
     };
     for command in commands(&form) {
         match *command {
+            [EDITION, edition] => contents.edition = edition,
             [LINE, high, low] => contents.periods.push(u16::from_be_bytes([high, low])),
             [CALL, line, stop, high, low] => contents.calls.push(Call {
                 line,

@@ -5,7 +5,7 @@ use std::fmt;
 /// Why a call is refused: the grounds of document 01, "Grounds for refusing",
 /// and of the requests of document 02.
 ///
-/// A ground has a number, which is printed, and words. Later editions of the
+/// A ground has a number, which is printed, and words. Later versions of the
 /// engine have more grounds, so that a `match` needs an arm for others.
 ///
 /// ```
@@ -56,6 +56,12 @@ pub enum Ground {
     ClassRowLength = 17,
     /// 18: the archive row is shorter than the archive form.
     ArchiveRowLength = 18,
+    /// 19: a ride in an edition that has none.
+    RideRetired = 19,
+    /// 20: the edition isn't the file's first command.
+    EditionNotFirst = 20,
+    /// 21: the edition isn't 1 or 2.
+    EditionUnknown = 21,
 }
 
 impl Ground {
@@ -68,7 +74,7 @@ impl Ground {
     ///     assert_eq!(ground.number() as usize, before + 1);
     /// }
     /// ```
-    pub const ALL: [Ground; 18] = [
+    pub const ALL: [Ground; 21] = [
         Ground::NoCommand,
         Ground::UnknownCommand,
         Ground::CutOff,
@@ -87,9 +93,12 @@ impl Ground {
         Ground::StartRowLength,
         Ground::ClassRowLength,
         Ground::ArchiveRowLength,
+        Ground::RideRetired,
+        Ground::EditionNotFirst,
+        Ground::EditionUnknown,
     ];
 
-    /// The number, 1 to 18.
+    /// The number, 1 to 21.
     ///
     /// ```
     /// assert_eq!(engine::Ground::SheetLength.number(), 15);
@@ -123,6 +132,9 @@ impl Ground {
             Ground::StartRowLength => "the start row hasn't one place for each line",
             Ground::ClassRowLength => "the class or weight row isn't 64 long",
             Ground::ArchiveRowLength => "the archive row is shorter than the archive form",
+            Ground::RideRetired => "a ride in an edition that has none",
+            Ground::EditionNotFirst => "the edition isn't the file's first command",
+            Ground::EditionUnknown => "the edition isn't 1 or 2",
         }
     }
 
@@ -134,9 +146,12 @@ impl Ground {
     ///
     /// assert!(Ground::ByteAfterEnd.is_of_file());
     /// assert!(!Ground::SheetLength.is_of_file());
+    /// assert!(Ground::EditionUnknown.is_of_file());
     /// ```
     pub fn is_of_file(self) -> bool {
-        self <= Ground::ByteAfterEnd
+        // Later requests have added grounds of files behind these.
+        let of_call = Ground::SheetLength..=Ground::ArchiveRowLength;
+        !of_call.contains(&self)
     }
 }
 
@@ -158,8 +173,8 @@ impl TryFrom<u32> for Ground {
 /// ```
 /// use engine::{Ground, NoGround};
 ///
-/// assert_eq!(Ground::try_from(19), Err(NoGround(19)));
-/// assert_eq!(NoGround(19).to_string(), "there is no ground 19");
+/// assert_eq!(Ground::try_from(22), Err(NoGround(22)));
+/// assert_eq!(NoGround(22).to_string(), "there is no ground 22");
 /// ```
 #[derive(Clone, Copy, Debug, PartialEq, Eq)]
 pub struct NoGround(pub u32);

@@ -18,6 +18,14 @@ use crate::origin::Origin;
 use crate::text;
 use std::fmt;
 
+/// The byte that begins the edition's command, a file's first where it has one: the
+/// edition follows.
+///
+/// ```
+/// let typed = engine::typed::read(b"56 02").unwrap();
+/// assert_eq!(typed.bytes()[0], engine::typed::EDITION);
+/// ```
+pub const EDITION: u8 = 0x56;
 /// The byte that begins a line's command: its period follows.
 ///
 /// ```
@@ -33,7 +41,7 @@ pub const LINE: u8 = 0x4C;
 /// ```
 pub const CALL: u8 = 0x43;
 /// The byte that begins a call counted from the line's call before: line, stop
-/// and ride follow.
+/// and ride follow. Edition 1 alone has it.
 ///
 /// ```
 /// let typed = engine::typed::read(b"46 00 01 0005").unwrap();
@@ -220,6 +228,7 @@ pub fn commands(file: &[u8]) -> Vec<&[u8]> {
 /// The number of bytes of a command; an unknown one is shown by its one byte.
 fn width(command: u8) -> usize {
     match command {
+        EDITION => 2,
         LINE => 3,
         CALL | FOLLOW => 5,
         _ => 1,
@@ -352,9 +361,10 @@ mod tests {
     #[test]
     fn a_line_for_each_command() {
         let bytes = [
-            0x4C, 0x00, 0x0F, 0x43, 0x00, 0x3F, 0xFF, 0xF8, 0x46, 0x00, 0x01, 0x00, 0x0A, 0x45,
+            0x56, 0x01, 0x4C, 0x00, 0x0F, 0x43, 0x00, 0x3F, 0xFF, 0xF8, 0x46, 0x00, 0x01, 0x00,
+            0x0A, 0x45,
         ];
-        let typed = "4C 000F\n43 00 3F FFF8\n46 00 01 000A\n45\n";
+        let typed = "56 01\n4C 000F\n43 00 3F FFF8\n46 00 01 000A\n45\n";
         assert_eq!(text(&bytes), typed);
         assert_eq!(read(typed.as_bytes()).expect("pairs").bytes(), bytes);
         assert_eq!(text(&[]), "");

@@ -27,6 +27,7 @@
 //! | `NAME at MINUTES`        | it calls at the stop, so long after its start        |
 //! | `NAME +MINUTES`          | it calls at the stop, so long after the call above   |
 //! | `stop NUMBER NAME`       | the number of a stop, before the first call          |
+//! | `edition NUMBER`         | the edition, before the first line; without it 1     |
 //!
 //! Calls stand under their line; the first has `at`. Two may name one stop.
 //!
@@ -38,13 +39,15 @@
 //! several, at least one of its characters a letter, with at most 60 characters.
 //! It has none of the words `line`, `stop`, `every` and `at`, and none that
 //! begins with `+`, so that nothing can be read in two ways. Names of two lines, or
-//! of two stops, differ in more than capitals.
+//! of two stops, differ in more than capitals. A line or a stop may be called
+//! `edition`: `edition at 5` is a call.
 //!
 //! # What becomes of it
 //!
-//! The bytes have `4C` for each line, behind it `43` for each of its calls with
-//! the minutes from the line's start, and in the end `45`. Whether they are a
-//! network, the engine says; a refusal's place leads to the text line.
+//! The bytes have `56` for an edition, `4C` for each line, behind it `43` for each of
+//! its calls with the minutes from the line's start, and in the end `45`. So `+` may be
+//! written in every edition. Whether the bytes are a network, and an edition's place
+//! and number, the engine says; a refusal's place leads to the text line.
 //!
 //! ```
 //! use engine::{plan, Ground};

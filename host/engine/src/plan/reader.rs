@@ -5,7 +5,7 @@ use super::names::Names;
 use super::statement::{statement, Minutes, Statement};
 use crate::origin::Origin;
 use crate::text;
-use crate::typed::{CALL, END, LINE};
+use crate::typed::{CALL, EDITION, END, LINE};
 use std::collections::BTreeMap;
 
 /// A plan: the network file that it says, where in the text each byte comes from,
@@ -101,10 +101,19 @@ struct Reader {
 impl Reader {
     fn add(&mut self, statement: Statement) -> Result<(), Fault> {
         match statement {
+            Statement::Edition { edition } => {
+                self.add_edition(edition);
+                Ok(())
+            }
             Statement::Line { name, period } => self.add_line(name, period),
             Statement::Stop { number, name } => self.add_stop(number, name),
             Statement::Call { stop, minutes } => self.add_call(stop, minutes),
         }
+    }
+
+    /// Whether it stands first, and whether there is such an edition, the engine says.
+    fn add_edition(&mut self, edition: u8) {
+        self.plan.bytes.extend([EDITION, edition]);
     }
 
     fn add_line(&mut self, name: String, period: u16) -> Result<(), Fault> {
@@ -250,6 +259,31 @@ mod tests {
         assert_eq!(plan.bytes(), [0x4C, 0, 20, 0x43, 0, 0, 0, 8, 0x45]);
         assert_eq!(plan.line(3), Some((3, "Market at 8")));
         assert_eq!(read(b"").expect("a plan").line(0), None);
+    }
+
+    /// An edition stands where it is stated; a stop above it has no bytes.
+    #[test]
+    fn editions() {
+        let text = b"# new\nstop 0 X\nedition 2\nline A every 5\nX at 0\nX +1";
+        let plan = read(text).expect("a plan");
+        let bytes = [
+            0x56, 2, 0x4C, 0, 5, 0x43, 0, 0, 0, 0, 0x43, 0, 0, 0, 1, 0x45,
+        ];
+        assert_eq!(plan.bytes(), bytes);
+        assert_eq!(plan.line(0), Some((3, "edition 2")));
+        let late = read(b"line A every 5\nX at 7\nedition 255\nY +1").expect("a plan");
+        assert_eq!(late.bytes()[8..10], [0x56, 255]);
+        assert_eq!(late.bytes()[10..15], [0x43, 0, 1, 0, 8]);
+        assert_eq!(late.line(8), Some((3, "edition 255")));
+        // A line and a stop may be called so.
+        let named = read(b"line edition 2 every 5\nedition at 7\nedition +1\nedition 2 at 9");
+        let named = named.expect("a plan");
+        assert_eq!(named.bytes()[..3], [0x4C, 0, 5]);
+        assert_eq!(
+            (named.names().line(0), named.names().stop(0)),
+            (Some("edition 2"), Some("edition"))
+        );
+        assert_eq!(named.names().stop(1), Some("edition 2"));
     }
 
     #[test]

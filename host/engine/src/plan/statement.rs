@@ -3,10 +3,11 @@
 use super::fault::{BadName, Fault};
 use crate::text::is_hidden;
 
+const EDITION_FORM: &str = "edition NUMBER";
 const LINE_FORM: &str = "line NAME every PERIOD";
 const STOP_FORM: &str = "stop NUMBER NAME";
-const CALL_FORM: &str = "NAME at MINUTES or NAME +MINUTES (or line NAME every PERIOD, or stop \
-                         NUMBER NAME)";
+const CALL_FORM: &str = "NAME at MINUTES or NAME +MINUTES (or line NAME every PERIOD, stop \
+                         NUMBER NAME, edition NUMBER)";
 
 /// The words of statements: in a name they could be read in two ways.
 const WORDS: [&str; 4] = ["line", "stop", "every", "at"];
@@ -17,6 +18,7 @@ const LONGEST_NAME: usize = 60;
 /// A statement; its numbers are those for which there are bytes.
 #[derive(Debug, PartialEq, Eq)]
 pub(super) enum Statement {
+    Edition { edition: u8 },
     Line { name: String, period: u16 },
     Stop { number: u8, name: String },
     Call { stop: String, minutes: Minutes },
@@ -51,6 +53,11 @@ pub(super) fn statement(text: &[u8]) -> Result<Option<Statement>, Fault> {
             name: name_of(name)?,
         },
         ["stop"] => return no_statement(STOP_FORM),
+        // A stop may be called so, too: `edition +5` is a call.
+        ["edition", edition] if !edition.starts_with('+') => Statement::Edition {
+            edition: number(edition)?,
+        },
+        ["edition"] => return no_statement(EDITION_FORM),
         [stop @ .., "at", minutes] => Statement::Call {
             stop: name_of(stop)?,
             minutes: Minutes::At(number(minutes)?),
@@ -158,6 +165,11 @@ mod tests {
             read("stop 255 Mühle"),
             Statement::Stop { number: 255, name }
         );
+        assert_eq!(read(" edition  2"), Statement::Edition { edition: 2 });
+        assert_eq!(read("edition 255"), Statement::Edition { edition: 255 });
+        assert_eq!(read("edition at 5"), call("edition", Minutes::At(5)));
+        assert_eq!(read("edition +5"), call("edition", Minutes::On(5)));
+        assert_eq!(read("edition 2 at 5"), call("edition 2", Minutes::At(5)));
         assert_eq!(statement(b" \t\r"), Ok(None));
     }
 
@@ -180,6 +192,10 @@ mod tests {
         for text in ["LINE Red EVERY 20", "Market +8 minutes", "Market AT 8"] {
             expected(text, call);
         }
+        for text in ["Edition 2", "edition 2 of 2", "2nd edition"] {
+            expected(text, call);
+        }
+        expected("edition", "edition NUMBER");
         let line = "line NAME every PERIOD";
         for text in ["line", "line Red", "line Red at 8", "line Red every 20 min"] {
             expected(text, line);
@@ -213,6 +229,9 @@ mod tests {
         expected("Market at +8", "+8", 65_535);
         expected("Market +65536", "65536", 65_535);
         expected("stop 256 Market", "256", 255);
+        expected("edition 256", "256", 255);
+        expected("edition 02", "02", 255);
+        expected("edition two", "two", 255);
         expected("stop Market 5", "Market", 255);
         expected("stop Market at 8", "Market", 255);
         expected("Market at \u{1B}8", "\\u{1b}8", 65_535);

@@ -4,9 +4,9 @@ use super::names::Names;
 use crate::contents::Contents;
 use std::collections::BTreeSet;
 
-/// The plan of a network. Each stop has its number and each call its minutes from
-/// the line's start, so that reading the plan gives the same network. A line or
-/// stop without a name is named by its number, `L0` and `S5`.
+/// The plan of a network. An edition above 1 stands first, each stop has its number
+/// and each call its minutes from the line's start, so that reading the plan gives the
+/// same network. A line or stop without a name is named by its number, `L0` and `S5`.
 ///
 /// ```
 /// use engine::{contents, plan, typed};
@@ -27,7 +27,10 @@ pub fn text(contents: &Contents, names: &Names) -> String {
     };
     let called = contents.calls.iter().map(|call| call.stop);
     let stops: BTreeSet<u8> = called.chain(names.stops()).collect();
-    let mut text = String::new();
+    let mut text = match contents.edition {
+        1 => String::new(),
+        edition => format!("edition {edition}\n\n"),
+    };
     for stop in stops {
         text += &format!("stop {stop} {}\n", stop_name(stop));
     }
