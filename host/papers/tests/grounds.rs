@@ -1,7 +1,7 @@
-//! Document 01, "Grounds for refusing": one file per ground by hand, the order
-//! of the grounds, and generated files for each ground.
+//! Document 01, "Grounds for refusing", and document 02, A.6: one file per ground by
+//! hand, the order of the grounds, and generated files for each ground.
 
-use papers::files::{faulty_file, Dice};
+use papers::files::{faulty_file, Dice, GROUNDS};
 use papers::sections::network::{read, Refusal};
 
 /// Number and place, (0, 0) if accepted.
@@ -10,6 +10,10 @@ fn refused(file: &[u8]) -> (u8, usize) {
         Err(Refusal { number, place }) => (number, place),
         Ok(_) => (0, 0),
     }
+}
+
+fn edition(edition: u8) -> Vec<u8> {
+    vec![0x56, edition]
 }
 
 fn line(period: u16) -> Vec<u8> {
@@ -54,8 +58,8 @@ fn ground_2_unknown_command() {
     assert_eq!(refused(&[0]), (2, 0));
     let file = [line(15), call(0, 0, 8), vec![0x44], end()].concat();
     assert_eq!(refused(&file), (2, 8));
-    // Every byte but the four.
-    for byte in (0..=255u8).filter(|byte| ![0x4C, 0x43, 0x46, 0x45].contains(byte)) {
+    // Every byte but the five.
+    for byte in (0..=255u8).filter(|byte| ![0x56, 0x4C, 0x43, 0x46, 0x45].contains(byte)) {
         let file = [line(15), vec![byte, 0, 0, 0, 0], end()].concat();
         assert_eq!(refused(&file), (2, 3));
     }
@@ -70,7 +74,11 @@ fn ground_3_operands_cut_off() {
         assert_eq!(refused(&cut_call), (3, 3));
         let cut_follow = [line(15), follow(0, 0, 8)[..length].to_vec()].concat();
         assert_eq!(refused(&cut_follow), (3, 3));
+        let cut_follow = [edition(2), follow(0, 0, 8)[..length].to_vec()].concat();
+        assert_eq!(refused(&cut_follow), (3, 2));
     }
+    assert_eq!(refused(&[0x56]), (3, 0));
+    assert_eq!(refused(&[line(15), vec![0x56]].concat()), (3, 3));
 }
 
 #[test]
@@ -172,6 +180,81 @@ fn ground_14_a_byte_after_the_end() {
     }
 }
 
+#[test]
+fn ground_19_follow_in_edition_2() {
+    let calls = [line(15), call(0, 0, 8)].concat();
+    assert_eq!(
+        refused(&[calls.clone(), follow(0, 1, 5), end()].concat()),
+        (0, 0)
+    );
+    let first = [edition(1), calls.clone(), follow(0, 1, 5), end()].concat();
+    assert_eq!(refused(&first), (0, 0));
+    let second = [edition(2), calls.clone(), follow(0, 1, 5), end()].concat();
+    assert_eq!(refused(&second), (19, 10));
+    // An operand may have the command's byte.
+    let operands = [edition(2), line(0x46), call(0, 0x3F, 0x4656), end()].concat();
+    assert_eq!(refused(&operands), (0, 0));
+}
+
+#[test]
+fn ground_20_edition_not_first() {
+    for number in [0, 1, 2, 3, 255] {
+        let behind = [line(15), edition(number), call(0, 0, 8), end()].concat();
+        assert_eq!(refused(&behind), (20, 3));
+        for first in [1, 2] {
+            let second = [edition(first), edition(number), line(15)].concat();
+            assert_eq!(refused(&second), (20, 2));
+        }
+    }
+}
+
+#[test]
+fn ground_21_edition_unknown() {
+    for number in 0..=255u8 {
+        let file = [edition(number), line(15), call(0, 0, 8), end()].concat();
+        let expected = if [1, 2].contains(&number) {
+            (0, 0)
+        } else {
+            (21, 0)
+        };
+        assert_eq!(refused(&file), expected, "edition {number}");
+    }
+}
+
+/// "19: `46` in edition 2, between grounds 3 and 7; 20: `56` not first, after ground 3;
+/// 21: edition unknown, after 20."
+#[test]
+fn grounds_of_editions_in_their_order() {
+    // 3 before 19, 19 before 7 to 12.
+    assert_eq!(refused(&[edition(2), vec![0x46, 9, 9, 0]].concat()), (3, 2));
+    assert_eq!(refused(&[edition(2), follow(9, 9, 0)].concat()), (19, 2));
+    assert_eq!(refused(&[edition(1), follow(9, 9, 0)].concat()), (7, 2));
+    let stated = [line(15), follow(0, 64, 0)].concat();
+    assert_eq!(refused(&[edition(2), stated.clone()].concat()), (19, 5));
+    assert_eq!(refused(&[edition(1), stated].concat()), (8, 5));
+    let nowhere = [line(15), follow(0, 0, 0)].concat();
+    assert_eq!(refused(&[edition(2), nowhere.clone()].concat()), (19, 5));
+    assert_eq!(refused(&[edition(1), nowhere].concat()), (11, 5));
+    let full = [lines(5), all_calls(), follow(4, 0, 0)].concat();
+    assert_eq!(
+        refused(&[edition(2), full.clone()].concat()),
+        (19, 15 + 5 * 256 + 2)
+    );
+    assert_eq!(
+        refused(&[edition(1), full].concat()),
+        (10, 15 + 5 * 256 + 2)
+    );
+    // 20 before 21.
+    assert_eq!(refused(&[edition(2), edition(7)].concat()), (20, 2));
+    // An unknown edition comes before what stands behind it.
+    assert_eq!(refused(&[edition(0), vec![0]].concat()), (21, 0));
+    // Behind the end nothing is read as a command.
+    let file = [line(15), call(0, 0, 8), end(), edition(2)].concat();
+    assert_eq!(refused(&file), (14, 9));
+    assert_eq!(refused(&edition(2)), (1, 2));
+    assert_eq!(refused(&[edition(2), end()].concat()), (13, 2));
+}
+
 /// "Commands are checked in file order, grounds in ascending order."
 #[test]
 fn lower_grounds_come_first() {
@@ -248,7 +331,7 @@ fn follow_goes_on_from_the_latest_call() {
 /// Generated files for each ground, their places known by how they were made.
 #[test]
 fn generated_files_for_each_ground() {
-    for ground in 1..=14 {
+    for ground in GROUNDS {
         let mut dice = Dice::new(u64::from(ground));
         for _ in 0..400 {
             let faulty = faulty_file(&mut dice, ground);

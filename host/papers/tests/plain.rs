@@ -3,7 +3,7 @@
 
 use papers::files::{
     any_budget, any_file, any_sheet_bytes, dense_file, faulty_file, sheet, sheet_bytes, valid_file,
-    Dice,
+    Dice, GROUNDS,
 };
 use papers::plain;
 use papers::sections::network::{read, read_counts, Refusal};
@@ -13,21 +13,28 @@ use papers::sections::sheets::{
 use papers::sections::walk::walk;
 use papers::strong;
 
+/// Whether each ground of a file occurs often enough.
+fn each_ground_in(outcomes: &[usize]) -> bool {
+    GROUNDS
+        .iter()
+        .all(|&ground| outcomes[usize::from(ground)] > 20)
+}
+
 /// Files of any kind; counts and refusals on each ground of a file occur often
 /// enough.
 #[test]
 fn reads_as_the_papers_do() {
     let mut dice = Dice::new(97);
-    let mut outcomes = [0; 15];
+    let mut outcomes = [0; 22];
     for case in 0..20_000 {
         let file = any_file(&mut dice);
         let expected = read_counts(&file);
         assert_eq!(plain::read(&file), expected, "case {case}");
         outcomes[expected.map_or_else(|why| usize::from(why.number), |_| 0)] += 1;
     }
-    println!("counts, then refusals 1 to 14: {outcomes:?}");
+    println!("counts, then refusals 1 to 21: {outcomes:?}");
     assert!(outcomes[0] > 5_000, "{outcomes:?}");
-    assert!(outcomes.iter().all(|&count| count > 20), "{outcomes:?}");
+    assert!(each_ground_in(&outcomes), "{outcomes:?}");
 }
 
 /// Sheets that fit and others; now and then both are the same. Each answer on a
@@ -64,7 +71,7 @@ fn betters_as_the_papers_do() {
 #[test]
 fn marks_as_the_papers_do() {
     let mut dice = Dice::new(99);
-    let (mut kinds, mut grounds) = ([0; 3], [0; 16]);
+    let (mut kinds, mut grounds) = ([0; 3], [0; 22]);
     for case in 0..12_000 {
         let file = any_file(&mut dice);
         let budget = any_budget(&mut dice);
@@ -81,9 +88,9 @@ fn marks_as_the_papers_do() {
             Err(why) => grounds[usize::from(why.number)] += 1,
         }
     }
-    println!("below, equal, undecided: {kinds:?}; refusals 1 to 15: {grounds:?}");
+    println!("below, equal, undecided: {kinds:?}; refusals 1 to 21: {grounds:?}");
     assert!(kinds.iter().all(|&count| count > 500), "{kinds:?}");
-    assert!(grounds[1..].iter().all(|&count| count > 20), "{grounds:?}");
+    assert!(each_ground_in(&grounds) && grounds[15] > 20, "{grounds:?}");
 }
 
 /// A sheet for a file, now and then the best timetable that a walk finds.
@@ -105,7 +112,7 @@ fn sheet_to_mark(dice: &mut Dice, file: &[u8], budget: u32) -> Vec<u8> {
 #[test]
 fn rates_as_the_papers_do() {
     let mut dice = Dice::new(91);
-    let mut outcomes = [0; 16];
+    let mut outcomes = [0; 22];
     for case in 0..20_000 {
         let file = any_file(&mut dice);
         let lines = read(&file).map_or(3, |net| net.lines());
@@ -114,9 +121,12 @@ fn rates_as_the_papers_do() {
         assert_eq!(plain::rate(&file, &bytes), expected, "case {case}");
         outcomes[expected.map_or_else(|why| usize::from(why.number), |_| 0)] += 1;
     }
-    println!("ratings, then refusals 1 to 15: {outcomes:?}");
+    println!("ratings, then refusals 1 to 21: {outcomes:?}");
     assert!(outcomes[0] > 5_000, "{outcomes:?}");
-    assert!(outcomes.iter().all(|&count| count > 20), "{outcomes:?}");
+    assert!(
+        each_ground_in(&outcomes) && outcomes[15] > 20,
+        "{outcomes:?}"
+    );
 }
 
 /// Against arrivals counted, by which nothing is shared but the network.
@@ -171,7 +181,7 @@ fn compare_large(file: &[u8], sheets: &[Vec<u8>]) {
 #[test]
 fn refuses_on_each_ground() {
     let mut dice = Dice::new(94);
-    for ground in 1..=14 {
+    for ground in GROUNDS {
         for _ in 0..200 {
             let faulty = faulty_file(&mut dice, ground);
             let expected = Refusal {

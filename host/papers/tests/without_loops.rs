@@ -4,6 +4,7 @@
 
 use engine::Sheet;
 use papers::answers;
+use papers::before_editions::is_of_before;
 use papers::by_lines;
 use papers::files::{any_file, faulty_file, sheet, valid_file, Dice};
 use papers::sections::archive::archive_form;
@@ -16,8 +17,12 @@ use papers::sections::walk::walk;
 const BUDGET: u32 = 3_000;
 
 /// What a file gives is the same but for a line's second call at a stop, which
-/// was refused. Returns the network by lines where there is one.
+/// was refused, and for editions, which there weren't. Returns the network by lines
+/// where there is one.
 fn compared(file: &[u8]) -> Option<by_lines::network::Network> {
+    if !is_of_before(file) {
+        return None;
+    }
     match (by_lines::network::read(file), read(file)) {
         (Ok(before), now) => {
             assert_eq!(now.map(|net| net.counts()), Ok(before.counts()));
@@ -65,8 +70,11 @@ fn answers_as_before(dice: &mut Dice, file: &[u8], before: &by_lines::network::N
 fn files_without_loops_are_answered_as_before() {
     let mut dice = Dice::new(91);
     let (mut without, mut with) = (0, 0);
-    for _ in 0..4_000 {
+    for _ in 0..5_000 {
         let file = valid_file(&mut dice);
+        if !is_of_before(&file) {
+            continue;
+        }
         match compared(&file) {
             Some(before) => {
                 answers_as_before(&mut dice, &file, &before);

@@ -3,7 +3,7 @@
 use super::bytes::{likely_bytes, random_bytes};
 use super::commands::{bytes_of, Command};
 use super::dice::Dice;
-use super::valid::{known_edition, opening, valid_commands, valid_file};
+use super::valid::{opening, valid_commands, valid_file};
 use crate::sections::network::MAX_CALLS;
 
 /// A network of exactly so many lines and stops, with as many calls as the
@@ -38,7 +38,7 @@ pub fn dense_file(dice: &mut Dice, lines: usize, stops: usize) -> Vec<u8> {
 
 /// The longest file there is, 1,331 bytes: its edition, 16 lines, 256 calls in any
 /// order and the end.
-pub fn longest_file(dice: &mut Dice) -> Vec<u8> {
+pub fn longest_file(dice: &mut Dice, edition: u8) -> Vec<u8> {
     let period = dice.pick(&[12, 60, 1_440]);
     let mut calls: Vec<Command> = (0..=255u8)
         .map(|call| Command::Call {
@@ -48,7 +48,7 @@ pub fn longest_file(dice: &mut Dice) -> Vec<u8> {
         })
         .collect();
     dice.shuffle(&mut calls);
-    let opening = vec![known_edition(dice)];
+    let opening = vec![Command::Edition { edition }];
     let lines = vec![Command::Line { period }; 16];
     bytes_of(&[opening, lines, calls, vec![Command::End]].concat())
 }

@@ -44,17 +44,12 @@ fn period_pool(size: &Size) -> Vec<u16> {
 
 /// A quarter of the files begin with their edition, one of those that are known.
 pub(super) fn opening(dice: &mut Dice) -> Vec<Command> {
-    match dice.once_in(4) {
-        true => vec![known_edition(dice)],
-        false => Vec::new(),
-    }
-}
-
-/// An edition that is known.
-pub(super) fn known_edition(dice: &mut Dice) -> Command {
     let [first, latest] = [FIRST_EDITION, LATEST_EDITION].map(usize::from);
-    Command::Edition {
-        edition: dice.within(first, latest) as u8,
+    match dice.once_in(4) {
+        true => vec![Command::Edition {
+            edition: dice.within(first, latest) as u8,
+        }],
+        false => Vec::new(),
     }
 }
 

@@ -1,7 +1,7 @@
 //! The cases of the paper, each ground, stopped and deep searches.
 
 use crate::given::{agreed, long_search, network, printed, PAPER, PAPER_LINE, SHORT};
-use papers::files::{faulty_file, Dice};
+use papers::files::{faulty_file, Dice, GROUNDS};
 use papers::program;
 use papers::sections::best::best;
 use papers::sections::network::read;
@@ -52,16 +52,35 @@ fn refused_files() {
 #[test]
 fn every_ground() {
     let mut dice = Dice::new(21);
-    for ground in 1..=14 {
+    for ground in GROUNDS {
         for _ in 0..5 {
             let faulty = faulty_file(&mut dice, ground);
             let line = format!("refused {ground} at {}\n", faulty.place);
             assert_eq!(agreed(&faulty.bytes), line);
         }
     }
-    // The last place of all: a byte behind 16 lines, 256 calls and the end.
+    // The last place of all: a byte behind an edition, 16 lines, 256 calls and the end.
     let longest = [deepest_walk(), vec![0]].concat();
     assert_eq!(agreed(&longest), "refused 14 at 1329\n");
+    for edition in [1, 2] {
+        let longest = [&[0x56, edition], &longest[..]].concat();
+        assert_eq!(agreed(&longest), "refused 14 at 1331\n");
+    }
+}
+
+/// Document 02, A.6: the edition plays no part in what is printed of a network.
+#[test]
+fn editions() {
+    for edition in [1, 2] {
+        assert_eq!(agreed(&[&[0x56, edition], &PAPER[..]].concat()), PAPER_LINE);
+    }
+    assert_eq!(agreed(&[0x56]), "refused 3 at 0\n");
+    assert_eq!(agreed(&[0x56, 3]), "refused 21 at 0\n");
+    assert_eq!(agreed(&[0x56, 2, 0x56, 7]), "refused 20 at 2\n");
+    assert_eq!(
+        agreed(&[0x56, 2, 0x46, 9, 9, 0, 0, 0x45]),
+        "refused 19 at 2\n"
+    );
 }
 
 #[test]

@@ -3,6 +3,7 @@
 use crate::given::{agreed, finishes_within};
 use papers::files::{
     any_file, bytes_of, damaged_file, faulty_file, valid_commands_of, valid_file, Dice, Size,
+    GROUNDS,
 };
 use std::sync::atomic::{AtomicUsize, Ordering};
 
@@ -48,7 +49,7 @@ fn seeded_files() {
         lines.len()
     );
     assert!(finished >= 1_000 && stopped >= 8);
-    for ground in 1..=14 {
+    for ground in GROUNDS {
         assert!(beginning(&format!("refused {ground} at ")) >= OF_EACH_GROUND);
     }
 }
@@ -57,7 +58,7 @@ fn seeded_files() {
 fn seeded() -> Vec<Vec<u8>> {
     let mut dice = Dice::new(23);
     let mut files = Vec::new();
-    for ground in 1..=14 {
+    for ground in GROUNDS {
         files.extend((0..OF_EACH_GROUND).map(|_| faulty_file(&mut dice, ground).bytes));
     }
     files.extend((0..DAMAGED).map(|_| damaged_file(&mut dice)));

@@ -18,7 +18,7 @@ fn best_reads_4096_bytes() {
     let mut input = p1();
     input.resize(5_000, 0);
     assert_eq!(best(&input), "refused 14 at 17\n");
-    // The longest accepted file has 16×3 + 256×5 + 1 = 1,329 bytes, so a longer
+    // The longest accepted file has 2 + 16×3 + 256×5 + 1 = 1,331 bytes, so a longer
     // input is refused in any case; bytes beyond 4,096 change nothing.
     let mut long = vec![0x4C; 4_096];
     let printed = best(&long);

@@ -4,6 +4,7 @@
 mod archive;
 mod best;
 mod cycle;
+mod editions;
 mod given;
 mod hundred;
 mod loops;

@@ -5,23 +5,33 @@ use papers::files::{longest_file, Dice};
 use papers::sections::archive::archive_form;
 use papers::sections::network::read;
 
-/// Ground 14 at 1,329 from every call that can refuse, whatever stands behind.
+/// In either edition the archive form comes whole; only that of the second is as long.
+#[test]
+fn the_longest_archive_forms() {
+    for (edition, length) in [(1, 1_329), (2, 1_331)] {
+        let longest = longest_file(&mut Dice::new(75), edition);
+        let net = read(&longest).expect("an accepted file");
+        assert_eq!(
+            (longest.len(), net.lines(), net.calls.len()),
+            (1_331, 16, 256)
+        );
+        let form = archive_form(&net);
+        assert_eq!(form.len(), length);
+        assert_eq!(engine::archive(&longest), Ok(form));
+    }
+}
+
+/// Ground 14 at 1,331 from every call that can refuse, whatever stands behind.
 #[test]
 fn a_byte_behind_the_longest_file() {
-    let longest = longest_file(&mut Dice::new(75));
-    let net = read(&longest).expect("an accepted file");
-    assert_eq!(
-        (longest.len(), net.lines(), net.calls.len()),
-        (1_329, 16, 256)
-    );
-    assert_eq!(engine::archive(&longest), Ok(archive_form(&net)));
+    let longest = longest_file(&mut Dice::new(75), 2);
     let sheet = Sheet::of_starts(&[0; 16]);
-    for length in [1_330, 4_096, 5_000] {
+    for length in [1_332, 4_096, 5_000] {
         let mut longer = longest.clone();
         longer.resize(length, 0x45);
         let refusal = Err(Refusal {
             ground: Ground::ByteAfterEnd,
-            place: 1_329,
+            place: 1_331,
         });
         assert_eq!(engine::read(&longer).map(drop), refusal);
         assert_eq!(engine::rate(&longer, &sheet).map(drop), refusal);

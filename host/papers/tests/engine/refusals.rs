@@ -1,6 +1,7 @@
 //! Refusals: their words, and the rows of a refused call.
 
 use engine::{Ground, NoGround, Refusal};
+use papers::files::GROUNDS;
 
 /// Each ground has words of its own, and the README has the same ones.
 #[test]
@@ -18,10 +19,19 @@ fn words_for_each_ground() {
         let row = format!("| {number} | {words}");
         assert!(readme.contains(&row), "the README has no '{row}'");
     }
-    let numbers: Vec<u32> = (1..=18).collect();
+    let numbers: Vec<u32> = (1..=21).collect();
     assert_eq!(Ground::ALL.map(Ground::number), numbers[..]);
-    for number in [0, 19, u32::MAX] {
+    for number in [0, 22, u32::MAX] {
         assert_eq!(Ground::try_from(number), Err(NoGround(number)));
+    }
+}
+
+/// Which grounds are those of a file's author.
+#[test]
+fn grounds_of_the_file() {
+    for ground in Ground::ALL {
+        let of_file = GROUNDS.map(u32::from).contains(&ground.number());
+        assert_eq!(ground.is_of_file(), of_file, "{ground:?}");
     }
 }
 

@@ -4,6 +4,7 @@ use engine::{Hundred, Mark, Refusal, Sheet};
 use papers::answers::{counts, marked, out_of_hundred, rating_or_refusal, refusal, sought, walked};
 use papers::files::{
     any_budget, any_file, any_gap, any_sheet_bytes, random_bytes, roomy_file, sheet_bytes, Dice,
+    GROUNDS,
 };
 use papers::sections;
 use papers::sections::archive::archive_form;
@@ -48,6 +49,8 @@ struct Kind {
     alike: bool,
     /// The archive form isn't the file itself.
     untidy: bool,
+    /// The edition, 0 if the file is refused.
+    edition: u8,
 }
 
 /// Compares every call on the case of a number.
@@ -62,6 +65,7 @@ fn case(number: usize) -> Kind {
     let mut kind = Kind {
         empty: file.is_empty(),
         very_long: file.len() >= 10_000,
+        edition: net.as_ref().map_or(0, |net| net.edition),
         ..Kind::default()
     };
     assert_eq!(
@@ -274,7 +278,9 @@ fn seeded_files_and_sheets() {
     let kinds = all_kinds(cases);
     assert_eq!(kinds.len(), cases);
     let count = |test: &dyn Fn(&Kind) -> bool| kinds.iter().filter(|kind| test(kind)).count();
-    let grounds: Vec<usize> = (0..=15)
+    let grounds: Vec<usize> = [0, 15]
+        .into_iter()
+        .chain(GROUNDS.map(u32::from))
         .map(|ground| count(&|kind| kind.ground == ground))
         .collect();
     let searches = [0, 1, 2].map(|end| count(&|kind| kind.search == Some(end)));
@@ -285,7 +291,9 @@ fn seeded_files_and_sheets() {
     let above_key = count(&|kind| kind.above_key);
     let [long, empty] = [count(&|kind| kind.very_long), count(&|kind| kind.empty)];
     let [alike, untidy] = [count(&|kind| kind.alike), count(&|kind| kind.untidy)];
-    println!("{cases} cases; rated and refused by ground: {grounds:?}");
+    let editions = [1, 2].map(|edition| count(&|kind| kind.edition == edition));
+    println!("{cases} cases; rated, refused by the sheet and by each ground: {grounds:?}");
+    println!("edition 1, edition 2: {editions:?}");
     println!("searches finished, stopped, stopped with none: {searches:?}");
     println!("wanted gaps found, none, stopped: {wanted:?}");
     println!("better first, second, neither: {betters:?}");
@@ -301,6 +309,7 @@ fn seeded_files_and_sheets() {
         &betters,
         &marks,
         &hundreds,
+        &editions,
         &[long, empty, alike, untidy, above_key],
     ]
     .concat();

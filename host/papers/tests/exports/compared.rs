@@ -28,7 +28,7 @@ pub fn refused(refusal: Refusal) -> u32 {
 #[derive(Clone, Debug, Default)]
 pub struct Seen {
     pub answers: [usize; 3],
-    pub grounds: [usize; 19],
+    pub grounds: [usize; 22],
     /// What was returned at last.
     pub last: u32,
 }
@@ -44,7 +44,7 @@ impl Seen {
 
     /// Whether each of these grounds was seen often, and no other one.
     pub fn has_exactly(&self, grounds: &[usize]) -> bool {
-        (1..19).all(|number| match grounds.contains(&number) {
+        (1..22).all(|number| match grounds.contains(&number) {
             true => self.grounds[number] >= 10,
             false => self.grounds[number] == 0,
         })

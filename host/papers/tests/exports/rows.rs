@@ -3,7 +3,7 @@
 use crate::compared::{compare_archive, compare_wanted, three_lines, Seen};
 use crate::lent::{answer_row, Lent};
 use crate::{examination_classes, examination_search};
-use papers::files::{bytes_of, faulty_file, Command, Dice};
+use papers::files::{bytes_of, faulty_file, Command, Dice, GROUNDS};
 use papers::sections::classes::classes;
 use papers::sections::network::read;
 use papers::sections::walk::walk;
@@ -61,7 +61,7 @@ fn start_rows_of_a_wanted_gap() {
 #[test]
 fn the_files_ground_comes_before_a_wanted_gaps_row() {
     let mut dice = Dice::new(79);
-    for ground in 1..=14u8 {
+    for ground in GROUNDS {
         let faulty = faulty_file(&mut dice, ground);
         let mut seen = Seen::default();
         for length in [0, 1, 16, 17, 5_000] {
@@ -105,7 +105,8 @@ fn filled(dice: &mut Dice, file: &[u8], class: usize, weight: usize) -> u32 {
 }
 
 /// Ground 18 asks for the archive form's length and not for more, on the shortest
-/// file, a middling one and the longest.
+/// file, a middling one and the longest, each without an edition, which its archive
+/// form hasn't either, with the first, and with the second, which it has.
 #[test]
 fn archive_rows_of_every_length() {
     let mut dice = Dice::new(65);
@@ -123,12 +124,15 @@ fn archive_rows_of_every_length() {
         (three_lines([15, 20, 12]), 35),
         (bytes_of(&longest), 1_329),
     ];
-    for (file, right) in files {
-        let mut seen = Seen::default();
-        for length in (0..=right + 40).chain([4_096, 4_097, 65_536, 65_537]) {
-            compare_archive(&mut dice, &file, length, &mut seen);
+    for (file, without) in files {
+        for (opening, more) in [(&[][..], 0), (&[0x56, 1], 0), (&[0x56, 2], 2)] {
+            let (file, right) = ([opening, &file].concat(), without + more);
+            let mut seen = Seen::default();
+            for length in (0..=right + 40).chain([4_096, 4_097, 65_536, 65_537]) {
+                compare_archive(&mut dice, &file, length, &mut seen);
+            }
+            assert_eq!((seen.answers[0], seen.grounds[18]), (45, right));
         }
-        assert_eq!((seen.answers[0], seen.grounds[18]), (45, right));
     }
 }
 
@@ -137,10 +141,10 @@ fn archive_rows_of_every_length() {
 #[test]
 fn the_files_ground_comes_before_the_archive_rows() {
     let mut dice = Dice::new(66);
-    for ground in 1..=14u8 {
+    for ground in GROUNDS {
         let faulty = faulty_file(&mut dice, ground);
         let mut seen = Seen::default();
-        for length in [0, 1, 8, 1_329, 5_000] {
+        for length in [0, 1, 8, 1_331, 5_000] {
             compare_archive(&mut dice, &faulty.bytes, length, &mut seen);
         }
         assert_eq!(seen.grounds[usize::from(ground)], 5);

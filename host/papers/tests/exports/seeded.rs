@@ -5,7 +5,7 @@ use crate::compared::{
     compare_rate, compare_search, compare_wanted, small_budget, three_lines, AllSeen, Rates, Seen,
 };
 use crate::{examination_rate, examination_weighted};
-use papers::files::{any_file, faulty_file, sheet, sheet_bytes, valid_file, Dice};
+use papers::files::{any_file, faulty_file, sheet, sheet_bytes, valid_file, Dice, GROUNDS};
 use papers::sections::sheets::{rate_bytes, weighted_bytes};
 
 const CASES: usize = 6_000;
@@ -20,15 +20,15 @@ fn exports_beside_the_papers() {
             0..=13 => any_file(&mut dice),
             14..=20 => valid_file(&mut dice),
             _ => {
-                let ground = dice.within(1, 14) as u8;
+                let ground = dice.pick(&GROUNDS);
                 faulty_file(&mut dice, ground).bytes
             }
         };
         compare_all(&mut dice, &file, &mut seen);
     }
-    println!("{CASES} files, refused by grounds 1 to 14 and the sheet's 15:");
-    println!("{:?}", &seen.rate.grounds[1..=15]);
-    let of_file: Vec<usize> = (1..=14).collect();
+    println!("{CASES} files, refused by grounds 1 to 14, the sheet's 15, and 19 to 21:");
+    println!("{:?}", &seen.rate.grounds[1..]);
+    let of_file = GROUNDS.map(usize::from);
     let with = |ground: usize| [&of_file[..], &[ground]].concat();
     assert!(seen.read.has_exactly(&of_file));
     assert!(seen.rate.has_exactly(&with(15)));
@@ -74,7 +74,7 @@ fn both_ends_of_32_bits() {
             compare_by_key(&mut dice, &file, &sheet, &other, &mut seen);
         }
     }
-    assert_eq!(seen.grounds, [0; 19]);
+    assert_eq!(seen.grounds, [0; 22]);
 }
 
 /// Empty parts: a file, sheets and rows of no places.

@@ -6,7 +6,7 @@ use crate::compared::{
     Rates, Seen,
 };
 use crate::{examination_rate, examination_weighted};
-use papers::files::{bytes_of, faulty_file, longest_file, random_bytes, Command, Dice};
+use papers::files::{bytes_of, faulty_file, longest_file, random_bytes, Command, Dice, GROUNDS};
 use papers::sections::sheets::{rate_bytes, weighted_bytes};
 use std::collections::BTreeSet;
 
@@ -49,7 +49,7 @@ fn sheets_of_every_byte_count() {
     let files = [
         (bytes_of(&one_line), 4),
         (three_lines([15, 20, 12]), 12),
-        (longest_file(&mut dice), 64),
+        (longest_file(&mut dice, 2), 64),
     ];
     for (file, right) in files {
         let counts = counts(right);
@@ -92,7 +92,7 @@ fn call(stop: u8) -> Command {
 fn the_files_ground_comes_before_the_sheet() {
     let mut dice = Dice::new(74);
     let bytes = random_bytes(&mut dice, MOST);
-    for ground in 1..=14u8 {
+    for ground in GROUNDS {
         let file = faulty_file(&mut dice, ground).bytes;
         let counts = [0, 1, 3, 4, 8, 63, 64, 65, 68, 4_095, 4_096, 4_100, MOST];
         let mut seen = <[Seen; 6]>::default();

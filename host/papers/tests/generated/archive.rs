@@ -10,6 +10,10 @@ use papers::sections::network::read;
 fn tidied(stated: &Stated) -> Vec<u8> {
     let mut calls = stated.calls.clone();
     calls.sort();
+    let opening = match stated.edition {
+        1 => None,
+        edition => Some(Command::Edition { edition }),
+    };
     let lines = stated
         .periods
         .iter()
@@ -17,16 +21,17 @@ fn tidied(stated: &Stated) -> Vec<u8> {
     let calls = calls
         .into_iter()
         .map(|(line, stop, offset)| Command::Call { line, stop, offset });
-    let commands: Vec<Command> = lines.chain(calls).chain([Command::End]).collect();
+    let stated = opening.into_iter().chain(lines).chain(calls);
+    let commands: Vec<Command> = stated.chain([Command::End]).collect();
     bytes_of(&commands)
 }
 
 /// Document 02, A.1: the archive form says what the file says, it is its own
-/// archive form, and every way of typing the network has it.
+/// archive form, and every way of typing the network has it; A.6: in edition 2 too.
 #[test]
 fn archive_forms_of_valid_files() {
     let mut dice = Dice::new(19);
-    let (mut untidy, mut others) = (0, 0);
+    let (mut untidy, mut others, mut second) = (0, 0, 0);
     for _ in 0..3_000 {
         let commands = valid_commands(&mut dice);
         let file = bytes_of(&commands);
@@ -34,6 +39,7 @@ fn archive_forms_of_valid_files() {
         let net = read(&file).expect("a valid file");
         let form = archive_form(&net);
         assert_eq!(form, tidied(&stated));
+        second += usize::from(net.edition == 2);
         assert_eq!(read(&form), Ok(net));
         let again = bytes_of(&retyped(&mut dice, &stated));
         let read_again = read(&again).expect("a valid file");
@@ -42,6 +48,7 @@ fn archive_forms_of_valid_files() {
         others += usize::from(again != file);
     }
     assert!(untidy > 2_000 && others > 2_000, "{untidy}, {others}");
+    assert!(second > 250, "{second}");
 }
 
 /// The archive call over any file and row.

@@ -2,7 +2,7 @@
 
 use papers::files::{
     any_file, bytes_of, damaged_file, likely_bytes, limit_file, random_bytes, valid_commands,
-    valid_file, very_long_file, Dice, Stated,
+    valid_file, very_long_file, Command, Dice, Stated, GROUNDS,
 };
 use papers::sections::network::{read, read_counts, Call, Refusal, MAX_CYCLE};
 
@@ -22,13 +22,16 @@ fn the_same_seed_gives_the_same_files() {
 #[test]
 fn valid_files_are_read_as_written() {
     let mut dice = Dice::new(8);
-    let (mut follows, mut loops) = (0, 0);
+    let (mut follows, mut loops, mut editions) = (0, 0, [0; 3]);
     for _ in 0..3_000 {
         let commands = valid_commands(&mut dice);
         let file = bytes_of(&commands);
-        follows += file.iter().filter(|&&byte| byte == 0x46).count();
+        let follow = |command: &&Command| matches!(command, Command::Follow { .. });
+        follows += commands.iter().filter(follow).count();
         let stated = Stated::by(&commands);
         let net = read(&file).expect("a valid file");
+        assert_eq!(net.edition, stated.edition);
+        editions[usize::from(net.edition)] += 1;
         let periods: Vec<u32> = stated.periods.iter().map(|&period| period.into()).collect();
         assert_eq!(net.periods, periods);
         let calls = stated.calls.iter().map(|&(line, stop, offset)| Call {
@@ -47,7 +50,8 @@ fn valid_files_are_read_as_written() {
         assert_eq!(net.cycle, cycle);
         assert_eq!(read_counts(&file), Ok(net.counts()));
     }
-    assert!(follows > 3_000);
+    assert!(follows > 3_000, "{follows}");
+    assert!(editions[1] > 2_000 && editions[2] > 250, "{editions:?}");
     assert!((300..2_000).contains(&loops), "{loops}");
 }
 
@@ -86,13 +90,13 @@ fn accepted_files_cut_and_lengthened() {
 }
 
 /// How many of the files are accepted, and on which grounds others are refused.
-fn outcomes(files: impl Iterator<Item = Vec<u8>>) -> [usize; 15] {
-    let mut counts = [0; 15];
+fn outcomes(files: impl Iterator<Item = Vec<u8>>) -> [usize; 22] {
+    let mut counts = [0; 22];
     for file in files {
         match read(&file) {
             Ok(_) => counts[0] += 1,
             Err(Refusal { number, place }) => {
-                assert!((1..=14).contains(&number) && place <= file.len());
+                assert!(GROUNDS.contains(&number) && place <= file.len());
                 assert_eq!(number == 1, place == file.len());
                 counts[usize::from(number)] += 1;
             }
@@ -108,7 +112,8 @@ fn files_of_any_content() {
     let mut dice = Dice::new(10);
     let any = outcomes((0..20_000).map(|_| any_file(&mut dice)));
     assert!(any[0] > 8_000 && any[0] < 14_000, "{any:?}");
-    assert!(any.iter().all(|&count| count > 20), "{any:?}");
+    let often = |&ground: &u8| any[usize::from(ground)] > 20;
+    assert!(GROUNDS.iter().all(often), "{any:?}");
     let damaged = outcomes((0..5_000).map(|_| damaged_file(&mut dice)));
     assert!(damaged[0] > 500 && damaged[0] < 4_000, "{damaged:?}");
     let limits = outcomes((0..1_000).map(|_| limit_file(&mut dice)));
@@ -123,15 +128,15 @@ fn files_of_any_content() {
     assert_eq!(valid[0], 5_000);
 }
 
-/// 16 lines and 256 calls are 1,328 bytes, and one more command is 5 at most: a
-/// long file is refused by its first 1,333 bytes, whatever follows.
+/// An edition, 16 lines and 256 calls are 1,330 bytes, and one more command is 5 at
+/// most: a long file is refused by its first 1,335 bytes, whatever follows.
 #[test]
 fn long_files_are_decided_by_their_first_bytes() {
     let mut dice = Dice::new(18);
     for _ in 0..200 {
         let file = very_long_file(&mut dice);
         let answer = read(&file);
-        assert!(matches!(answer, Err(why) if why.place <= 1_329));
-        assert_eq!(answer, read(&file[..1_333]));
+        assert!(matches!(answer, Err(why) if why.place <= 1_331));
+        assert_eq!(answer, read(&file[..1_335]));
     }
 }
