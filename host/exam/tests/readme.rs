@@ -109,7 +109,7 @@ fn the_samples_are_as_described() {
         .filter(|line| line.starts_with("| `samples/"))
         .map(|line| line.split('|').map(|cell| cell.trim()).collect())
         .collect();
-    assert_eq!(rows.len(), 5);
+    assert_eq!(rows.len(), 6);
     for row in rows {
         let [_, network, lines, stops, rating, tries, _] = row[..] else {
             panic!("{row:?} has other columns");

@@ -16,7 +16,7 @@ pub fn of_network(file: &[u8]) -> Result<String, Refusal> {
     Ok(format!("{:08x}", crc32(&engine::archive(file)?)))
 }
 
-/// Bit by bit: an archive form has 1,329 bytes at most.
+/// Bit by bit: an archive form has 1,331 bytes at most.
 fn crc32(bytes: &[u8]) -> u32 {
     let mut rest = u32::MAX;
     for byte in bytes {

@@ -5,7 +5,7 @@ use super::named;
 use super::streams::{put, say};
 use crate::input::network::Network;
 use crate::status::{Status, Trouble};
-use engine::typed::{commands, pairs, CALL, END, FOLLOW, LINE};
+use engine::typed::{commands, pairs, CALL, EDITION, END, FOLLOW, LINE};
 use engine::{Ground, Refusal, Sheet};
 
 /// No command has more bytes.
@@ -110,6 +110,7 @@ fn says(network: &Network, place: usize, command: &[u8]) -> String {
         |stop| named::stop(&network.names, stop),
     );
     match *command {
+        [EDITION, edition] => format!(" (edition {edition})"),
         [LINE, high, low] => {
             let line = line_name(lines_above(network, place));
             format!(" ({line}, period {})", number(high, low))

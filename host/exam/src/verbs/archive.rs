@@ -18,8 +18,8 @@ pub const VERB: Verb = Verb {
     summary: "the one file of a network that is kept",
     about: "\
 Prints the archive form, which is the same for every file of one network: the
-lines in order, then each call with its offset by line and then stop, then the
-end, typed, a text line for each command.
+edition unless it is 1, the lines in order, then each call with its offset by line
+and then stop, then the end, typed, a text line for each command.
   4C 000F
   43 00 00 0008
   45

@@ -22,7 +22,8 @@ pub const VERB: Verb = Verb {
 Prints same where two files have the same archive form, otherwise different, and
 standard error says in what they differ first:
   exam: another network: line 1 has period 20 in a.hex and 30 in b.hex
-with the names of lines and stops where a plan has them.
+with the names of lines and stops where a plan has them. Equal lines and calls in
+two editions are two networks.
 Where a file has a fault, its ground, and standard error names the file:
   refused 5 at 0
 Each file is a plan, typed or bytes by its own name; an option counts for both.
@@ -53,27 +54,45 @@ fn run(request: &Request) -> Result<Status, Trouble> {
     Ok(Status::Refused)
 }
 
-/// In what two networks differ first: by lines, then by calls in their order.
+/// In what two networks differ first: by their editions, by lines, then by calls in
+/// their order.
 fn difference(one: &Contents, other: &Contents, both: [&Network; 2]) -> String {
+    let [first, second] = both.map(|network| network.name.as_str());
+    let [a, b] = [one, other].map(|network| network.edition);
+    if a != b {
+        return format!("{first} is in edition {a} and {second} in edition {b}");
+    }
+    line_difference(one, other, both).unwrap_or_else(|| call_difference(one, other, both))
+}
+
+/// The first line in which two networks differ, if they do in any.
+fn line_difference(one: &Contents, other: &Contents, both: [&Network; 2]) -> Option<String> {
     let [first, second] = both.map(|network| network.name.as_str());
     for number in 0..=u8::MAX {
         let [a, b] = [one, other].map(|network| network.periods.get(usize::from(number)));
         let line = line_of(both, number);
         match (a, b) {
-            (None, None) => break,
-            (Some(_), None) => return format!("{line} is in {first} alone"),
-            (None, Some(_)) => return format!("{line} is in {second} alone"),
+            (None, None) => return None,
+            (Some(_), None) => return Some(format!("{line} is in {first} alone")),
+            (None, Some(_)) => return Some(format!("{line} is in {second} alone")),
             (Some(a), Some(b)) if a != b => {
-                return format!("{line} has period {a} in {first} and {b} in {second}")
+                let words = format!("{line} has period {a} in {first} and {b} in {second}");
+                return Some(words);
             }
             _ => {}
         }
     }
+    None
+}
+
+/// The first call in which two networks of equal lines differ.
+fn call_difference(one: &Contents, other: &Contents, both: [&Network; 2]) -> String {
+    let [first, second] = both.map(|network| network.name.as_str());
     let calls = one.calls.iter().chain(&other.calls);
     let mut places: Vec<(u8, u8)> = calls.map(|call| (call.line, call.stop)).collect();
     places.sort();
     let differs = |&(line, stop): &(u8, u8)| offsets(one, line, stop) != offsets(other, line, stop);
-    // There is such a place: the archive forms differ, and not by their lines.
+    // There is such a place: the archive forms differ, and not by what stands above.
     let (number, place) = places.into_iter().find(differs).unwrap_or((0, 0));
     let (line, stop) = (line_of(both, number), stop_of(both, place));
     let [a, b] = [one, other].map(|network| offsets(network, number, place));

@@ -19,10 +19,11 @@ pub const VERB: Verb = Verb {
     options: &[&PLAN, &TYPED, &BYTES],
     summary: "what was read, in decimal, for proofreading",
     about: "\
-Shows what the engine read, in decimal: each line with its period and its calls as
-it makes them, with the minutes after its start and after the call before, then
-each stop with the lines that call there. The names are those of a plan.
-  lines 1 stops 2 calls 2 cycle 15
+Shows what the engine read, in decimal: its numbers and its edition, each line with
+its period and its calls as it makes them, with the minutes after its start and after
+the call before, then each stop with the lines that call there. The names are those
+of a plan.
+  lines 1 stops 2 calls 2 cycle 15 edition 1
 
   line 0  every 15  Red
     at  8      stop 0  Market
@@ -81,8 +82,8 @@ impl<'a> Shown<'a> {
 
     fn text(&self, counts: Counts) -> String {
         let mut text = format!(
-            "lines {} stops {} calls {} cycle {}\n",
-            counts.lines, counts.served_stops, counts.calls, counts.cycle
+            "lines {} stops {} calls {} cycle {} edition {}\n",
+            counts.lines, counts.served_stops, counts.calls, counts.cycle, self.contents.edition
         );
         for line in lines(self.contents) {
             text += &format!("\n{}", self.line(line));

@@ -8,7 +8,7 @@ use crate::output::named;
 use crate::output::streams::put;
 use crate::status::{Status, Trouble};
 use engine::plan::Names;
-use engine::typed::{self, CALL, FOLLOW, LINE};
+use engine::typed::{self, CALL, EDITION, FOLLOW, LINE};
 
 pub const VERB: Verb = Verb {
     name: "type",
@@ -46,6 +46,7 @@ fn with_comments(file: &[u8], names: &Names) -> String {
     let mut lines = 0..;
     let number = |high: u8, low: u8| u16::from_be_bytes([high, low]);
     typed::commented(file, |command| match *command {
+        [EDITION, edition] => format!("edition {edition}"),
         [LINE, high, low] => {
             let line = lines
                 .next()

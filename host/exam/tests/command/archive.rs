@@ -19,12 +19,24 @@ fn archive_prints_a_line_for_each_command() {
     exam_with(&["archive", "--typed", "-"], form.as_bytes()).printed(form, 0);
 }
 
+/// Edition 2 stands first, edition 1 nowhere.
+#[test]
+fn archive_with_an_edition() {
+    let calls = "4C 000F\n43 00 00 0008\n45\n";
+    for (opening, archived) in [("", ""), ("5601", ""), ("5602", "56 02\n")] {
+        let text = format!("{opening} 4C000F 4300000008 45");
+        let form = format!("{archived}{calls}");
+        exam_with(&["archive", "-", "--typed"], text.as_bytes()).printed(&form, 0);
+        exam_with(&["archive", "-", "--typed"], form.as_bytes()).printed(&form, 0);
+    }
+}
+
 /// Of every sample the archive form, typed and as bytes, is the same network,
 /// and its search ends with the same line.
 #[test]
 fn archive_of_the_samples() {
     let folder = Folder::new();
-    for name in ["one_line", "two_lines", "loop", "village", "town"] {
+    for name in ["one_line", "two_lines", "loop", "valley", "village", "town"] {
         let network = format!("samples/{name}.hex");
         let typed = folder.file("tidy.hex", exam(&["archive", &network]).out);
         let raw = folder.file("tidy.net", written(&["archive", &network, "--raw"]));

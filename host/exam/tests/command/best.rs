@@ -66,7 +66,7 @@ fn best_as_a_sheet() {
     let key = "# the best of the network with crc32 aced792e: gap 2 sum 2, tries 21\n0 3\n";
     exam(&["best", HEX, "--sheet"]).printed(key, 0);
     let folder = Folder::new();
-    for name in ["one_line", "two_lines", "village", "town"] {
+    for name in ["one_line", "two_lines", "valley", "village", "town"] {
         let network = format!("samples/{name}.hex");
         let printed = exam(&["best", &network, "--sheet", "--quiet", "--budget", "max"]);
         let sheet = folder.file("key.sheet", &printed.out);

@@ -17,6 +17,23 @@ fn plan_of_a_network() {
     exam_with(&["plan", "-", "--plan"], plan.as_bytes()).printed(plan, 0);
 }
 
+/// Edition 2 stands first; edition 1 isn't stated.
+#[test]
+fn plan_with_an_edition() {
+    let calls = "stop 0 S0\n\nline L0 every 15\n  S0 at 8\n";
+    for (opening, stated) in [("", ""), ("5601", ""), ("5602", "edition 2\n\n")] {
+        let text = format!("{opening} 4C000F 4300000008 45");
+        let plan = format!("{stated}{calls}");
+        exam_with(&["plan", "-", "--typed"], text.as_bytes()).printed(&plan, 0);
+        exam_with(&["plan", "-", "--plan"], plan.as_bytes()).printed(&plan, 0);
+    }
+    // A line and a stop called so, in either edition.
+    let named = "stop 0 edition\n\nline edition every 15\n  edition at 8\n";
+    exam_with(&["plan", "-", "--plan"], named.as_bytes()).printed(named, 0);
+    let named = format!("edition 2\n\n{named}");
+    exam_with(&["plan", "-", "--plan"], named.as_bytes()).printed(&named, 0);
+}
+
 #[test]
 fn plan_of_a_refused_network() {
     let pieces = ["refused 2 at 0", "unknown command"];
@@ -26,12 +43,12 @@ fn plan_of_a_refused_network() {
 /// The sample is the same network, and so is every sample's plan.
 #[test]
 fn plans_of_the_samples() {
-    for name in ["loop", "village"] {
+    for name in ["loop", "valley", "village"] {
         let [plan, typed] = ["plan", "hex"].map(|ending| format!("samples/{name}.{ending}"));
         exam(&["same", &plan, &typed]).printed("same\n", 0);
     }
     let folder = Folder::new();
-    for name in ["one_line", "two_lines", "loop", "village", "town"] {
+    for name in ["one_line", "two_lines", "loop", "valley", "village", "town"] {
         let network = format!("samples/{name}.hex");
         let plan = folder.file("a.plan", written(&["plan", &network]));
         exam(&["same", &network, &plan]).printed("same\n", 0);
@@ -102,7 +119,8 @@ fn there_and_back_on_many_files() {
 /// plan.
 #[test]
 fn any_text_is_read_or_has_an_error() {
-    const WORDS: [&str; 24] = [
+    const WORDS: [&str; 25] = [
+        "edition ",
         "line ",
         "stop ",
         "every ",
@@ -128,7 +146,9 @@ fn any_text_is_read_or_has_an_error() {
         "\t",
         "line A every 5\nX at 0\n",
     ];
-    const STATEMENTS: [&str; 8] = [
+    const STATEMENTS: [&str; 10] = [
+        "edition 2\n",
+        "edition at 3\n",
         "stop 3 X\n",
         "stop 9 Y\n",
         "line A every 20\n",
@@ -201,6 +221,20 @@ fn refusals_lead_to_the_text_line() {
         "refused 9 at ",
         names,
     );
+    let text_line = "text line 2: edition 3";
+    refused(
+        "# new\nedition 3\nline A every 5",
+        "refused 21 at 0",
+        text_line,
+    );
+    let behind = "byte 3: 56 02 (edition 2)\n  text line 2: edition 2";
+    refused(
+        "line A every 5\nedition 2\nX at 0",
+        "refused 20 at 3",
+        behind,
+    );
+    let second = "byte 2: 56 09 (edition 9)\n  text line 2: edition 9";
+    refused("edition 2\nedition 9", "refused 20 at 2", second);
     let never = "line 1 'B' never calls\n  text line 3: line B every 5\n";
     refused(
         "line A every 5\nX at 0\nline B every 5\n# the end",
@@ -228,7 +262,15 @@ fn refusals_of_large_plans() {
 }
 
 /// Plans that can't be put into bytes, and what is said of them.
-const ERRORS: [(&str, &str); 14] = [
+const ERRORS: [(&str, &str); 16] = [
+    (
+        "edition",
+        "text line 1: 'edition' is no statement; expected edition NUMBER",
+    ),
+    (
+        "edition 256",
+        "text line 1: '256' isn't a number of 0 to 255, decimal",
+    ),
     (
         "Market at 8",
         "text line 1: a call stands under its line; expected line NAME every",

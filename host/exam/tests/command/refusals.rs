@@ -2,15 +2,15 @@
 
 use crate::common::{exam, exam_with, typed, Folder, HEX};
 use engine::Ground;
-use papers::files::{faulty_file, Dice};
+use papers::files::{faulty_file, Dice, GROUNDS};
 
-/// Grounds 1 to 14 by every verb that reads one file, as bytes and typed: the
+/// Each ground of a file by every verb that reads one, as bytes and typed: the
 /// paper's line alone on standard output, the words and the bytes at the place
 /// on standard error.
 #[test]
 fn words_for_each_ground_of_the_file() {
     let mut dice = Dice::new(92);
-    for ground in 1..=14u8 {
+    for ground in GROUNDS {
         let faulty = faulty_file(&mut dice, ground);
         let line = format!("refused {ground} at {}\n", faulty.place);
         let words = Ground::ALL[usize::from(ground) - 1].words();
@@ -83,6 +83,19 @@ fn the_command_at_fault_is_shown() {
         ("4C000F 45", "byte 3: 45 (the end)\n  line 0 never calls\n"),
         ("45", "byte 0: 45 (the end)\n  there is no line\n"),
         ("4C000F 4300000008 45 43", "byte 9: 43\n"),
+        ("4C000F 4300000008 45 5602", "byte 9: 56\n"),
+        ("5600 4C000F", "byte 0: 56 00 (edition 0)\n"),
+        ("4C000F 5602", "byte 3: 56 02 (edition 2)\n"),
+        ("4C000F 56", "byte 3: 56\n"),
+        (
+            "5602 4C000F 4600000001",
+            "byte 5: 46 00 00 00 01 (line 0, stop 0, ride 1)\n",
+        ),
+        ("5602 4C05A1 45", "byte 2: 4C 05 A1 (line 0, period 1441)\n"),
+        (
+            "5602 4C000F 45",
+            "byte 5: 45 (the end)\n  line 0 never calls\n",
+        ),
     ];
     for (text, piece) in cases {
         let ran = exam_with(&["best", "--typed", "-"], text.as_bytes());

@@ -64,6 +64,53 @@ fn same_says_in_what_two_networks_differ() {
     }
 }
 
+/// Equal lines and calls in two editions are two networks, which is said before
+/// everything else; with its edition stated or not, the first is one.
+#[test]
+fn same_by_editions() {
+    let folder = Folder::new();
+    let calls = "4C000F 4C0014 4300000008 4301000011 45";
+    let files = [
+        ("bare.hex", calls.to_string()),
+        ("first.hex", format!("5601 {calls}")),
+        ("second.hex", format!("5602 {calls}")),
+        (
+            "other.hex",
+            format!("5602 {}", calls.replace("0014", "001E")),
+        ),
+    ];
+    let [bare, first, second, other] = files.map(|(name, text)| folder.file(name, text));
+    exam(&["same", &bare, &first]).printed("same\n", 0);
+    exam(&["same", &second, &second]).printed("same\n", 0);
+    for (one, two, words) in [
+        (
+            &bare,
+            &second,
+            "bare.hex is in edition 1 and second.hex in edition 2",
+        ),
+        (
+            &second,
+            &first,
+            "second.hex is in edition 2 and first.hex in edition 1",
+        ),
+        (
+            &bare,
+            &other,
+            "bare.hex is in edition 1 and other.hex in edition 2",
+        ),
+        (
+            &second,
+            &other,
+            "line 1 has period 20 in second.hex and 30 in other.hex",
+        ),
+    ] {
+        let ran = exam(&["same", one, two]);
+        ran.told("different\n", 1, &[]);
+        let said = ran.err.replace(&format!("{}/", folder.name()), "");
+        assert_eq!(said, format!("exam: another network: {words}\n"));
+    }
+}
+
 /// A refused file is no network: its refusal, with its name, and the first one's
 /// where both are refused.
 #[test]

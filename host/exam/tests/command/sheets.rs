@@ -125,6 +125,7 @@ fn mark_of_the_samples() {
     for (name, count) in [
         ("one_line", 1),
         ("two_lines", 3),
+        ("valley", 2),
         ("village", 4),
         ("town", 4),
     ] {

@@ -4,7 +4,7 @@ use crate::common::{exam, exam_with, written, Folder, HEX, NET};
 use papers::files::{bytes_of, valid_commands, Dice, Stated};
 
 const VILLAGE: &str = "\
-lines 4 stops 6 calls 12 cycle 60
+lines 4 stops 6 calls 12 cycle 60 edition 1
 
 line 0  every 60  School bus
   at  0       stop 0  Church
@@ -49,7 +49,8 @@ stop 5  Quarry
 #[test]
 fn show_in_columns() {
     exam(&["show", "samples/village.plan"]).printed(VILLAGE, 0);
-    let two_lines = "lines 2 stops 1 calls 2 cycle 60\n\nline 0  every 15\n  at  8  stop 0\n\n\
+    let two_lines =
+        "lines 2 stops 1 calls 2 cycle 60 edition 1\n\nline 0  every 15\n  at  8  stop 0\n\n\
                      line 1  every 20\n  at 17  stop 0\n\nstop 0\n  line 0  at  8\n  line 1  at \
                      17\n";
     exam(&["show", HEX]).printed(two_lines, 0);
@@ -69,7 +70,7 @@ fn show_in_columns() {
 #[test]
 fn show_is_in_decimal_and_along_the_line() {
     let typed = "4C0030 4C05A0 43 00 3F 0100 46 00 07 FEFF 43 00 00 0030 43 01 00 0000 45";
-    let shown = "lines 2 stops 3 calls 4 cycle 1440
+    let shown = "lines 2 stops 3 calls 4 cycle 1440 edition 1
 
 line 0  every   48
   at    48          stop  0
@@ -93,10 +94,27 @@ stop 63
 #[test]
 fn show_of_a_stop_that_has_no_call() {
     let plan = "stop 3 Depot\nstop 0 Market\nline Red every 15\nMarket at 8\n";
-    let shown = "lines 1 stops 1 calls 1 cycle 15\n\nline 0  every 15  Red\n  at 8  stop 0  \
+    let shown =
+        "lines 1 stops 1 calls 1 cycle 15 edition 1\n\nline 0  every 15  Red\n  at 8  stop 0  \
                  Market\n\nstop 0  Market\n  line 0  at 8  Red\nstop 3  Depot\n  no line calls \
                  here\n";
     exam_with(&["show", "-", "--plan"], plan.as_bytes()).printed(shown, 0);
+}
+
+/// The edition is stated, whether the file does or not.
+#[test]
+fn show_states_the_edition() {
+    let bare = "4C000F 4300000008 45";
+    let shown = |text: &str| {
+        let ran = exam_with(&["show", "-", "--typed"], text.as_bytes());
+        assert_eq!(ran.status, 0, "{ran:?}");
+        ran.out
+    };
+    let first = shown(bare);
+    assert!(first.starts_with("lines 1 stops 1 calls 1 cycle 15 edition 1\n\nline 0 "));
+    assert_eq!(shown(&format!("5601 {bare}")), first);
+    let second = shown(&format!("5602 {bare}"));
+    assert_eq!(second, first.replace("edition 1", "edition 2"));
 }
 
 #[test]
@@ -117,6 +135,8 @@ fn show_on_seeded_files() {
         let network = folder.file("one.net", bytes_of(&commands));
         let shown = String::from_utf8(written(&["show", &network])).expect("a text");
         let stated = Stated::by(&commands);
+        let first = shown.lines().next().expect("a line");
+        assert!(first.ends_with(&format!(" edition {}", stated.edition)));
         let mut calls = stated.calls.clone();
         calls.sort_by_key(|&(line, stop, offset)| (line, offset, stop));
         let periods = stated

@@ -41,6 +41,25 @@ fn type_of_other_networks() {
     assert_eq!(written(&["type", HEX, "--raw"]), bytes);
 }
 
+/// An edition stands first, be it stated by a plan or typed, and the first one too.
+#[test]
+fn type_with_an_edition() {
+    let typed = "\
+56 02            # edition 2
+4C 000F          # line 0 'Red': every 15 minutes
+43 00 00 0008    # line 0 'Red' reaches stop 0 'Market' after 8 minutes
+43 00 01 000A    # line 0 'Red' reaches stop 1 'Mill' after 10 minutes
+45               # the end
+";
+    let plan = "edition 2\nline Red every 15\n  Market at 8\n  Mill +2\n";
+    exam_with(&["type", "-", "--plan"], plan.as_bytes()).printed(typed, 0);
+    let first = "56 01            # edition 1\n4C 000F          # line 0: every 15 minutes\n\
+                 43 00 00 0008    # line 0 reaches stop 0 after 8 minutes\n\
+                 45               # the end\n";
+    let text = "5601 4C000F 4300000008 45";
+    exam_with(&["type", "-", "--typed"], text.as_bytes()).printed(first, 0);
+}
+
 #[test]
 fn type_of_a_refused_network() {
     let pieces = ["refused 5 at 0", "text line 1: line Red every 0"];
