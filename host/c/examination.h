@@ -21,14 +21,19 @@ extern "C" {
 #endif
 
 /* A return value of at least this is a refusal: this times the ground's number
- * (1 to 18), plus the place (0 to 1,329). Every row is as it was. */
+ * (1 to 21), plus the place (0 to 1,331). Every row is as it was. */
 #define EXAMINATION_REFUSED 65536u
 
-/* Grounds that a call adds to those of the file, which are 1 to 14. */
+/* Grounds that a call adds to those of the file, which are 1 to 14 and 19 to 21. */
 #define EXAMINATION_SHEET_UNFIT 15u
 #define EXAMINATION_START_ROW_UNFIT 16u
 #define EXAMINATION_CLASS_ROWS_UNFIT 17u
 #define EXAMINATION_ARCHIVE_ROW_SHORT 18u
+
+/* Grounds of a file that has an edition. */
+#define EXAMINATION_RIDE_RETIRED 19u
+#define EXAMINATION_EDITION_NOT_FIRST 20u
+#define EXAMINATION_EDITION_UNKNOWN 21u
 
 /* What examination_search returns where it doesn't refuse. */
 #define EXAMINATION_FINISHED 0u
@@ -60,15 +65,16 @@ extern "C" {
 /* Places of the row for a mark out of a hundred: the mark, the remainder. */
 #define EXAMINATION_HUNDRED_PLACES 2
 
-/* Limits: lines of a network, places of the class row and of the weight row, an
- * unserved stop's entry in the class row, bytes of a start on a sheet, bytes of
- * the longest archive form; and how many of a file's bytes decide: a longer file is
+/* Limits: the latest edition, lines of a network, places of the class row and of the
+ * weight row, an unserved stop's entry in the class row, bytes of a start on a sheet,
+ * bytes of the longest archive form; and how many of a file's bytes decide: a longer file is
  * answered as its first 4,096 bytes are. */
+#define EXAMINATION_LATEST_EDITION 2
 #define EXAMINATION_MOST_LINES 16
 #define EXAMINATION_STOPS 64
 #define EXAMINATION_UNSERVED 255u
 #define EXAMINATION_START_BYTES 4
-#define EXAMINATION_MOST_ARCHIVE_BYTES 1329
+#define EXAMINATION_MOST_ARCHIVE_BYTES 1331
 #define EXAMINATION_DECIDING_BYTES 4096
 
 /* Bytes of stack that are enough for every export. */
@@ -76,15 +82,15 @@ extern "C" {
 
 /* Reads a file.
  * Returns 0, and puts lines (1 to 16), served stops (1 to 64), calls (1 to 256)
- * and the common cycle (1 to 10,080) into the answer; or a refusal, grounds 1 to
- * 14. */
+ * and the common cycle (1 to 10,080) into the answer; or a refusal, a ground of the
+ * file. */
 uint32_t examination_read(const uint8_t *file, size_t file_len,
                           uint32_t answer[EXAMINATION_READ_PLACES]);
 
 /* Rates a sheet: 4 bytes for each start, two's complement, most significant byte
  * first, in line order.
  * Returns 0, and puts the least gap (0 to 1,440) and the sum of the gaps (0 to
- * 92,160) into the answer; or a refusal, grounds 1 to 15. */
+ * 92,160) into the answer; or a refusal, a ground of the file or 15. */
 uint32_t examination_rate(const uint8_t *file, size_t file_len,
                           const uint8_t *sheet, size_t sheet_len,
                           uint32_t answer[EXAMINATION_RATE_PLACES]);
@@ -98,8 +104,8 @@ uint32_t examination_weighted(const uint8_t *file, size_t file_len,
 /* The classes of stops that always rate alike.
  * Returns 0, puts the number of classes (1 to 64) into the answer, into the class
  * row for each stop the lowest stop alike to it, 255 if it is unserved, and into
- * the weight row at a class's lowest stop its size, 0 elsewhere; or a refusal,
- * grounds 1 to 14, and 17 where a row hasn't 64 places. */
+ * the weight row at a class's lowest stop its size, 0 elsewhere; or a refusal, a
+ * ground of the file, or 17 where a row hasn't 64 places. */
 uint32_t examination_classes(const uint8_t *file, size_t file_len,
                              uint8_t *class_row, size_t class_len,
                              uint16_t *weight_row, size_t weight_len,
@@ -110,8 +116,8 @@ uint32_t examination_classes(const uint8_t *file, size_t file_len,
  * to its period less 1; in the answer the best least gap, the best sum and the
  * tries, at most the budget. 1 stopped with a best: the same of the best so far,
  * the tries being the budget. 2 stopped with none: the row as it was; 0, 0 and the
- * budget. Or a refusal, grounds 1 to 14, and 16 where the row hasn't one place for
- * each line. */
+ * budget. Or a refusal, a ground of the file, or 16 where the row hasn't one place
+ * for each line. */
 uint32_t examination_search(const uint8_t *file, size_t file_len,
                             int32_t *start_row, size_t start_len, uint32_t budget,
                             uint32_t answer[EXAMINATION_SEARCH_PLACES]);
@@ -121,8 +127,8 @@ uint32_t examination_search(const uint8_t *file, size_t file_len,
  * Returns 0 found: the starts of one in the row, line 0's 0 and each other's 0 up to
  * its period less 1; in the answer the tries, at most the budget. 1 none: no
  * whole-number starts have such a gap; the row as it was; the tries, at most the
- * budget. 2 stopped: the row as it was; the budget. Or a refusal, grounds 1 to 14,
- * and 16 where the row hasn't one place for each line. */
+ * budget. 2 stopped: the row as it was; the budget. Or a refusal, a ground of the
+ * file, or 16 where the row hasn't one place for each line. */
 uint32_t examination_wanted(const uint8_t *file, size_t file_len,
                             int32_t *start_row, size_t start_len, uint16_t wanted,
                             uint32_t budget,
@@ -141,7 +147,7 @@ uint32_t examination_better(const uint8_t *file, size_t file_len,
  * Returns 0 decided: in the answer the sheet's least gap and sum, the best least
  * gap and sum, 1 if both ratings are equal and 0 if not, and the tries, at most the
  * budget. 1 undecided, the search stopped: the sheet's least gap and sum, 0, 0, 0,
- * and the budget. Or a refusal, grounds 1 to 15. */
+ * and the budget. Or a refusal, a ground of the file or 15. */
 uint32_t examination_mark(const uint8_t *file, size_t file_len,
                           const uint8_t *sheet, size_t sheet_len, uint32_t budget,
                           uint32_t answer[EXAMINATION_MARK_PLACES]);
@@ -162,7 +168,7 @@ uint32_t examination_hundred(const uint8_t *file, size_t file_len,
  * what examination_hundred has; beside another key the mark may be above 100, and
  * beside one whose least gap is 0 it is 100 remainder 0 whatever the sheet's.
  * Returns 0, and puts the mark (0 to 144,000) and the remainder (0 to 1,439) into the
- * hundred row; or a refusal, grounds 1 to 14, and 15 where the sheet or the key
+ * hundred row; or a refusal, a ground of the file, or 15 where the sheet or the key
  * hasn't 4 bytes for each line. Sheet and key may be the same memory. */
 uint32_t examination_by_key(const uint8_t *file, size_t file_len,
                             const uint8_t *sheet, size_t sheet_len,
@@ -170,8 +176,8 @@ uint32_t examination_by_key(const uint8_t *file, size_t file_len,
                             uint32_t hundred[EXAMINATION_HUNDRED_PLACES]);
 
 /* Writes the archive form at the row's beginning; what lies behind it stays.
- * Returns its length, 3 x lines + 5 x calls + 1 (9 to 1,329); or a refusal, grounds
- * 1 to 14, and 18 where the row is shorter than that length. */
+ * Returns its length, 3 x lines + 5 x calls + 1, and 2 more in edition 2 (9 to 1,331);
+ * or a refusal, a ground of the file, or 18 where the row is shorter than that. */
 uint32_t examination_archive(const uint8_t *file, size_t file_len,
                              uint8_t *row, size_t row_len);
 
@@ -182,13 +188,13 @@ static inline int examination_is_refused(uint32_t returned)
     return returned >= EXAMINATION_REFUSED;
 }
 
-/* The ground's number, 1 to 18, of a refusal. */
+/* The ground's number, 1 to 21, of a refusal. */
 static inline uint32_t examination_ground(uint32_t returned)
 {
     return returned / EXAMINATION_REFUSED;
 }
 
-/* The place, 0 to 1,329, of a refusal. */
+/* The place, 0 to 1,331, of a refusal. */
 static inline uint32_t examination_place(uint32_t returned)
 {
     return returned % EXAMINATION_REFUSED;

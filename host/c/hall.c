@@ -288,6 +288,20 @@ static void archive_it(const struct network *file, size_t room)
     printf("\n");
 }
 
+/* The same network in an edition, which a file states first. */
+static void open_it(const struct network *file, unsigned edition)
+{
+    struct network opened = {{0x56, (uint8_t)edition}, 2};
+    const size_t room = sizeof opened.bytes - opened.count;
+    const size_t count = file->count < room ? file->count : room;
+    memcpy(opened.bytes + opened.count, file->bytes, count);
+    opened.count += count;
+    printf("in edition %u, ", edition);
+    read_it("read", &opened);
+    printf("in edition %u, ", edition);
+    archive_it(&opened, EXAMINATION_MOST_ARCHIVE_BYTES);
+}
+
 static void show(size_t number, const struct sheet *sheet)
 {
     printf("sheet %zu:", number);
@@ -343,6 +357,9 @@ static void run(const struct network *file, const struct sheet *sheets, size_t c
         cut.count--;
     }
     read_it("read without the last byte", &cut);
+    for (unsigned edition = 1; edition <= EXAMINATION_LATEST_EDITION + 1; edition++) {
+        open_it(file, edition);
+    }
 }
 
 /* At most so many bytes of a file: -1 where it can't be read. */
