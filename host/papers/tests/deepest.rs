@@ -146,10 +146,11 @@ fn a_deep_mark_out_of_a_hundred() {
     assert_eq!(by_key, Ok(expected));
 }
 
-/// Hardly a command stands where the archive form has it.
+/// Hardly a command stands where the archive form has it, but for the edition.
 #[test]
 fn the_longest_archive_form_on_512_kilobytes() {
-    let tidy = deepest(scattered);
+    let opening = vec![Command::Edition { edition: 2 }];
+    let tidy = [opening, deepest(scattered)].concat();
     let typed = retyped(&mut Dice::new(95), &Stated::by(&tidy));
     assert_ne!(typed, tidy);
     let form = on_small_stack(|| engine::archive(&bytes_of(&typed)));
