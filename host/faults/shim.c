@@ -25,6 +25,10 @@ extern __typeof__(examination_hundred) real_hundred;
 extern __typeof__(examination_by_key) real_by_key;
 extern __typeof__(examination_archive) real_archive;
 
+/* Behind the longest file, which is an archive form; and what is refused there. */
+#define LAST_PLACE_OF_ALL EXAMINATION_MOST_ARCHIVE_BYTES
+#define LAST_REFUSAL (14 * EXAMINATION_REFUSED + LAST_PLACE_OF_ALL)
+
 enum fault {
     NO_FAULT,
 #define FAULT(name, words, file, test) name,
@@ -88,15 +92,74 @@ static uint32_t returns(uint32_t returned, size_t file_len)
     if (!examination_is_refused(returned)) return returned;
     const uint32_t place = examination_place(returned);
     if (is(PLACE) && place > 0) return returned - 1;
-    if ((is(LAST_PLACE) || is(LAST_PLACE_WRAPPED)) && place == 1329) return returned - 1;
+    if ((is(LAST_PLACE) || is(LAST_PLACE_WRAPPED)) && place == LAST_PLACE_OF_ALL) return returned - 1;
     if (is(EMPTY_FILE) && file_len == 0) return 2 * EXAMINATION_REFUSED;
     if (is(LONG_TAIL) && file_len > 4096 && place > 0) return returned + 1;
     return returned;
 }
 
+/* Whether a file begins with this edition. */
+static int is_opened(const uint8_t *file, size_t file_len, unsigned edition)
+{
+    return file_len > 1 && file[0] == 0x56 && file[1] == edition;
+}
+
+/* Reads a file that begins with an edition as if it were another. */
+static uint32_t read_in(uint8_t edition, const uint8_t *file, size_t file_len, uint32_t answer[4])
+{
+    uint8_t other[EXAMINATION_DECIDING_BYTES];
+    const size_t count = file_len < sizeof other ? file_len : sizeof other;
+    memcpy(other, file, count);
+    other[1] = edition;
+    return real_read(other, count, answer);
+}
+
+/* What read returns of a ride. */
+static uint32_t fault_ride(uint32_t returned, const uint8_t *file, size_t file_len,
+                           uint32_t answer[4])
+{
+    const uint32_t ground = examination_ground(returned), place = examination_place(returned);
+    uint32_t counts[EXAMINATION_READ_PLACES];
+    if (is(RIDE_TAKEN) && ground == EXAMINATION_RIDE_RETIRED)
+        return read_in(1, file, file_len, answer);
+    if (is(RIDE_TRIED_LATE) && ground == EXAMINATION_RIDE_RETIRED) {
+        const uint32_t first = read_in(1, file, file_len, counts);
+        return examination_is_refused(first) && examination_place(first) == place ? first
+                                                                                  : returned;
+    }
+    if (is(RIDE_OF_EDITION_1) && ground >= 7 && ground <= 12 && file[place] == 0x46 &&
+        is_opened(file, file_len, 1))
+        return EXAMINATION_RIDE_RETIRED * EXAMINATION_REFUSED + place;
+    return returned;
+}
+
+/* What read returns of an edition. */
+static uint32_t fault_edition(uint32_t returned, const uint8_t *file, size_t file_len,
+                              uint32_t answer[4])
+{
+    const uint32_t ground = examination_ground(returned), place = examination_place(returned);
+    if (ground == EXAMINATION_EDITION_UNKNOWN) {
+        if (is(EDITION_0_TAKEN) && file[1] == 0) return read_in(1, file, file_len, answer);
+        if (is(EDITION_3_TAKEN) && file[1] == EXAMINATION_LATEST_EDITION + 1)
+            return read_in(EXAMINATION_LATEST_EDITION, file, file_len, answer);
+    }
+    if (is(UNKNOWN_FIRST) && ground == EXAMINATION_EDITION_NOT_FIRST &&
+        (file[place + 1] == 0 || file[place + 1] > EXAMINATION_LATEST_EDITION))
+        return EXAMINATION_EDITION_UNKNOWN * EXAMINATION_REFUSED + place;
+    if (is(SECOND_UNKNOWN_ALONE) && ground == EXAMINATION_EDITION_NOT_FIRST && place == 2 &&
+        file[3] > EXAMINATION_LATEST_EDITION)
+        return EXAMINATION_EDITION_UNKNOWN * EXAMINATION_REFUSED + place;
+    if (is(CUT_NOT_FIRST) && ground == 3 && place > 0 && file[place] == 0x56)
+        return EXAMINATION_EDITION_NOT_FIRST * EXAMINATION_REFUSED + place;
+    if (is(PLACE_BEHIND_EDITION) && place > 1 && file_len > 1 && file[0] == 0x56)
+        return returned - 2;
+    return fault_ride(returned, file, file_len, answer);
+}
+
 uint32_t examination_read(const uint8_t *file, size_t file_len, uint32_t answer[4])
 {
-    const uint32_t returned = real_read(file, taken_file(file_len), answer);
+    uint32_t returned = real_read(file, taken_file(file_len), answer);
+    if (examination_is_refused(returned)) returned = fault_edition(returned, file, file_len, answer);
     if (is(WRONG_SLOT) && returned == 0) answer[2]++;
     if (is(CALLS_OF_8_BITS) && returned == 0) answer[2] &= 255;
     if (is(CYCLE_OF_13_BITS) && returned == 0) answer[3] &= 8191;
@@ -152,6 +215,7 @@ uint32_t examination_rate(const uint8_t *file, size_t file_len, const uint8_t *s
     if (is(SHEET_CHANGED) && sheet_len > 0) ((uint8_t *)sheet)[0] ^= 1;
     if (is(EVERY_3000TH_RATE) && is_3000th(&calls) && returned == 0) answer[1]++;
     if (is(SUM_OF_16_BITS) && returned == 0) answer[1] &= 65535;
+    if (is(RATED_BY_EDITION) && returned == 0 && is_opened(file, file_len, 2)) answer[1]++;
     if (is(SHARED_ROW) && returned == 0) answer_by_shared_row(answer);
     if (is(FROM_BEFORE) && returned == 0) answer_from_before(file_len, sheet_len, answer);
     return returns(returned, file_len);
@@ -223,6 +287,8 @@ uint32_t examination_search(const uint8_t *file, size_t file_len, int32_t *start
     if (taken != budget && returned <= EXAMINATION_STOPPED_WITH_NONE && answer[2] == taken)
         answer[2] = budget;
     if (is(TRIES) && returned == EXAMINATION_FINISHED) answer[2]--;
+    if (is(SEARCHED_BY_EDITION) && returned == EXAMINATION_FINISHED && is_opened(file, file_len, 2))
+        answer[2]++;
     if (is(TRIES_OF_16_BITS) && !examination_is_refused(returned)) answer[2] &= 65535;
     fault_starts(returned, start_row, start_len, last);
     if (is(EXACT_BUDGET) && returned == EXAMINATION_FINISHED && answer[2] == budget)
@@ -293,7 +359,7 @@ uint32_t examination_wanted(const uint8_t *file, size_t file_len, int32_t *start
     fault_wanted(returned, start_row, start_len, answer);
     if (is(BEST_FOR_FIRST) && returned == EXAMINATION_WANTED_FOUND)
         put_best(file, file_len, start_row, start_len);
-    if (is(LAST_PLACE_OF_WANTED) && returned == 14 * EXAMINATION_REFUSED + 1329)
+    if (is(LAST_PLACE_OF_WANTED) && returned == LAST_REFUSAL)
         return returned - 1;
     if (examination_is_refused(returned)) return returns(returned, file_len);
     return returns(returned_for(returned, answer[0] == budget), file_len);
@@ -356,7 +422,7 @@ uint32_t examination_mark(const uint8_t *file, size_t file_len, const uint8_t *s
         answer[2] = answer[3] = answer[4] = 0;
         return EXAMINATION_UNDECIDED;
     }
-    if (is(LAST_PLACE_OF_MARK) && returned == 14 * EXAMINATION_REFUSED + 1329) return returned - 1;
+    if (is(LAST_PLACE_OF_MARK) && returned == LAST_REFUSAL) return returned - 1;
     return returns(returned, file_len);
 }
 
@@ -425,7 +491,7 @@ uint32_t examination_hundred(const uint8_t *file, size_t file_len, const uint8_t
         answer[2] = answer[3] = answer[4] = hundred[0] = hundred[1] = 0;
         return EXAMINATION_UNDECIDED;
     }
-    if (is(LAST_PLACE_OF_HUNDRED) && returned == 14 * EXAMINATION_REFUSED + 1329)
+    if (is(LAST_PLACE_OF_HUNDRED) && returned == LAST_REFUSAL)
         return returned - 1;
     return returns(returned, file_len);
 }
@@ -474,7 +540,7 @@ uint32_t examination_by_key(const uint8_t *file, size_t file_len, const uint8_t 
     if (is(NOTHING_BY_NONE) && returned == 0 &&
         real_rate(file, file_len, key, key_len, rating) == 0 && rating[0] == 0)
         hundred[0] = 0;
-    if (is(LAST_PLACE_OF_BY_KEY) && returned == 14 * EXAMINATION_REFUSED + 1329)
+    if (is(LAST_PLACE_OF_BY_KEY) && returned == LAST_REFUSAL)
         return returned - 1;
     return returns(returned, file_len);
 }
@@ -482,7 +548,7 @@ uint32_t examination_by_key(const uint8_t *file, size_t file_len, const uint8_t 
 /* Exchanges the first two calls of an archive form, or shortens the first one's offset. */
 static void fault_calls(uint8_t *row, size_t length)
 {
-    size_t at = 0;
+    size_t at = row[0] == 0x56 ? 2 : 0;
     while (row[at] == 0x4C) at += 3;
     if (is(OFFSET_OF_15_BITS)) row[at + 3] &= 127;
     if (!is(CALLS_SWAPPED) || at + 10 >= length) return;
@@ -492,14 +558,46 @@ static void fault_calls(uint8_t *row, size_t length)
     memcpy(row + at + 5, call, 5);
 }
 
+/* An archive form of edition 2 in a row that is shorter by its edition. */
+static uint32_t archive_in_short_row(const uint8_t *file, size_t file_len, uint8_t *row,
+                                     size_t row_len, uint32_t returned)
+{
+    uint8_t form[EXAMINATION_MOST_ARCHIVE_BYTES];
+    const uint32_t length = real_archive(file, file_len, form, sizeof form);
+    if (length > row_len + 2) return returned;
+    memcpy(row, form, row_len);
+    return length;
+}
+
+/* What an archive form that was written begins with, and its length by that. */
+static uint32_t fault_opening(const uint8_t *file, size_t file_len, uint8_t *row, size_t row_len,
+                              uint32_t returned)
+{
+    if (is(EDITION_NOT_ARCHIVED) && row[0] == 0x56) {
+        memmove(row, row + 2, returned - 2);
+        return returned - 2;
+    }
+    if (is(EDITION_2_AS_1) && row[0] == 0x56) row[1] = 1;
+    if (is(EDITION_1_ARCHIVED) && is_opened(file, file_len, 1) && row_len >= returned + 2) {
+        memmove(row + 2, row, returned);
+        memcpy(row, file, 2);
+        return returned + 2;
+    }
+    return returned;
+}
+
 uint32_t examination_archive(const uint8_t *file, size_t file_len, uint8_t *row, size_t row_len)
 {
     const size_t length = is(LONG_ARCHIVE_ROW) && row_len > 4096 ? 0 : row_len;
-    const uint32_t returned = real_archive(file, file_len, row, length);
-    if (is(LAST_PLACE_OF_ARCHIVE) && returned == 14 * EXAMINATION_REFUSED + 1329)
+    uint32_t returned = real_archive(file, file_len, row, length);
+    if (is(LAST_PLACE_OF_ARCHIVE) && returned == LAST_REFUSAL)
         return returned - 1;
+    if (is(EDITION_NOT_COUNTED) && is_opened(file, file_len, 2) &&
+        returned == EXAMINATION_ARCHIVE_ROW_SHORT * EXAMINATION_REFUSED)
+        return archive_in_short_row(file, file_len, row, row_len, returned);
     if (examination_is_refused(returned)) return returns(returned, file_len);
     fault_calls(row, returned);
+    returned = fault_opening(file, file_len, row, row_len, returned);
     if (is(BYTE_BEHIND) && row_len > returned) row[returned] ^= 255;
     return returns(returned, file_len);
 }

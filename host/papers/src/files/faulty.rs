@@ -77,6 +77,11 @@ fn cut_or_unknown(dice: &mut Dice, commands: &[Command], ground: u8) -> (Vec<u8>
     match ground {
         1 => bytes.truncate(place),
         2 => bytes[place] = unknown_command(dice),
+        // An edition too may be cut off, at its place or behind it.
+        3 if dice.once_in(6) => {
+            bytes.truncate(place);
+            bytes.push(EDITION);
+        }
         _ => bytes.truncate(place + dice.within(1, commands[at].bytes().len() - 1)),
     }
     (bytes, place)

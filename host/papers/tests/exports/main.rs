@@ -5,6 +5,7 @@ mod budgets;
 mod called;
 mod compared;
 mod declared;
+mod editions;
 mod ends;
 mod hundreds;
 mod lent;
