@@ -19,7 +19,7 @@
 //! | [`mark`]      | a file, a sheet, a budget | [`Mark`]: the sheet beside the best   |
 //! | [`mark_by_key`] | a file, a sheet, a key | [`Hundred`]: the mark out of a hundred  |
 //! | [`archive`]   | a file                 | the one form in which a network is kept  |
-//! | [`contents`]  | a file                 | [`Contents`]: periods and calls, by that form |
+//! | [`contents`]  | a file                 | [`Contents`]: edition, periods and calls, by that form |
 //!
 //! What a call doesn't take it refuses, with a [`Ground`] and a place
 //! ([`Refusal`]). Nothing that is handed over makes a call panic.
