@@ -221,6 +221,18 @@ fn refusals_lead_to_the_text_line() {
         "refused 9 at ",
         names,
     );
+    let never = "line 1 'B' never calls\n  text line 3: line B every 5\n";
+    refused(
+        "line A every 5\nX at 0\nline B every 5\n# the end",
+        "refused 13 at 11",
+        never,
+    );
+    refused("", "refused 13 at 0", "there is no line\n");
+}
+
+/// The same for editions.
+#[test]
+fn refusals_of_editions_lead_to_the_text_line() {
     let text_line = "text line 2: edition 3";
     refused(
         "# new\nedition 3\nline A every 5",
@@ -235,13 +247,6 @@ fn refusals_lead_to_the_text_line() {
     );
     let second = "byte 2: 56 09 (edition 9)\n  text line 2: edition 9";
     refused("edition 2\nedition 9", "refused 20 at 2", second);
-    let never = "line 1 'B' never calls\n  text line 3: line B every 5\n";
-    refused(
-        "line A every 5\nX at 0\nline B every 5\n# the end",
-        "refused 13 at 11",
-        never,
-    );
-    refused("", "refused 13 at 0", "there is no line\n");
 }
 
 /// The same for more lines, stops and calls than the engine takes.

@@ -58,6 +58,34 @@ fn words_for_a_sheet_of_the_wrong_length() {
     exam(&["rate", HEX, &odd]).told("refused 15 at 0\n", 1, &["sheet: 7 bytes"]);
 }
 
+/// Texts, and what is said of the command at fault.
+const AT_FAULT: [(&str, &str); 15] = [
+    ("4C000F", "nothing behind its 3 bytes"),
+    ("4C000F 99", "byte 3: 99\n"),
+    ("4C000F 4300", "byte 3: 43 00\n"),
+    ("4C05A1 45", "byte 0: 4C 05 A1 (line 0, period 1441)\n"),
+    (
+        "4C000F 4600000001",
+        "byte 3: 46 00 00 00 01 (line 0, stop 0, ride 1)\n",
+    ),
+    ("4C000F 45", "byte 3: 45 (the end)\n  line 0 never calls\n"),
+    ("45", "byte 0: 45 (the end)\n  there is no line\n"),
+    ("4C000F 4300000008 45 43", "byte 9: 43\n"),
+    ("4C000F 4300000008 45 5602", "byte 9: 56\n"),
+    ("5600 4C000F", "byte 0: 56 00 (edition 0)\n"),
+    ("4C000F 5602", "byte 3: 56 02 (edition 2)\n"),
+    ("4C000F 56", "byte 3: 56\n"),
+    (
+        "5602 4C000F 4600000001",
+        "byte 5: 46 00 00 00 01 (line 0, stop 0, ride 1)\n",
+    ),
+    ("5602 4C05A1 45", "byte 2: 4C 05 A1 (line 0, period 1441)\n"),
+    (
+        "5602 4C000F 45",
+        "byte 5: 45 (the end)\n  line 0 never calls\n",
+    ),
+];
+
 /// The whole message, with the command's bytes, what they say and the line.
 #[test]
 fn the_command_at_fault_is_shown() {
@@ -71,33 +99,7 @@ fn the_command_at_fault_is_shown() {
     let ran = exam(&["read", &network]);
     ran.told("refused 8 at 3\n", 1, &[]);
     assert_eq!(ran.err, message);
-    let cases = [
-        ("4C000F", "nothing behind its 3 bytes"),
-        ("4C000F 99", "byte 3: 99\n"),
-        ("4C000F 4300", "byte 3: 43 00\n"),
-        ("4C05A1 45", "byte 0: 4C 05 A1 (line 0, period 1441)\n"),
-        (
-            "4C000F 4600000001",
-            "byte 3: 46 00 00 00 01 (line 0, stop 0, ride 1)\n",
-        ),
-        ("4C000F 45", "byte 3: 45 (the end)\n  line 0 never calls\n"),
-        ("45", "byte 0: 45 (the end)\n  there is no line\n"),
-        ("4C000F 4300000008 45 43", "byte 9: 43\n"),
-        ("4C000F 4300000008 45 5602", "byte 9: 56\n"),
-        ("5600 4C000F", "byte 0: 56 00 (edition 0)\n"),
-        ("4C000F 5602", "byte 3: 56 02 (edition 2)\n"),
-        ("4C000F 56", "byte 3: 56\n"),
-        (
-            "5602 4C000F 4600000001",
-            "byte 5: 46 00 00 00 01 (line 0, stop 0, ride 1)\n",
-        ),
-        ("5602 4C05A1 45", "byte 2: 4C 05 A1 (line 0, period 1441)\n"),
-        (
-            "5602 4C000F 45",
-            "byte 5: 45 (the end)\n  line 0 never calls\n",
-        ),
-    ];
-    for (text, piece) in cases {
+    for (text, piece) in AT_FAULT {
         let ran = exam_with(&["best", "--typed", "-"], text.as_bytes());
         assert_eq!(ran.status, 1);
         assert!(ran.err.contains(piece), "no '{piece}' in {ran:?}");

@@ -82,33 +82,20 @@ fn same_by_editions() {
     let [bare, first, second, other] = files.map(|(name, text)| folder.file(name, text));
     exam(&["same", &bare, &first]).printed("same\n", 0);
     exam(&["same", &second, &second]).printed("same\n", 0);
-    for (one, two, words) in [
-        (
-            &bare,
-            &second,
-            "bare.hex is in edition 1 and second.hex in edition 2",
-        ),
-        (
-            &second,
-            &first,
-            "second.hex is in edition 2 and first.hex in edition 1",
-        ),
-        (
-            &bare,
-            &other,
-            "bare.hex is in edition 1 and other.hex in edition 2",
-        ),
-        (
-            &second,
-            &other,
-            "line 1 has period 20 in second.hex and 30 in other.hex",
-        ),
-    ] {
+    let told = |one: &str, two: &str, words: &str| {
         let ran = exam(&["same", one, two]);
         ran.told("different\n", 1, &[]);
         let said = ran.err.replace(&format!("{}/", folder.name()), "");
         assert_eq!(said, format!("exam: another network: {words}\n"));
-    }
+    };
+    let words = "bare.hex is in edition 1 and second.hex in edition 2";
+    told(&bare, &second, words);
+    let words = "second.hex is in edition 2 and first.hex in edition 1";
+    told(&second, &first, words);
+    let words = "bare.hex is in edition 1 and other.hex in edition 2";
+    told(&bare, &other, words);
+    let words = "line 1 has period 20 in second.hex and 30 in other.hex";
+    told(&second, &other, words);
 }
 
 /// A refused file is no network: its refusal, with its name, and the first one's

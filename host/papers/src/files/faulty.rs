@@ -106,8 +106,8 @@ fn byte_behind(dice: &mut Dice, commands: &[Command]) -> (Vec<u8>, usize) {
     (bytes, place)
 }
 
-/// Grounds 4 to 13 and 19 to 21: one faulty command put before one of the valid ones. `None`
-/// if what is stated there doesn't allow this fault.
+/// Grounds 4 to 13 and 19 to 21: one faulty command put before one of the valid
+/// ones. `None` if what is stated there doesn't allow this fault.
 fn with_faulty_command(
     dice: &mut Dice,
     commands: &[Command],

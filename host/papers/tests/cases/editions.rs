@@ -61,43 +61,45 @@ fn files_that_are_accepted() {
     assert_eq!(counts(&hex("5602 4C0056 4300054656 45")), Ok(operands));
 }
 
+/// Files with the number and the place of their refusal.
+const REFUSED: [(&str, u8, usize); 26] = [
+    // The edition is unknown.
+    ("5600", 21, 0),
+    ("5603", 21, 0),
+    ("56FF", 21, 0),
+    ("5600 4C000F 4300000008 45", 21, 0),
+    ("5603 4C000F 4300000008 45", 21, 0),
+    ("56FF 4C000F 4300000008 45", 21, 0),
+    // It isn't first; then it doesn't matter which it is.
+    ("4C000F 5602 4300000008 45", 20, 3),
+    ("4C000F 4300000008 5601 45", 20, 8),
+    ("5602 5602", 20, 2),
+    ("5602 5607", 20, 2),
+    ("5601 5600 4C000F 4300000008 45", 20, 2),
+    // It is cut off.
+    ("56", 3, 0),
+    ("4C000F 56", 3, 3),
+    ("5602 56", 3, 2),
+    // `46` in edition 2, with whole operands: before 7, behind 3.
+    ("5602 4609090000 45", 19, 2),
+    ("5602 46090900", 3, 2),
+    ("5601 4609090000 45", 7, 2),
+    ("5602 4C000F 4300000008 4600010003 45", 19, 10),
+    ("5602 4C000F 4600400003 45", 19, 5),
+    // The grounds of edition 1 are those of edition 2.
+    ("5602", 1, 2),
+    ("5602 45", 13, 2),
+    ("5602 4C05A1", 5, 2),
+    ("5602 4C000F 99", 2, 5),
+    ("5602 4C000F 4300000008 45 45", 14, 11),
+    // Behind the end nothing is a command.
+    ("4C000F 4300000008 45 5602", 14, 9),
+    ("4C000F 4300000008 45 56", 14, 9),
+];
+
 #[test]
 fn files_that_are_refused() {
-    let cases = [
-        // The edition is unknown.
-        ("5600", 21, 0),
-        ("5603", 21, 0),
-        ("56FF", 21, 0),
-        ("5600 4C000F 4300000008 45", 21, 0),
-        ("5603 4C000F 4300000008 45", 21, 0),
-        ("56FF 4C000F 4300000008 45", 21, 0),
-        // It isn't first; then it doesn't matter which it is.
-        ("4C000F 5602 4300000008 45", 20, 3),
-        ("4C000F 4300000008 5601 45", 20, 8),
-        ("5602 5602", 20, 2),
-        ("5602 5607", 20, 2),
-        ("5601 5600 4C000F 4300000008 45", 20, 2),
-        // It is cut off.
-        ("56", 3, 0),
-        ("4C000F 56", 3, 3),
-        ("5602 56", 3, 2),
-        // `46` in edition 2, with whole operands: before 7, behind 3.
-        ("5602 4609090000 45", 19, 2),
-        ("5602 46090900", 3, 2),
-        ("5601 4609090000 45", 7, 2),
-        ("5602 4C000F 4300000008 4600010003 45", 19, 10),
-        ("5602 4C000F 4600400003 45", 19, 5),
-        // The grounds of edition 1 are those of edition 2.
-        ("5602", 1, 2),
-        ("5602 45", 13, 2),
-        ("5602 4C05A1", 5, 2),
-        ("5602 4C000F 99", 2, 5),
-        ("5602 4C000F 4300000008 45 45", 14, 11),
-        // Behind the end nothing is a command.
-        ("4C000F 4300000008 45 5602", 14, 9),
-        ("4C000F 4300000008 45 56", 14, 9),
-    ];
-    for (typed, number, place) in cases {
+    for (typed, number, place) in REFUSED {
         let file = hex(typed);
         assert_eq!(counts(&file), refusal(number, place), "{typed}");
         let refused = (refusal(number, place), vec![0xEE; 20]);

@@ -278,11 +278,8 @@ fn seeded_files_and_sheets() {
     let kinds = all_kinds(cases);
     assert_eq!(kinds.len(), cases);
     let count = |test: &dyn Fn(&Kind) -> bool| kinds.iter().filter(|kind| test(kind)).count();
-    let grounds: Vec<usize> = [0, 15]
-        .into_iter()
-        .chain(GROUNDS.map(u32::from))
-        .map(|ground| count(&|kind| kind.ground == ground))
-        .collect();
+    let grounds = GROUNDS.map(|ground| count(&|kind| kind.ground == u32::from(ground)));
+    let [rated, unfit] = [0, 15].map(|ground| count(&|kind| kind.ground == ground));
     let searches = [0, 1, 2].map(|end| count(&|kind| kind.search == Some(end)));
     let wanted = [0, 1, 2].map(|end| count(&|kind| kind.wanted == Some(end)));
     let betters = [0, 1, 2].map(|at| count(&|kind| kind.better == at));
@@ -292,7 +289,7 @@ fn seeded_files_and_sheets() {
     let [long, empty] = [count(&|kind| kind.very_long), count(&|kind| kind.empty)];
     let [alike, untidy] = [count(&|kind| kind.alike), count(&|kind| kind.untidy)];
     let editions = [1, 2].map(|edition| count(&|kind| kind.edition == edition));
-    println!("{cases} cases; rated, refused by the sheet and by each ground: {grounds:?}");
+    println!("{cases} cases; rated {rated}, refused by 15 {unfit}, by the file {grounds:?}");
     println!("edition 1, edition 2: {editions:?}");
     println!("searches finished, stopped, stopped with none: {searches:?}");
     println!("wanted gaps found, none, stopped: {wanted:?}");
@@ -310,7 +307,7 @@ fn seeded_files_and_sheets() {
         &marks,
         &hundreds,
         &editions,
-        &[long, empty, alike, untidy, above_key],
+        &[rated, unfit, long, empty, alike, untidy, above_key],
     ]
     .concat();
     assert!(of_kinds.iter().all(|&count| count >= least));
