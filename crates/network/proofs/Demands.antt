@@ -29,6 +29,7 @@ use Rattle.network.specs.Rate.{rateAnswer, rateOutcome}
 use Rattle.network.specs.Loops.{WithoutLoops, AlikeOfCalls}
 use Rattle.network.specs.Classes.{unserved, classRow, weightRow, classCount, lowestStops}
 use Rattle.network.specs.ClassCall.{classAnswer, classOutcome, classRowAfter, weightRowAfter, weightedRating, weightedOutcome}
+use Rattle.network.proofs.Editions.{ArchivedEdition, archived-edition}
 use Rattle.network.proofs.Laws.AlikeByCalls.{alike-by-calls}
 use Rattle.network.proofs.Laws.Valid.{accepted-valid, cycle-multiple, cycle-least, cycle-pos}
 use Rattle.network.proofs.Laws.Reading.{gives-what-is-read, readFile-gives}
@@ -277,6 +278,8 @@ pub record IsArchive (n : Net) (form : List ℕ) : Type 0 where
   pub in-order : Sorted notAfter (read-back .calls)
   -- the archive form of an archive form is itself
   pub again : archive read-back ≡ form
+  -- no 46, no 56 in edition 1, and in any other its 56 first
+  pub edition-stated : ArchivedEdition n form
 
 pub is-archive : {n : Net} → Valid n → IsArchive n (archive n)
 unfolding archiveLength tidied
@@ -293,6 +296,7 @@ is-archive {n} valid =
       same-network = same-tidied n;
       in-order = tidy-sorted (n .calls);
       again = archive-tidied n;
+      edition-stated = archived-edition n;
     }
 
 -- What the call answers and leaves in the row

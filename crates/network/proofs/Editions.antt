@@ -1,31 +1,27 @@
 -- What document 02, A.6, "Following calls retired", asks of reading and of the archive form, of every file: by the definitions, which are what every
 -- call's contract answers by. The demands themselves stand in Demands.antt in the words they had. Assumes nothing.
 use Prim.Native.Nat.{ℕ, _≤_}
-use mathlib.Core.Path.{_≡_, refl, sym, ap, _∙_}
-use mathlib.Core.Bool.{Bool, true, false}
+use mathlib.Core.Path.{_≡_, refl, sym, _∙_}
 use mathlib.Core.List.{List, [], _∷_, _++_}
-use mathlib.Core.Logic.{_⊎_, inl, inr, ⊎-elim, _↔_}
+use mathlib.Core.Logic.{_⊎_, _↔_}
 use native.Mathlib.Omega.{arith}
-use borrow.Author.Tests.{eqb-true, eq-eqb}
-use lib.Dec.{eqb}
-use lib.ListN.{length, getD, take}
+use lib.ListN.{getD, take}
 use Rattle.network.specs.declared.Call.{Call}
 use Rattle.network.specs.Archive.{wordBytes, editionBytes, lineBytes, callBytes, fileOf, tidied, archive, archiveLength}
 use Rattle.network.specs.Divisor.{gcdWithin, gcd, lcm, cycleFrom, commonCycle}
-use Rattle.network.specs.Lists.{pick, any, keep, allBelow, joined}
-use Rattle.network.specs.Network.{Net, netWith, SoFar, Command, callsByRide, statesEdition, firstEdition, latestEdition, command, operandBytes}
-use Rattle.network.specs.Network.{word, cycle, extend, withLine, withCall, callOf, lineOperand, stopOperand, editionOperand, statedOffset, rideOffset}
-use Rattle.network.specs.Network.{howOftenAt, callsAnywhere, latestOffset}
+use Rattle.network.specs.Lists.{any, keep, allBelow, joined}
+use Rattle.network.specs.Network.{Net, netWith, SoFar, Command, callsByRide, statesEdition, firstEdition, command, operandBytes}
+use Rattle.network.specs.Network.{word, cycle, extend, withLine, withCall, callOf, lineOperand, stopOperand, editionOperand, statedOffset}
+use Rattle.network.specs.Network.{howOftenAt, callsAnywhere}
 use Rattle.network.specs.Grounds.{first, cutOff, periodOutOfRange, editionUnknown, someLineSilent, callGrounds, grounds}
-use Rattle.network.specs.Reading.{Reading, proceed, readFrom, readFile, accepted, refused}
+use Rattle.network.specs.Reading.{proceed, readFrom, readFile, accepted, refused}
 use Rattle.network.specs.Gives.{Reached}
 use Rattle.network.specs.Refusals.{OfFile}
 use Rattle.network.specs.Editions.{openingEdition, Meets, moved, groundsBefore, readFileBefore}
-use Rattle.network.specs.Tidy.{insertBy, sortBy, notAfter, tidy}
+use Rattle.network.specs.Tidy.{insertBy, sortBy, tidy}
 use Rattle.network.proofs.Laws.ArchiveCommands.{archive-meets-no-ride, archive-meets-no-edition, archive-opens}
 use Rattle.network.proofs.Laws.Editions.{known-editions, opening-exactly, accepted-edition, accepted-known, rides-in-first-edition, first-edition-throughout, grounds-as-before}
 use Rattle.network.proofs.Laws.Editions.{read-as-before, accepted-as-before, accepted-before-edition, first-edition-stated}
-use Rattle.network.proofs.Laws.Lists.{zero-ne-one}
 use Rattle.network.proofs.Laws.Reading.{refused-number, refused-place, first-4096}
 
 -- ---- The edition of an accepted file: "A new command 56 with one byte, the edition, may open a file; without it the edition is 1"
@@ -75,14 +71,15 @@ edition-1-stated = first-edition-stated
 
 -- ---- The archive form
 
-pub record ArchivedEdition (n : Net) : Type 0 where
+-- .. as it stands in the row that the archive call has written: `archive-writes` of Demands.antt
+pub record ArchivedEdition (n : Net) (form : List ℕ) : Type 0 where
   -- "edition 1's archive form has neither 46 nor 56"
-  pub no-ride-met : Meets (archive n) callsByRide → ⊥
-  pub one-states-none : n .edition ≡ 1 → Meets (archive n) statesEdition → ⊥
+  pub no-ride-met : Meets form callsByRide → ⊥
+  pub one-states-none : n .edition ≡ 1 → Meets form statesEdition → ⊥
   -- "Edition 2 is archived with its 56 first"
-  pub others-open : (n .edition ≡ 1 → ⊥) → take 2 (archive n) ≡ 0x56 ∷ n .edition ∷ []
+  pub others-open : (n .edition ≡ 1 → ⊥) → take 2 form ≡ 0x56 ∷ n .edition ∷ []
 
-pub archived-edition : (n : Net) → ArchivedEdition n
+pub archived-edition : (n : Net) → ArchivedEdition n (archive n)
 archived-edition n =
     record { no-ride-met = archive-meets-no-ride n; one-states-none = archive-meets-no-edition n; others-open = archive-opens n }
 

@@ -2,11 +2,11 @@
 -- of these. Assumes nothing.
 use Prim.Native.Nat.{ℕ}
 use mathlib.Core.Path.{_≡_, refl, sym, ap, subst, _∙_}
-use mathlib.Core.List.{List, [], _∷_, _++_, append-assoc}
+use mathlib.Core.List.{List, [], _∷_, _++_}
 use mathlib.Core.Logic.{_⊎_, inl, inr, ⊎-elim}
 use lib.ListN.{getD, take, drop}
 use Rattle.network.specs.declared.Call.{Call}
-use Rattle.network.specs.Archive.{wordBytes, editionBytes, lineBytes, callBytes, fileOf, tidied, archive}
+use Rattle.network.specs.Archive.{wordBytes, lineBytes, callBytes, fileOf, tidied, archive}
 use Rattle.network.specs.Lists.{joined}
 use Rattle.network.specs.Network.{Net, firstEdition, SoFar, Command, statesLine, callsByOffset, callsByRide, ends, statesEdition, command, operandBytes}
 use Rattle.network.specs.Gives.{Reached, start, next}

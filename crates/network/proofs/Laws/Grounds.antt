@@ -198,7 +198,7 @@ edition-passes f p behind e₀ =
     let (cut, e₁) = first-passes _ _ _ _ e₀ in
     let (late, e₂) = first-passes _ _ _ _ e₁ in
     let (strange, e₃) = first-passes _ _ _ _ e₂ in
-    let (low, high) = or-neither _ _ strange in
+    let (low, high) = or-neither (ltb (editionOperand behind) firstEdition) (ltb latestEdition (editionOperand behind)) strange in
     record {
       operands = not-cut-off statesEdition behind cut;
       opens = omega (arith, ltb-false 0 p late);
