@@ -11,14 +11,14 @@ use Rattle.network.specs.Archive.{wordBytes, editionBytes, lineBytes, ca
 use Rattle.network.specs.Divisor.{gcdWithin, gcd, lcm, cycleFrom, commonCycle}
 use Rattle.network.specs.Lists.{any, keep, allBelow, joined}
 use Rattle.network.specs.Network.{Net, netWith, SoFar, Command, callsByRide, statesEdition, firstEdition, command, operandBytes}
-use Rattle.network.specs.Network.{word, cycle, extend, withLine, withCall, callOf, lineOperand, stopOperand, editionOperand, statedOffset}
-use Rattle.network.specs.Network.{howOftenAt, callsAnywhere}
+use Rattle.network.specs.Network.{word, cycle, extend, withLine, withCall, callOf, lineOperand, stopOperand, editionOperand, statedOffset, rideOffset}
+use Rattle.network.specs.Network.{howOftenAt, callsAnywhere, latestOffset}
 use Rattle.network.specs.Grounds.{first, cutOff, periodOutOfRange, editionUnknown, someLineSilent, callGrounds, grounds}
 use Rattle.network.specs.Reading.{proceed, readFrom, readFile, accepted, refused}
 use Rattle.network.specs.Gives.{Reached}
 use Rattle.network.specs.Refusals.{OfFile}
 use Rattle.network.specs.Editions.{openingEdition, Meets, moved, groundsBefore, readFileBefore}
-use Rattle.network.specs.Tidy.{insertBy, sortBy, tidy}
+use Rattle.network.specs.Tidy.{insertBy, sortBy, notAfter, tidy}
 use Rattle.network.proofs.Laws.ArchiveCommands.{archive-meets-no-ride, archive-meets-no-edition, archive-opens}
 use Rattle.network.proofs.Laws.Editions.{known-editions, opening-exactly, accepted-edition, accepted-known, rides-in-first-edition, first-edition-throughout, grounds-as-before}
 use Rattle.network.proofs.Laws.Editions.{read-as-before, accepted-as-before, accepted-before-edition, first-edition-stated}
@@ -107,6 +107,10 @@ oneCall = 0x4C ∷ 0x00 ∷ 0x0F ∷ 0x43 ∷ 0x00 ∷ 0x00 ∷ 0x00 ∷ 0x08 �
 abbrev callAt8 : Call
 callAt8 = record { line = 0; stop = 0; offset = 8 }
 
+-- .. and one at stop 1, by a ride of 3
+abbrev callAt11 : Call
+callAt11 = record { line = 0; stop = 1; offset = 11 }
+
 -- Refusals: an edition that isn't known, 56 that isn't first, and operands that are cut off before either
 pub edition-cases-refused : (readFile (0x56 ∷ 0x00 ∷ []) ≡ refused 21 0)
     × (readFile (0x56 ∷ 0x03 ∷ []) ≡ refused 21 0)
@@ -128,17 +132,20 @@ pub ride-cases-refused : (readFile (editionTwo ++ (0x46 ∷ 0x09 ∷ 0x09 ∷ 0x
 unfolding readFile readFrom proceed first grounds cutOff editionUnknown callGrounds command operandBytes lineOperand stopOperand editionOperand extend
 ride-cases-refused = (refl, refl, refl)
 
--- Accepted in edition 2, which is its own archive form; in edition 1, archived without its 56; and with 46 and 56 among the operands
+-- Accepted in edition 2, which is its own archive form; in edition 1, archived without its 56; with 46 and 56 among the operands; and in edition 1 with a
+-- ride, archived as its 43
 pub accepted-cases : (readFile (editionTwo ++ oneCall ++ (0x45 ∷ [])) ≡ accepted (netWith 2 (15 ∷ []) (callAt8 ∷ [])))
     × (readFile (editionOne ++ oneCall ++ (0x45 ∷ [])) ≡ accepted (netWith 1 (15 ∷ []) (callAt8 ∷ [])))
     × (readFile (editionTwo ++ (0x4C ∷ 0x00 ∷ 0x56 ∷ 0x43 ∷ 0x00 ∷ 0x05 ∷ 0x46 ∷ 0x56 ∷ 0x45 ∷ []))
     ≡ accepted (netWith 2 (0x56 ∷ []) (record { line = 0; stop = 5; offset = 0x4656 } ∷ [])))
-unfolding readFile readFrom proceed first grounds cutOff periodOutOfRange editionUnknown someLineSilent callGrounds command operandBytes word lineOperand stopOperand editionOperand statedOffset callOf extend withLine withCall howOftenAt callsAnywhere any keep allBelow cycle commonCycle cycleFrom lcm gcd gcdWithin
-accepted-cases = (refl, refl, refl)
+    × (readFile (editionOne ++ oneCall ++ (0x46 ∷ 0x00 ∷ 0x01 ∷ 0x00 ∷ 0x03 ∷ 0x45 ∷ [])) ≡ accepted (netWith 1 (15 ∷ []) (callAt8 ∷ callAt11 ∷ [])))
+unfolding readFile readFrom proceed first grounds cutOff periodOutOfRange editionUnknown someLineSilent callGrounds command operandBytes word lineOperand stopOperand editionOperand statedOffset rideOffset latestOffset callOf extend withLine withCall howOftenAt callsAnywhere any keep allBelow cycle commonCycle cycleFrom lcm gcd gcdWithin
+accepted-cases = (refl, refl, refl, refl)
 
 pub archived-cases : (archive (netWith 2 (15 ∷ []) (callAt8 ∷ [])) ≡ editionTwo ++ oneCall ++ (0x45 ∷ []))
     × (archiveLength (netWith 2 (15 ∷ []) (callAt8 ∷ [])) ≡ 11)
     × (archive (netWith 1 (15 ∷ []) (callAt8 ∷ [])) ≡ oneCall ++ (0x45 ∷ []))
     × (archiveLength (netWith 1 (15 ∷ []) (callAt8 ∷ [])) ≡ 9)
-unfolding archive archiveLength fileOf tidied tidy sortBy insertBy joined editionBytes lineBytes callBytes wordBytes
-archived-cases = (refl, refl, refl, refl)
+    × (archive (netWith 1 (15 ∷ []) (callAt8 ∷ callAt11 ∷ [])) ≡ oneCall ++ (0x43 ∷ 0x00 ∷ 0x01 ∷ 0x00 ∷ 0x0B ∷ 0x45 ∷ []))
+unfolding archive archiveLength fileOf tidied tidy sortBy insertBy notAfter joined editionBytes lineBytes callBytes wordBytes
+archived-cases = (refl, refl, refl, refl, refl)
