@@ -49,6 +49,18 @@ fn passed(network: Network) -> Step
     }
 }
 
+// The numbers of a network that the grounds ask for.
+fn totals_of(lines: usize, calls: usize, cycle: u32, edition: u8) -> Totals
+    ensures { λ r. ⌜ (r .lines ≡ lines) × (r .calls ≡ calls) × (r .cycle ≡ cycle) × (r .edition ≡ edition) ⌝ }
+{
+    Totals {
+        lines,
+        calls,
+        cycle,
+        edition,
+    }
+}
+
 // How many bytes of operands a command has.
 fn operand_bytes(code: u8) -> usize
     ensures { λ r. ⌜ r ≡ net.operandBytes (net.command code) ⌝ }
@@ -186,7 +198,7 @@ fn read_call(totals: Totals, often: &[u8; Network::TABLE], behind: &[u8], at: us
     }
 }
 
-// 46: ground 19, the grounds of a call, then those of the ride.
+// 46: ground 3, then 19, the grounds of a call, and those of the ride.
 fn read_ride(
     totals: Totals,
     often: &[u8; Network::TABLE],
@@ -362,12 +374,7 @@ pub fn read_network(file: &[u8]) -> Step
         let at = file.len() - rest.len();
         let code = rest[0];
         let behind = &rest[1..];
-        let totals = Totals {
-            lines: network.lines,
-            calls: network.count,
-            cycle: network.cycle,
-            edition: network.edition,
-        };
+        let totals = totals_of(network.lines, network.count, network.cycle, network.edition);
         let parsed = read_command(code, totals, &often, &latest, behind, at);
         match parsed {
             Parsed::Refused { number, place } => return refused(network, number, place),

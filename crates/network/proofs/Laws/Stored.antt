@@ -12,6 +12,7 @@ use Rattle.network.specs.declared.Call.{Call}
 use Rattle.network.specs.declared.Check.the-variants.{Passes, Refused}
 use Rattle.network.specs.declared.Network.{Network}
 use Rattle.network.specs.declared.Parsed.the-variants as parsed
+use Rattle.network.specs.declared.Totals.{Totals}
 use Rattle.network.specs.Network.{netWith, SoFar, withNetwork, withEdition, withCalls, Command, callsByOffset, callsByRide, ends, extend}
 use Rattle.network.specs.Network.{maxLines, maxCycle, maxStop, maxCalls, maxCallsAtStop, cycle, howOftenAt, word, callOf, withLine, withCall}
 use Rattle.network.specs.Valid.{Valid, IsBytes, noCall}
@@ -144,9 +145,11 @@ module _ (n : Network) (s : Sound n) where
             ap (λ (k : ℕ). packed (callIn k)) there ∙ s .packs i (omega (arith, h, f)) ∙ sym there
 
 -- The numbers of a network that is held are those that the grounds ask for
-pub has-totals : (n : Network) → Sound n → HasTotals (netOf n) (record { edition = n .edition; lines = n .lines; calls = n .count; cycle = n .cycle })
+pub has-totals : (n : Network) → Sound n → (t : Totals) → (t .lines ≡ n .lines) × (t .calls ≡ n .count) × (t .cycle ≡ n .cycle) × (t .edition ≡ n .edition)
+    → HasTotals (netOf n) t
 unfolding netOf
-has-totals n s = record { edition = refl; lines = sym (held-lines n s); calls = sym (held-calls n s); cycle-is = s .cycle-is }
+has-totals n s t (lines, calls, common, edition) =
+    record { edition = edition; lines = lines ∙ sym (held-lines n s); calls = calls ∙ sym (held-calls n s); cycle-is = common ∙ s .cycle-is }
 
 -- ---- what a command tells
 

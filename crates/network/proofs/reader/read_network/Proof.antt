@@ -39,13 +39,13 @@ abbrev μ-loop : tie.MeasureT-loop
 -- Where a command has been read: the part that was left is the command's byte and what stands behind it
 module _ (r : tie.After-read-command Inv-loop μ-loop) where
   abbrev file : List ℕ
-  file = r .before .before .before .before .before .before .before .before .before .args .file .now
+  file = r .before .before .before .before .before .before .before .before .before .before .args .file .now
 
   abbrev network : Network
-  network = r .before .before .before .before .before .before .loop .network
+  network = r .before .before .before .before .before .before .before .loop .network
 
   abbrev rest : List ℕ
-  rest = r .before .before .before .before .before .before .loop .rest .now
+  rest = r .before .before .before .before .before .before .before .loop .rest .now
 
   abbrev behind : List ℕ
   behind = take (length rest - 1) (drop 1 rest)
@@ -59,11 +59,11 @@ module _ (r : tie.After-read-command Inv-loop μ-loop) where
   abbrev result : Parsed
   result = r .read-command .result
 
-  kept : ReaderRows network (r .before .before .before .before .before .before .loop .often) (r .before .before .before .before .before .before .loop .latest)
-  kept = r .before .before .before .before .before .before .loop .inv .rows
+  kept : ReaderRows network (r .before .before .before .before .before .before .before .loop .often) (r .before .before .before .before .before .before .before .loop .latest)
+  kept = r .before .before .before .before .before .before .before .loop .inv .rows
 
   some : 0 < length rest
-  some = r .before .before .before .before .before .loop-test .taken
+  some = r .before .before .before .before .before .before .loop-test .taken
 
   rest-is : rest ≡ getD rest 0 0 ∷ behind
   rest-is = drop-cons rest 0 0 some ∙ ap (λ (l : List ℕ). getD rest 0 0 ∷ l) (sym (take-rest 1 rest))
@@ -72,7 +72,7 @@ module _ (r : tie.After-read-command Inv-loop μ-loop) where
   length-behind = omega (arith, ap length rest-is)
 
   comes-here : ComesTo file rest network
-  comes-here = r .before .before .before .before .before .before .loop .inv .comes-here
+  comes-here = r .before .before .before .before .before .before .before .loop .inv .comes-here
 
   reached-here : Reached file (soFar (netOf network)) place (getD rest 0 0 ∷ behind)
   reached-here = subst (Reached file (soFar (netOf network)) place) rest-is comes-here
@@ -81,7 +81,7 @@ module _ (r : tie.After-read-command Inv-loop μ-loop) where
   parsed-here : (t : Parsed) → result ≡ t → IsParsed code (soFar (netOf network)) place behind t
   parsed-here t e =
       subst (IsParsed code (soFar (netOf network)) place behind) e
-      (r .read-command .ensures (soFar (netOf network)) (has-totals network (kept .sound)) (kept .often-is) (kept .latest-is))
+      (r .read-command .ensures (soFar (netOf network)) (has-totals network (kept .sound) _ (r .before .before .before .totals-of .ensures)) (kept .often-is) (kept .latest-is))
 
   line-parsed : {period common : ℕ} → result ≡ parsed.Line period common → LineParsed code (soFar (netOf network)) place behind period common
   line-parsed e = line-of-parsed code (soFar (netOf network)) place behind _ _ (rw (← kept .sound .cycle-is) (kept .sound .cycle-pos)) (parsed-here _ e)
@@ -106,7 +106,7 @@ module _ (r : tie.After-read-command Inv-loop μ-loop) where
 
   -- ground 9 has passed, so that the call's place has room for one more
   often-low : {call : Call} → result ≡ parsed.Calls call
-      → getD (r .before .before .before .before .before .before .loop .often) (call .stop * maxLines + call .line) 0 < maxCallsAtStop
+      → getD (r .before .before .before .before .before .before .before .loop .often) (call .stop * maxLines + call .line) 0 < maxCallsAtStop
   unfolding Often
   often-low e = omega (arith, call-parsed e .often, kept .often-is _ _ (line-low e) (stop-low e))
 
@@ -199,10 +199,18 @@ part-behind-start c = c .before .loop-test .taken
 part-behind-end : tie.Need-part-behind-end Inv-loop μ-loop
 part-behind-end c = omega arith
 
+totals-of-requires : tie.Need-totals-of-requires Inv-loop μ-loop
+totals-of-requires c κs = tt
+
 read-command-requires : tie.Need-read-command-requires Inv-loop μ-loop
 read-command-requires c κs =
-    let k = c .before .before .before .before .before .loop .inv .rows .sound in
-    (k .lines, k .cycle-pos, k .cycle-le, omega (arith, c .before .before .before .before .before .before .before .before .good .0 .1))
+    let t = c .before .before .totals-of .ensures in
+    let k = c .before .before .before .before .before .before .loop .inv .rows .sound in (
+      rw (t .0) (k .lines),
+      rw (t .2) (k .cycle-pos),
+      rw (t .2) (k .cycle-le),
+      omega (arith, c .before .before .before .before .before .before .before .before .before .good .0 .1),
+    )
 
 enum-known-parsed : tie.Need-enum-known-parsed Inv-loop μ-loop
 enum-known-parsed c = search needs
@@ -320,7 +328,7 @@ loop-again c =
     let x = next (c .before) in
     let left : length (c .part-behind .result .now) ≡ length (behind r) - k = ap length (c .part-behind .ensures) ∙ length-drop k (behind r) in
     let fits : k ≤ length (behind r) = passes-operands (code r) (soFar (netOf (network r))) (place r) (behind r) (x .passes) in
-    let within : length (rest r) ≤ length (file r) = r .before .before .before .before .before .before .loop .inv .left in
+    let within : length (rest r) ≤ length (file r) = r .before .before .before .before .before .before .before .loop .inv .left in
     let onto : length (file r) - length (c .part-behind .result .now) ≡ place r + 1 + k = omega (arith, length-behind r) in
     record {
       rows = x .kept-on;
@@ -355,6 +363,7 @@ read-network-spec =
     sub-behind
     part-behind-start
     part-behind-end
+    totals-of-requires
     read-command-requires
     enum-known-parsed
     refused-requires
