@@ -19,7 +19,7 @@ fn second() {
     named(b"edition 2, row of 0", &EDITION_2, 0);
     again(b"edition 2, again", &EDITION_2);
     case(
-        b"edition 2, line stated behind: 5602 4C000F 4301000011 4C0014 4300000008 45",
+        b"edition 2, line 1 behind line 0's call: 5602 4C000F 4300000008 4C0014 4301000011 45",
         64,
     );
     case(

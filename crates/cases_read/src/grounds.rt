@@ -26,7 +26,7 @@ fn no_byte() {
     case(b"1 behind a ride: 4C000F 4300000008 4600010001");
 }
 
-// Ground 2: neighbours of the four commands, and bytes far off.
+// Ground 2: neighbours of 43, 45, 46 and 4C, those of 56 being in editions.rt, and bytes far off.
 fn unknown_command() {
     case(b"2 byte 00: 00");
     case(b"2 byte 42: 42");

@@ -21,7 +21,7 @@ use Rattle.network.specs.Reading.{Reading, Outcome, values, refusal, rea
 use Rattle.network.specs.Gives.{Gives}
 use Rattle.network.specs.Refusals.{Refuses, Unfit, Not64, TooShort, Demand1}
 use Rattle.network.specs.Tidy.{notAfter}
-use Rattle.network.specs.Archive.{tidied, archive, archiveLength, SameNetwork, archiveAnswer}
+use Rattle.network.specs.Archive.{tidied, archive, archiveLength, SameOffsets, SameNetwork, archiveAnswer}
 use Rattle.network.specs.Valid.{IsBytes, Valid}
 use Rattle.network.specs.Rating.{IsRatingOver, IsRating, rating, ratingOver}
 use Rattle.network.specs.ByLines.{IsRatingOfLines}
@@ -353,16 +353,16 @@ module _ (κs : Lfts 2) (a : ArgsD archive-call.signature κs) (r : ResD archive
         λ same. one ∙ archive-of-same same ∙ sym other,
       )
 
--- Two files of one network, a file and its archive form among them, are answered alike
+-- Two files with the same periods and offsets, in either edition, a file and its archive form among them, are answered alike
 alike-of-bytes : (one other : List ℕ) {m n : Net} → IsBytes one → IsBytes other → readFile one ≡ accepted m → readFile other ≡ accepted n
-    → SameNetwork m n → AnswersAlike (readFile one) (readFile other)
+    → SameOffsets m n → AnswersAlike (readFile one) (readFile other)
 alike-of-bytes one other {m} {n} bytes bytes′ reads reads′ same =
     rw (reads, reads′) (same-answers-alike (accepted-valid one m bytes reads) (accepted-valid other n bytes′ reads′) same)
 
 module _ (κs : Lfts 1) (a : ArgsD read.signature κs) (r : ResD read.signature κs) (s : AtExit (endedOf 1 read-kinds.ps read-kinds.r) κs)
     (kept : read-contract.Post κs a r s) (κs′ : Lfts 1) (a′ : ArgsD read.signature κs′) (r′ : ResD read.signature κs′)
     (s′ : AtExit (endedOf 1 read-kinds.ps read-kinds.r) κs′) (kept′ : read-contract.Post κs′ a′ r′ s′) where
-  pub same-network-read-alike : {m n : Net} → readFile (a .0 .now) ≡ accepted m → readFile (a′ .0 .now) ≡ accepted n → SameNetwork m n
+  pub same-network-read-alike : {m n : Net} → readFile (a .0 .now) ≡ accepted m → readFile (a′ .0 .now) ≡ accepted n → SameOffsets m n
       → readAnswer r ≡ readAnswer r′
   same-network-read-alike reads reads′ same =
       kept .0 ∙ alike-of-bytes (a .0 .now) (a′ .0 .now) (kept .1) (kept′ .1) reads reads′ same .read-alike ∙ sym (kept′ .0)
@@ -370,7 +370,7 @@ module _ (κs : Lfts 1) (a : ArgsD read.signature κs) (r : ResD read.signature 
 module _ (κs : Lfts 2) (a : ArgsD rate.signature κs) (r : ResD rate.signature κs) (s : AtExit (endedOf 2 rate-kinds.ps rate-kinds.r) κs)
     (kept : rate-contract.Post κs a r s) (κs′ : Lfts 2) (a′ : ArgsD rate.signature κs′) (r′ : ResD rate.signature κs′)
     (s′ : AtExit (endedOf 2 rate-kinds.ps rate-kinds.r) κs′) (kept′ : rate-contract.Post κs′ a′ r′ s′) where
-  pub same-network-rated-alike : {m n : Net} → readFile (a .0 .now) ≡ accepted m → readFile (a′ .0 .now) ≡ accepted n → SameNetwork m n
+  pub same-network-rated-alike : {m n : Net} → readFile (a .0 .now) ≡ accepted m → readFile (a′ .0 .now) ≡ accepted n → SameOffsets m n
       → a .1 .0 .now ≡ a′ .1 .0 .now → rateAnswer r ≡ rateAnswer r′
   same-network-rated-alike reads reads′ same sheets =
       kept .0
@@ -382,7 +382,7 @@ module _ (κs : Lfts 2) (a : ArgsD weighted.signature κs) (r : ResD weighted.si
     (s : AtExit (endedOf 2 weighted-kinds.ps weighted-kinds.r) κs) (kept : weighted-contract.Post κs a r s) (κs′ : Lfts 2)
     (a′ : ArgsD weighted.signature κs′) (r′ : ResD weighted.signature κs′) (s′ : AtExit (endedOf 2 weighted-kinds.ps weighted-kinds.r) κs′)
     (kept′ : weighted-contract.Post κs′ a′ r′ s′) where
-  pub same-network-weighted-alike : {m n : Net} → readFile (a .0 .now) ≡ accepted m → readFile (a′ .0 .now) ≡ accepted n → SameNetwork m n
+  pub same-network-weighted-alike : {m n : Net} → readFile (a .0 .now) ≡ accepted m → readFile (a′ .0 .now) ≡ accepted n → SameOffsets m n
       → a .1 .0 .now ≡ a′ .1 .0 .now → rateAnswer r ≡ rateAnswer r′
   same-network-weighted-alike reads reads′ same sheets =
       kept .0
@@ -395,7 +395,7 @@ module _ (κs : Lfts 3) (a : ArgsD classes.signature κs) (r : ResD classes.sign
     (a′ : ArgsD classes.signature κs′) (r′ : ResD classes.signature κs′) (s′ : AtExit (endedOf 3 classes-kinds.ps classes-kinds.r) κs′)
     (kept′ : classes-contract.Post κs′ a′ r′ s′) where
   -- rows of the same content before have the same content afterwards
-  pub same-network-classified-alike : {m n : Net} → readFile (a .0 .now) ≡ accepted m → readFile (a′ .0 .now) ≡ accepted n → SameNetwork m n
+  pub same-network-classified-alike : {m n : Net} → readFile (a .0 .now) ≡ accepted m → readFile (a′ .0 .now) ≡ accepted n → SameOffsets m n
       → a .1 .0 .now ≡ a′ .1 .0 .now → a .1 .1 .0 .now ≡ a′ .1 .1 .0 .now
       → (classAnswer r ≡ classAnswer r′) × (s .1 .0 .now ≡ s′ .1 .0 .now) × (s .1 .1 .0 .now ≡ s′ .1 .1 .0 .now)
   same-network-classified-alike reads reads′ same rows weights =

@@ -1,27 +1,29 @@
 -- What document 02, A.6, "Following calls retired", asks of reading and of the archive form, of every file: by the definitions, which are what every
--- call's contract answers by. The demands themselves stand in Demands.antt in the words they had. Assumes nothing.
-use Prim.Native.Nat.{ℕ, _≤_}
+-- call's contract answers by. Each follows from the grounds of one command, tried at every place to which reading comes. The demands themselves stand in
+-- Demands.antt in the words they had. Assumes nothing.
+use Prim.Native.Nat.{ℕ, _<_, _≤_}
 use mathlib.Core.Path.{_≡_, refl, sym, _∙_}
 use mathlib.Core.List.{List, [], _∷_, _++_}
-use mathlib.Core.Logic.{_⊎_, _↔_}
+use mathlib.Core.Logic.{_⊎_, ⊎-elim, _↔_}
 use native.Mathlib.Omega.{arith}
-use lib.ListN.{getD, take}
+use lib.ListN.{length, getD, take}
 use Rattle.network.specs.declared.Call.{Call}
-use Rattle.network.specs.Archive.{wordBytes, editionBytes, lineBytes, callBytes, fileOf, tidied, archive, archiveLength}
+use Rattle.network.specs.Archive.{wordBytes, editionBytes, lineBytes, callBytes, fileOf, tidied, archive, archiveLength, archiveOutcome}
 use Rattle.network.specs.Divisor.{gcdWithin, gcd, lcm, cycleFrom, commonCycle}
 use Rattle.network.specs.Lists.{any, keep, allBelow, joined}
 use Rattle.network.specs.Network.{Net, netWith, SoFar, Command, callsByRide, statesEdition, firstEdition, command, operandBytes}
 use Rattle.network.specs.Network.{word, cycle, extend, withLine, withCall, callOf, lineOperand, stopOperand, editionOperand, statedOffset, rideOffset}
 use Rattle.network.specs.Network.{howOftenAt, callsAnywhere, latestOffset}
 use Rattle.network.specs.Grounds.{first, cutOff, periodOutOfRange, editionUnknown, someLineSilent, callGrounds, grounds}
-use Rattle.network.specs.Reading.{proceed, readFrom, readFile, accepted, refused}
+use Rattle.network.specs.Reading.{proceed, readFrom, readFile, accepted, refused, values, refusal}
 use Rattle.network.specs.Gives.{Reached}
 use Rattle.network.specs.Refusals.{OfFile}
-use Rattle.network.specs.Editions.{openingEdition, Meets, moved, groundsBefore, readFileBefore}
+use Rattle.network.specs.Editions.{openingEdition, Meets, moved, inEdition, commandBefore, groundsBefore, readFromBefore, readFileBefore}
 use Rattle.network.specs.Tidy.{insertBy, sortBy, notAfter, tidy}
 use Rattle.network.proofs.Laws.ArchiveCommands.{archive-meets-no-ride, archive-meets-no-edition, archive-opens}
 use Rattle.network.proofs.Laws.Editions.{known-editions, opening-exactly, accepted-edition, accepted-known, rides-in-first-edition, first-edition-throughout, grounds-as-before}
-use Rattle.network.proofs.Laws.Editions.{read-as-before, accepted-as-before, accepted-before-edition, first-edition-stated}
+use Rattle.network.proofs.Laws.Editions.{read-as-before, accepted-as-before, accepted-before-edition, ride-is-retired, edition-is-late, edition-is-unknown}
+use Rattle.network.proofs.Laws.Moved.{first-edition-stated, edition-stated}
 use Rattle.network.proofs.Laws.Reading.{refused-number, refused-place, first-4096}
 
 -- ---- The edition of an accepted file: "A new command 56 with one byte, the edition, may open a file; without it the edition is 1"
@@ -31,7 +33,7 @@ pub record EditionOf (file : List ℕ) (n : Net) : Type 0 where
   pub one-or-two : (n .edition ≡ 1) ⊎ (n .edition ≡ 2)
   pub two-exactly : (n .edition ≡ 2) ↔ (take 2 file ≡ 0x56 ∷ 0x02 ∷ [])
   -- "Edition 2 has no 46": in an edition above the first reading meets none; bytes 46 and 56 among the operands are no commands
-  pub no-ride-met : (n .edition ≡ firstEdition → ⊥) → Meets file callsByRide → ⊥
+  pub no-ride-met : (n .edition ≡ 1 → ⊥) → Meets file callsByRide → ⊥
 
 pub edition-of-accepted : (file : List ℕ) {n : Net} → readFile file ≡ accepted n → EditionOf file n
 edition-of-accepted file {n} reads =
@@ -45,9 +47,27 @@ edition-of-accepted file {n} reads =
       no-ride-met = λ later met. later (rides-in-first-edition file reads met);
     }
 
+-- ---- "(19: 46 in edition 2, between grounds 3 and 7; 20: 56 not first, after ground 3; 21: edition unknown, after 20.)": wherever reading comes to the
+-- command and its operands aren't cut off
+
+-- whatever line, stop and ride it names
+pub retired-is-19 : {file : List ℕ} {f : SoFar} {p : ℕ} {behind : List ℕ} → Reached file f p (0x46 ∷ behind) → 4 ≤ length behind
+    → 1 < f .network .edition → readFile file ≡ refused 19 p
+retired-is-19 = ride-is-retired
+
+-- first means byte 0; whatever edition it states
+pub not-first-is-20 : {file : List ℕ} {f : SoFar} {p : ℕ} {behind : List ℕ} → Reached file f p (0x56 ∷ behind) → 1 ≤ length behind → 0 < p
+    → readFile file ≡ refused 20 p
+not-first-is-20 = edition-is-late
+
+-- whatever stands behind it
+pub unknown-is-21 : (edition : ℕ) (rest : List ℕ) → (edition ≡ 1 → ⊥) → (edition ≡ 2 → ⊥) → readFile (0x56 ∷ edition ∷ rest) ≡ refused 21 0
+unknown-is-21 edition rest not-one not-two =
+    edition-is-unknown edition rest (λ (low, high). ⊎-elim not-one not-two (known-editions edition low high))
+
 -- ---- "Files without the command 56 are read as ever"
 
--- A file by which reading meets no 56 is read as it was before A.6: the same network, or the same number and place
+-- A file in which reading meets no 56 is read as it was before A.6: the same network, or the same number and place
 pub read-as-ever : (file : List ℕ) → (Meets file statesEdition → ⊥) → readFile file ≡ readFileBefore file
 read-as-ever = read-as-before
 
@@ -68,6 +88,11 @@ grounds-as-ever = grounds-as-before
 -- 56 01 states what no 56 states: before a file that doesn't begin with 56 it changes nothing but the places
 pub edition-1-stated : (file : List ℕ) → (getD file 0 0 ≡ 0x56 → ⊥) → readFile (0x56 ∷ 0x01 ∷ file) ≡ moved 2 (readFile file)
 edition-1-stated = first-edition-stated
+
+-- .. and 56 02, where reading meets no 46 either, nothing but the places and the edition
+pub edition-2-stated : (file : List ℕ) → (getD file 0 0 ≡ 0x56 → ⊥) → (Meets file callsByRide → ⊥)
+    → readFile (0x56 ∷ 0x02 ∷ file) ≡ inEdition 2 (moved 2 (readFile file))
+edition-2-stated file unopened no-ride = edition-stated 2 file unopened no-ride (omega arith, omega arith)
 
 -- ---- The archive form
 
@@ -142,10 +167,20 @@ pub accepted-cases : (readFile (editionTwo ++ oneCall ++ (0x45 ∷ [])) ≡ acce
 unfolding readFile readFrom proceed first grounds cutOff periodOutOfRange editionUnknown someLineSilent callGrounds command operandBytes word lineOperand stopOperand editionOperand statedOffset rideOffset latestOffset callOf extend withLine withCall howOftenAt callsAnywhere any keep allBelow cycle commonCycle cycleFrom lcm gcd gcdWithin
 accepted-cases = (refl, refl, refl, refl)
 
+-- .. and as they were read before A.6
+pub before-cases : (readFileBefore (oneCall ++ (0x45 ∷ [])) ≡ accepted (netWith 1 (15 ∷ []) (callAt8 ∷ [])))
+    × (readFileBefore (editionTwo ++ oneCall ++ (0x45 ∷ [])) ≡ refused 2 0)
+    × (readFileBefore (0x4C ∷ 0x00 ∷ 0x0F ∷ 0x56 ∷ []) ≡ refused 2 3)
+    × (readFileBefore (0x46 ∷ 0x09 ∷ 0x09 ∷ 0x00 ∷ 0x00 ∷ 0x45 ∷ []) ≡ refused 7 0)
+unfolding readFileBefore readFromBefore proceed first groundsBefore cutOff periodOutOfRange someLineSilent callGrounds commandBefore operandBytes word lineOperand stopOperand statedOffset callOf extend withLine withCall howOftenAt callsAnywhere any keep allBelow cycle commonCycle cycleFrom lcm gcd gcdWithin
+before-cases = (refl, refl, refl, refl)
+
 pub archived-cases : (archive (netWith 2 (15 ∷ []) (callAt8 ∷ [])) ≡ editionTwo ++ oneCall ++ (0x45 ∷ []))
     × (archiveLength (netWith 2 (15 ∷ []) (callAt8 ∷ [])) ≡ 11)
+    × (archiveOutcome (accepted (netWith 2 (15 ∷ []) (callAt8 ∷ []))) 11 ≡ values (11 ∷ []))
+    × (archiveOutcome (accepted (netWith 2 (15 ∷ []) (callAt8 ∷ []))) 10 ≡ refusal 18 0)
     × (archive (netWith 1 (15 ∷ []) (callAt8 ∷ [])) ≡ oneCall ++ (0x45 ∷ []))
     × (archiveLength (netWith 1 (15 ∷ []) (callAt8 ∷ [])) ≡ 9)
     × (archive (netWith 1 (15 ∷ []) (callAt8 ∷ callAt11 ∷ [])) ≡ oneCall ++ (0x43 ∷ 0x00 ∷ 0x01 ∷ 0x00 ∷ 0x0B ∷ 0x45 ∷ []))
-unfolding archive archiveLength fileOf tidied tidy sortBy insertBy notAfter joined editionBytes lineBytes callBytes wordBytes
-archived-cases = (refl, refl, refl, refl, refl)
+unfolding archive archiveLength archiveOutcome fileOf tidied tidy sortBy insertBy notAfter joined editionBytes lineBytes callBytes wordBytes
+archived-cases = (refl, refl, refl, refl, refl, refl, refl)

@@ -13,6 +13,7 @@ pub mod Grounds
 pub mod Reading
 pub mod RunningCycle
 pub mod Editions
+pub mod Moved
 pub mod Refusals
 pub mod Often
 pub mod Valid

@@ -45,11 +45,15 @@ archive n = fileOf (tidied n)
 unfoldable pub archiveLength : Net → ℕ
 archiveLength n = pick (eqb (n .edition) firstEdition) 0 2 + 3 * length (n .periods) + 5 * length (n .calls) + 1
 
--- Periods, offsets and edition are equal: the same periods line by line, and every call, a line at a stop with an offset, stated as often
-pub record SameNetwork (m n : Net) : Type 0 where
-  pub same-edition : m .edition ≡ n .edition
+-- Periods and offsets are equal: the same periods line by line, and every call, a line at a stop with an offset, stated as often
+pub record SameOffsets (m n : Net) : Type 0 where
   pub same-periods : m .periods ≡ n .periods
   pub same-calls : (c : Call) → howOften c (m .calls) ≡ howOften c (n .calls)
+
+-- .. and the edition too: one network (A.6)
+pub record SameNetwork (m n : Net) : Type 0 where
+  pub same-offsets : SameOffsets m n
+  pub same-edition : m .edition ≡ n .edition
 
 -- The archive call's enum: the length of the archive form; or the refusal
 unfoldable pub archiveAnswer : ArchiveAnswer → Outcome

@@ -1,5 +1,5 @@
 -- Document 02, A.6, "Following calls retired": the edition that opens a file, the commands that reading meets, and reading as it was before A.6, which
--- knew no 56 and no ground but document 01's fourteen.
+-- knew no 56 and no ground but document 01's fourteen, 9 as A.2 has it.
 use Prim.Native.Nat.{ℕ, zero, suc, _+_}
 use mathlib.Core.Path.{_≡_}
 use mathlib.Core.Bool.{true, not, _||_}
@@ -10,7 +10,7 @@ use Rattle.network.specs.Divisor.{lcm}
 use Rattle.network.specs.Lists.{pick}
 use Rattle.network.specs.Network.{SoFar, nothingRead, Command, statesLine, callsByOffset, callsByRide, ends, statesEdition, unknown}
 use Rattle.network.specs.Network.{firstEdition, maxLines, maxCycle, maxOffset, cycle, callsAnywhere, word, lineOperand, rideOffset}
-use Rattle.network.specs.Network.{command, operandBytes, extend}
+use Rattle.network.specs.Network.{withEdition, command, operandBytes, extend}
 use Rattle.network.specs.Grounds.{Ground, _at_when_, first, cutOff, periodOutOfRange, someLineSilent, callGrounds}
 use Rattle.network.specs.Reading.{Reading, accepted, refused, proceed}
 use Rattle.network.specs.Gives.{Reached}
@@ -33,12 +33,20 @@ unfoldable pub moved : ℕ → Reading → Reading
 moved by (accepted n) = accepted n
 moved by (refused number place) = refused number (by + place)
 
--- ---- Reading before A.6
+-- A reading in another edition: the network that it gives is in that one
+unfoldable pub inEdition : ℕ → Reading → Reading
+inEdition edition (accepted n) = accepted (withEdition n edition)
+inEdition edition (refused number place) = refused number place
+
+-- ---- Reading before A.6, written out as it stood
 
 -- 56 was an unknown command
 unfoldable pub commandBefore : ℕ → Command
-commandBefore b = pick (eqb b 0x56) unknown (command b)
+commandBefore b =
+    pick (eqb b 0x4C) statesLine
+    (pick (eqb b 0x43) callsByOffset (pick (eqb b 0x46) callsByRide (pick (eqb b 0x45) ends unknown)))
 
+-- The grounds of each command
 unfoldable pub groundsBefore : Command → SoFar → ℕ → List ℕ → List Ground
 groundsBefore statesLine f p behind =
     (3 at p when cutOff statesLine behind) ∷
@@ -60,6 +68,7 @@ groundsBefore ends f p behind =
 groundsBefore statesEdition f p behind = (2 at p when true) ∷ []
 groundsBefore unknown f p behind = (2 at p when true) ∷ []
 
+-- The file from place `p` on, as by `readFrom`
 unfoldable pub readFromBefore : SoFar → ℕ → ℕ → List ℕ → Reading
 readFromBefore f p operands [] = refused 1 p
 readFromBefore f p (suc operands) (b ∷ behind) = readFromBefore f (p + 1) operands behind
@@ -67,5 +76,6 @@ readFromBefore f p zero (b ∷ behind) =
     proceed (first (groundsBefore (commandBefore b) f p behind)) (commandBefore b) f
     (readFromBefore (extend (commandBefore b) f behind) (p + 1) (operandBytes (commandBefore b)) behind)
 
+-- What a file gave
 unfoldable pub readFileBefore : List ℕ → Reading
 readFileBefore file = readFromBefore nothingRead 0 0 file

@@ -1,4 +1,5 @@
--- What holds of every network that the reader accepts: the limits of document 01, "The network file", as one statement.
+-- What holds of every network that the reader accepts: the limits of document 01, "The network file", and the editions of document 02, A.6, as one
+-- statement.
 use Prim.Native.Nat.{ℕ, _<_, _≤_}
 use mathlib.Core.Path.{_≡_}
 use mathlib.Core.Bool.{true}

@@ -12,7 +12,7 @@ use contract.Lifetimes.{Lfts}
 use denote.Triple.Clauses.{AtExit}
 use lib.IntN.{ℤ, pos}
 use lib.ListN.{length, getD, drop}
-use Rattle.network.specs.Archive.{SameNetwork}
+use Rattle.network.specs.Archive.{SameOffsets}
 use Rattle.network.specs.Lists.{pick}
 use Rattle.network.specs.Network.{Net, maxPeriod}
 use Rattle.network.specs.Reading.{Reading, readFile, accepted}
@@ -224,13 +224,13 @@ module _ (κs : Lfts 2) (a : ArgsD search.signature κs) (r : ResD search.signat
     pub search-answers : Answers n (a .1 .0 .now) (a .1 .1 .0) (searchAnswer r) (s .1 .0 .now)
     search-answers = answers searches reads
 
--- ---- Two files of one network, a file and its archive form among them (document 02, A.1)
+-- ---- Two files with the same periods and offsets, in either edition, a file and its archive form among them (document 02, A.1)
 
 -- Searched with the same budget and start row, they have the same answer with the same tries, and the same starts
 module _ (κs : Lfts 2) (a : ArgsD search.signature κs) (r : ResD search.signature κs)
     (s : AtExit (endedOf 2 search-kinds.ps search-kinds.r) κs) (kept : search-contract.Post κs a r s) (κs′ : Lfts 2) (a′ : ArgsD search.signature κs′)
     (r′ : ResD search.signature κs′) (s′ : AtExit (endedOf 2 search-kinds.ps search-kinds.r) κs′) (kept′ : search-contract.Post κs′ a′ r′ s′) where
-  pub same-network-searched-alike : {m n : Net} → readFile (a .0 .now) ≡ accepted m → readFile (a′ .0 .now) ≡ accepted n → SameNetwork m n
+  pub same-network-searched-alike : {m n : Net} → readFile (a .0 .now) ≡ accepted m → readFile (a′ .0 .now) ≡ accepted n → SameOffsets m n
       → a .1 .0 .now ≡ a′ .1 .0 .now → a .1 .1 .0 ≡ a′ .1 .1 .0 → (searchAnswer r ≡ searchAnswer r′) × (s .1 .0 .now ≡ s′ .1 .0 .now)
   same-network-searched-alike {m} {n} reads reads′ same rows budgets =
       let v = accepted-valid (a .0 .now) m (kept .1 .1) reads in

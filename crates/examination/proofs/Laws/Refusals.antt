@@ -41,7 +41,8 @@ use Rattle.examination.proofs.Laws.Bytes.{sheetOf-fits, rated-on-bytes,
 
 -- ---- the numbers and places of refusals
 
--- A file's own refusal has number 1 to 21 and a place up to 1,331; a call's own ground stands at place 0
+-- A refusal has a number 1 to 21, a file's own being 1 to 14 or 19 to 21 (`refusal-names` of the network), and a place up to 1,331, which is 0 for a
+-- call's own ground
 pub refuses-range : {file : List ℕ} {ground : ℕ} {unfit : Net → Type 0} {number place : ℕ} → Refuses file ground unfit number place
     → 15 ≤ ground → ground ≤ 18 → (1 ≤ number) × (number ≤ 21) × (place ≤ 1331)
 refuses-range {file} (by-file e) l h = omega (arith, refused-number-range file _ _ e, refused-place file _ _ e)

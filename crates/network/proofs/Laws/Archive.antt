@@ -42,10 +42,10 @@ word-of-bytes number rest = div-add-mod' number 256
 -- ---- the edition, which the first needs no bytes to state
 
 -- By whether it is the first
-pub edition-cases : (P : List ℕ → ℕ → Type 0) (edition : ℕ) → (edition ≡ firstEdition → P [] 0)
+pub editionBytes-by-first : (P : List ℕ → ℕ → Type 0) (edition : ℕ) → (edition ≡ firstEdition → P [] 0)
     → ((edition ≡ firstEdition → ⊥) → P (0x56 ∷ edition ∷ []) 2) → P (editionBytes edition) (pick (eqb edition firstEdition) 0 2)
 unfolding editionBytes
-edition-cases P edition unstated stated = go (eqb edition firstEdition) (eqb-true edition firstEdition) (eqb-false edition firstEdition)
+editionBytes-by-first P edition unstated stated = go (eqb edition firstEdition) (eqb-true edition firstEdition) (eqb-false edition firstEdition)
   where
     go : (t : Bool) → (t ≡ true → edition ≡ firstEdition) → (t ≡ false → edition ≡ firstEdition → ⊥)
         → P (pick t [] (0x56 ∷ edition ∷ [])) (pick t 0 2)
@@ -53,15 +53,15 @@ edition-cases P edition unstated stated = go (eqb edition firstEdition) (eqb-tru
     go false is isnt = stated (isnt refl)
 
 pub length-edition : (edition : ℕ) → length (editionBytes edition) ≡ pick (eqb edition firstEdition) 0 2
-length-edition edition = edition-cases (λ bytes k. length bytes ≡ k) edition (λ e. refl) (λ h. refl)
+length-edition edition = editionBytes-by-first (λ bytes k. length bytes ≡ k) edition (λ e. refl) (λ h. refl)
 
 pub length-edition-le : (edition : ℕ) → length (editionBytes edition) ≤ 2
-length-edition-le edition = edition-cases (λ bytes k. length bytes ≤ 2) edition (λ e. omega arith) (λ h. omega arith)
+length-edition-le edition = editionBytes-by-first (λ bytes k. length bytes ≤ 2) edition (λ e. omega arith) (λ h. omega arith)
 
 read-opening : (edition : ℕ) (rest : List ℕ) → firstEdition ≤ edition → edition ≤ latestEdition
     → readFrom nothingRead 0 0 (editionBytes edition ++ rest) ≡ readFrom (soFar (netWith edition [] [])) (length (editionBytes edition)) 0 rest
 read-opening edition rest low high =
-    edition-cases (λ bytes k. readFrom nothingRead 0 0 (bytes ++ rest) ≡ readFrom (soFar (netWith edition [] [])) (length bytes) 0 rest) edition
+    editionBytes-by-first (λ bytes k. readFrom nothingRead 0 0 (bytes ++ rest) ≡ readFrom (soFar (netWith edition [] [])) (length bytes) 0 rest) edition
     (λ e. ap (λ (k : ℕ). readFrom (soFar (netWith k [] [])) 0 0 rest) (sym e)) (λ h. read-edition edition rest low high)
 
 -- ---- a line
@@ -199,7 +199,11 @@ read-archive v = read-fileOf (tidied-valid v)
 -- which is the same network
 pub same-tidied : (n : Net) → SameNetwork (tidied n) n
 unfolding tidied
-same-tidied n = record { same-edition = refl; same-periods = refl; same-calls = howOften-of-tidy (tidy (n .calls)) (n .calls) (tidy-tidy (n .calls)) }
+same-tidied n =
+    record {
+      same-offsets = record { same-periods = refl; same-calls = howOften-of-tidy (tidy (n .calls)) (n .calls) (tidy-tidy (n .calls)) };
+      same-edition = refl;
+    }
 
 -- Its archive form is itself
 pub archive-tidied : (n : Net) → archive (tidied n) ≡ archive n
@@ -209,8 +213,8 @@ archive-tidied n = ap (λ (cs : List Call). fileOf (netWith (n .edition) (n .per
 pub archive-of-same : {m n : Net} → SameNetwork m n → archive m ≡ archive n
 unfolding archive tidied
 archive-of-same {m} {n} same =
-    ap₂ (λ (edition : ℕ) (ps : List ℕ). fileOf (netWith edition ps (tidy (m .calls)))) (same .same-edition) (same .same-periods)
-    ∙ ap (λ (cs : List Call). fileOf (netWith (n .edition) (n .periods) cs)) (tidy-of-howOften (m .calls) (n .calls) (same .same-calls))
+    ap₂ (λ (edition : ℕ) (ps : List ℕ). fileOf (netWith edition ps (tidy (m .calls)))) (same .same-edition) (same .same-offsets .same-periods)
+    ∙ ap (λ (cs : List Call). fileOf (netWith (n .edition) (n .periods) cs)) (tidy-of-howOften (m .calls) (n .calls) (same .same-offsets .same-calls))
 
 accepted-injective : {m n : Net} → accepted m ≡ accepted n → m ≡ n
 accepted-injective e = cc
@@ -220,9 +224,11 @@ unfolding tidied
 same-of-archive {m} {n} v w e =
     let equal : tidied m ≡ tidied n = accepted-injective (sym (read-archive v) ∙ ap readFile e ∙ read-archive w) in
     record {
+      same-offsets = record {
+        same-periods = ap (λ (k : Net). k .periods) equal;
+        same-calls = howOften-of-tidy (m .calls) (n .calls) (ap (λ (k : Net). k .calls) equal);
+      };
       same-edition = ap (λ (k : Net). k .edition) equal;
-      same-periods = ap (λ (k : Net). k .periods) equal;
-      same-calls = howOften-of-tidy (m .calls) (n .calls) (ap (λ (k : Net). k .calls) equal);
     }
 
 pub length-line : (period : ℕ) → length (lineBytes period) ≡ 3
@@ -263,7 +269,7 @@ bytes-joined f d (x ∷ xs) h i = bytes-append (f x) (joined f xs) (h 0 (omega a
 
 edition-bytes : (edition : ℕ) → edition < 256 → IsBytes (editionBytes edition)
 unfolding IsBytes
-edition-bytes edition h = edition-cases (λ bytes k. IsBytes bytes) edition (λ e i. omega arith) (λ k. stated)
+edition-bytes edition h = editionBytes-by-first (λ bytes k. IsBytes bytes) edition (λ e i. omega arith) (λ k. stated)
   where
     stated : (i : ℕ) → getD (0x56 ∷ edition ∷ []) i 0 < 256
     stated zero = omega arith

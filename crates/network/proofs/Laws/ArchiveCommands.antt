@@ -1,5 +1,5 @@
--- Which commands reading the archive form meets: behind the edition it stands before a line, a call or the end, and what passes there leads to the next
--- of these. Assumes nothing.
+-- Which commands reading the archive form meets: behind its edition reading always comes to a line, a call or the end, since what passes there leads to
+-- the next of these. Assumes nothing.
 use Prim.Native.Nat.{ℕ}
 use mathlib.Core.Path.{_≡_, refl, sym, ap, subst, _∙_}
 use mathlib.Core.List.{List, [], _∷_, _++_}
@@ -12,7 +12,7 @@ use Rattle.network.specs.Network.{Net, firstEdition, SoFar, Command, sta
 use Rattle.network.specs.Gives.{Reached, start, next}
 use Rattle.network.specs.Editions.{Meets}
 use Rattle.network.specs.Tidy.{tidy}
-use Rattle.network.proofs.Laws.Archive.{edition-cases}
+use Rattle.network.proofs.Laws.Archive.{editionBytes-by-first}
 use Rattle.network.proofs.Laws.Lists.{zero-ne-one}
 
 -- What is left of the file: lines, calls and the end
@@ -56,7 +56,7 @@ unfolding archive fileOf tidied
 archive-whole n =
     let rest = joined lineBytes (n .periods) ++ joined callBytes (tidy (n .calls)) ++ (0x45 ∷ []) in
     let left : Left rest = record { lines = n .periods; calls = tidy (n .calls); is = refl } in
-    edition-cases (λ bytes k. Whole n (bytes ++ joined lineBytes (n .periods) ++ joined callBytes (tidy (n .calls)) ++ (0x45 ∷ []))) (n .edition) (λ e. inl left)
+    editionBytes-by-first (λ bytes k. Whole n (bytes ++ joined lineBytes (n .periods) ++ joined callBytes (tidy (n .calls)) ++ (0x45 ∷ []))) (n .edition) (λ e. inl left)
     (λ h. inr (rest, refl, left, h))
 
 whole-behind : (n : Net) (b : ℕ) (behind : List ℕ) → (command b ≡ ends → ⊥) → Whole n (b ∷ behind) → Whole n (drop (operandBytes (command b)) behind)
@@ -97,5 +97,5 @@ archive-meets-no-edition n one met =
 pub archive-opens : (n : Net) → (n .edition ≡ firstEdition → ⊥) → take 2 (archive n) ≡ 0x56 ∷ n .edition ∷ []
 unfolding archive fileOf tidied
 archive-opens n h =
-    edition-cases (λ bytes k. take 2 (bytes ++ joined lineBytes (n .periods) ++ joined callBytes (tidy (n .calls)) ++ (0x45 ∷ [])) ≡ 0x56 ∷ n .edition ∷ []) (n .edition)
+    editionBytes-by-first (λ bytes k. take 2 (bytes ++ joined lineBytes (n .periods) ++ joined callBytes (tidy (n .calls)) ++ (0x45 ∷ [])) ≡ 0x56 ∷ n .edition ∷ []) (n .edition)
     (λ e. absurd (h e)) (λ k. refl)

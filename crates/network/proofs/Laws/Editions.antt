@@ -1,12 +1,12 @@
--- Laws of editions: 56 passes at byte 0 alone, so that the edition behind it is the one that opens the file; in edition 1 every other command is tried
--- by the grounds before A.6; and the archive form has no command but 4C, 43 and 45 behind its edition. Each follows from one command's grounds.
--- Assumes nothing.
+-- Laws of editions: 56 passes at byte 0 alone, so that the edition behind it is the one that opens the file; and in edition 1 every other command is
+-- tried by the grounds before A.6, so that a file without 56 is read as before. Each follows from one command's grounds. Assumes nothing.
 use Prim.Native.Nat.{ℕ, zero, suc, _+_, _<_, _≤_}
 use mathlib.Core.Path.{_≡_, refl, sym, ap, ap₂, _∙_}
 use mathlib.Core.Bool.{Bool, true, false, _||_}
 use mathlib.Core.List.{List, [], _∷_}
 use mathlib.Core.Logic.{_⊎_, inl, inr, ⊎-elim, _↔_}
 use native.Mathlib.Omega.{arith}
+use native.Mathlib.Decide.{decLt}
 use borrow.Author.Tests.{eq-eqb, ne-eqb, eqb-true, lt-ltb, le-ltb}
 use lib.Dec.{eqb, leb}
 use lib.ListN.{length, getD, take, drop, length-drop}
@@ -20,7 +20,7 @@ use Rattle.network.specs.Reading.{Reading, accepted, refused, proceed, r
 use Rattle.network.specs.Gives.{Reached, start, next, Gives, accepts, refuses}
 use Rattle.network.specs.Editions.{openingEdition, Meets, moved, commandBefore, groundsBefore, readFromBefore, readFileBefore}
 use Rattle.network.proofs.Laws.Lists.{zero-ne-one}
-use Rattle.network.proofs.Laws.Grounds.{ride-passes, edition-not-end, edition-passes, edition-fits-passes}
+use Rattle.network.proofs.Laws.Grounds.{first-hit, first-miss, edition-too-low, edition-too-high, ride-passes, edition-not-end, edition-passes, edition-fits-passes}
 use Rattle.network.proofs.Laws.Reading.{passes-operands, proceed-cases, read-onward, readFrom-skip, readFile-gives, gives-what-is-read}
 
 -- ---- the byte of 56
@@ -48,9 +48,9 @@ others-keep-edition ends f behind h = refl
 others-keep-edition statesEdition f behind h = absurd (h refl)
 others-keep-edition unknown f behind h = refl
 
-states-it : (c : Command) (f : SoFar) (behind : List ℕ) → c ≡ statesEdition → extend c f behind .network .edition ≡ editionOperand behind
+extend-states-edition : (c : Command) (f : SoFar) (behind : List ℕ) → c ≡ statesEdition → extend c f behind .network .edition ≡ editionOperand behind
 unfolding extend
-states-it c f behind is = ap (λ (d : Command). extend d f behind .network .edition) is
+extend-states-edition c f behind is = ap (λ (d : Command). extend d f behind .network .edition) is
 
 edition-or-not : (c : Command) → (c ≡ statesEdition) ⊎ (c ≡ statesEdition → ⊥)
 edition-or-not statesLine = inr (λ e. zero-ne-one (cc))
@@ -63,7 +63,7 @@ edition-or-not unknown = inr (λ e. zero-ne-one (cc))
 -- ---- the edition at a place to which reading comes
 
 -- What stands at byte 0 is the file
-reached-first : {file : List ℕ} {f : SoFar} {p : ℕ} {rest : List ℕ} → Reached file f p rest → p ≡ 0 → rest ≡ file
+pub reached-first : {file : List ℕ} {f : SoFar} {p : ℕ} {rest : List ℕ} → Reached file f p rest → p ≡ 0 → rest ≡ file
 reached-first start e = refl
 reached-first (next r passes h) e = absurd (omega (arith, e))
 
@@ -79,22 +79,22 @@ opening-unstated b behind file is h =
     ap (λ (l : List ℕ). pick (eqb (getD l 0 0) 0x56) (getD l 1 0) firstEdition) (sym is)
     ∙ ap (λ (t : Bool). pick t (getD behind 0 0) firstEdition) (ne-eqb b 0x56 h)
 
-is-edition : (b : ℕ) → b ≡ 0x56 → command b ≡ statesEdition
+command-of-56 : (b : ℕ) → b ≡ 0x56 → command b ≡ statesEdition
 unfolding command
-is-edition b e = ap command e
+command-of-56 b e = ap command e
 
 -- At byte 0 it is the first, and behind it the one that opens the file ..
 abbrev EditionAt : List ℕ → SoFar → ℕ → Type 0
 EditionAt file f p = (p ≡ 0 → f .network .edition ≡ firstEdition) × (0 < p → f .network .edition ≡ openingEdition file)
 
-abbrev IsKnown : ℕ → Type 0
+abbrev pub IsKnown : ℕ → Type 0
 IsKnown edition = (firstEdition ≤ edition) × (edition ≤ latestEdition)
 
 known-behind : (c : Command) (f : SoFar) (p : ℕ) (behind : List ℕ) → first (grounds c f p behind) ≡ Passes → IsKnown (f .network .edition)
     → (c ≡ statesEdition) ⊎ (c ≡ statesEdition → ⊥) → IsKnown (extend c f behind .network .edition)
 known-behind c f p behind passes known (inl is) =
     let fits = edition-passes f p behind (ap (λ (d : Command). first (grounds d f p behind)) (sym is) ∙ passes) in
-    rw (states-it c f behind is) (fits .from, fits .to)
+    rw (extend-states-edition c f behind is) (fits .from, fits .to)
 known-behind c f p behind passes known (inr other) = rw (others-keep-edition c f behind other) known
 
 module _ {file : List ℕ} where
@@ -102,7 +102,7 @@ module _ {file : List ℕ} where
   edition-there : {f : SoFar} {p b : ℕ} {behind : List ℕ} → Reached file f p (b ∷ behind) → EditionAt file f p → (command b ≡ statesEdition → ⊥)
       → f .network .edition ≡ openingEdition file
   edition-there {p = zero} {b = b} {behind = behind} r (at-first, further) other =
-      at-first refl ∙ sym (opening-unstated b behind file (reached-first r refl) (λ e. other (is-edition b e)))
+      at-first refl ∙ sym (opening-unstated b behind file (reached-first r refl) (λ e. other (command-of-56 b e)))
   edition-there {p = suc p} r (at-first, further) other = further (omega arith)
 
   edition-behind : {f : SoFar} {p b : ℕ} {behind : List ℕ} → Reached file f p (b ∷ behind) → EditionAt file f p
@@ -110,7 +110,7 @@ module _ {file : List ℕ} where
       → extend (command b) f behind .network .edition ≡ openingEdition file
   edition-behind {f} {p} {b} {behind} r h passes (inl is) =
       let fits = edition-passes f p behind (ap (λ (c : Command). first (grounds c f p behind)) (sym is) ∙ passes) in
-      states-it (command b) f behind is
+      extend-states-edition (command b) f behind is
       ∙ sym (opening-stated b behind file (reached-first r (fits .opens)) (command-edition b is))
   edition-behind {f} {p} {b} {behind} r h passes (inr other) = others-keep-edition (command b) f behind other ∙ edition-there r h other
 
@@ -119,7 +119,7 @@ module _ {file : List ℕ} where
   reached-edition (next {b = b} r passes h) =
       (λ e. absurd (omega (arith, e)), λ k. edition-behind r (reached-edition r) passes (edition-or-not (command b)))
 
-  pub met-edition : {f : SoFar} {p b : ℕ} {behind : List ℕ} → Reached file f p (b ∷ behind) → (command b ≡ statesEdition → ⊥)
+  met-edition : {f : SoFar} {p b : ℕ} {behind : List ℕ} → Reached file f p (b ∷ behind) → (command b ≡ statesEdition → ⊥)
       → f .network .edition ≡ openingEdition file
   met-edition r other = edition-there r (reached-edition r) other
 
@@ -132,7 +132,7 @@ module _ {file : List ℕ} where
       reached-edition r .1 (omega arith) ∙ ap (λ (t : Bool). pick t (getD file 1 0) firstEdition) (ne-eqb (getD file 0 0) 0x56 h)
 
   -- It is known
-  pub reached-known : {f : SoFar} {p : ℕ} {rest : List ℕ} → Reached file f p rest → (firstEdition ≤ f .network .edition) × (f .network .edition ≤ latestEdition)
+  pub reached-known : {f : SoFar} {p : ℕ} {rest : List ℕ} → Reached file f p rest → IsKnown (f .network .edition)
   reached-known start = (omega arith, omega arith)
   reached-known (next {f = f} {p = p} {b = b} {behind = behind} r passes h) =
       known-behind (command b) f p behind passes (reached-known r) (edition-or-not (command b))
@@ -173,24 +173,21 @@ module _ (edition : ℕ) (later : firstEdition < edition) where
 
 -- ---- the edition of an accepted file
 
-ends-no-edition : (c : Command) → c ≡ ends → c ≡ statesEdition → ⊥
-ends-no-edition c e f = zero-ne-one (cc)
-
 ride-no-edition : (c : Command) → c ≡ callsByRide → c ≡ statesEdition → ⊥
 ride-no-edition c e f = zero-ne-one (cc)
 
 module _ (file : List ℕ) where
   gives-edition : {n : Net} → Gives file (accepted n) → n .edition ≡ openingEdition file
-  gives-edition (accepts {b = b} r is passes) = met-edition r (ends-no-edition (command b) is)
+  gives-edition (accepts {b = b} r is passes) = met-edition r (λ states. edition-not-end (sym states ∙ is))
 
-  gives-known : {n : Net} → Gives file (accepted n) → (firstEdition ≤ n .edition) × (n .edition ≤ latestEdition)
+  gives-known : {n : Net} → Gives file (accepted n) → IsKnown (n .edition)
   gives-known (accepts r is passes) = reached-known r
 
   module _ {n : Net} (reads : readFile file ≡ accepted n) where
     pub accepted-edition : n .edition ≡ openingEdition file
     accepted-edition = gives-edition (rw reads at (readFile-gives file))
 
-    pub accepted-known : (firstEdition ≤ n .edition) × (n .edition ≤ latestEdition)
+    pub accepted-known : IsKnown (n .edition)
     accepted-known = gives-known (rw reads at (readFile-gives file))
 
     -- Each command that is met has passed
@@ -241,12 +238,12 @@ readFromBefore-skip f p (suc k) (b ∷ bs) h =
     readFromBefore-skip f (p + 1) k bs (omega arith) ∙ ap (λ (q : ℕ). readFromBefore f q 0 (drop k bs)) (omega arith)
 
 command-as-before : (b : ℕ) → (command b ≡ statesEdition → ⊥) → commandBefore b ≡ command b
-unfolding commandBefore
-command-as-before b h = ap (λ (t : Bool). pick t unknown (command b)) (ne-eqb b 0x56 (λ e. h (is-edition b e)))
+unfolding commandBefore command
+command-as-before b h = rw (ne-eqb b 0x56 (λ e. h (command-of-56 b e))) refl
 
 unknown-before : (b : ℕ) → command b ≡ statesEdition → commandBefore b ≡ unknown
 unfolding commandBefore
-unknown-before b is = ap (λ (t : Bool). pick t unknown (command b)) (eq-eqb b 0x56 (command-edition b is))
+unknown-before b is = ap commandBefore (command-edition b is)
 
 met-before : (b : ℕ) (f : SoFar) (p : ℕ) (behind : List ℕ) → command b ≡ statesEdition → readFromBefore f p 0 (b ∷ behind) ≡ refused 2 p
 unfolding readFromBefore groundsBefore first proceed
@@ -262,7 +259,7 @@ not-opened (b ∷ behind) {n} e =
     (λ is.
     let same : accepted n ≡ refused 2 0 = sym e ∙ met-before b nothingRead 0 behind is in
     absurd (zero-ne-one (cc (same))))
-    (λ other. ap (λ (t : Bool). pick t (getD behind 0 0) firstEdition) (ne-eqb b 0x56 (λ i. other (is-edition b i)))) (edition-or-not (command b))
+    (λ other. ap (λ (t : Bool). pick t (getD behind 0 0) firstEdition) (ne-eqb b 0x56 (λ i. other (command-of-56 b i)))) (edition-or-not (command b))
 
 module _ (file : List ℕ) where
   -- What is read now is what was read before, or 56 is met, which was ground 2
@@ -325,75 +322,7 @@ module _ (file : List ℕ) where
   pub accepted-before-edition : {n : Net} → readFileBefore file ≡ accepted n → n .edition ≡ firstEdition
   accepted-before-edition {n} e = accepted-edition file (accepted-as-before e) ∙ not-opened file e
 
--- ---- the same bytes some places on
-
--- The same grounds so many places on
-moveGrounds : ℕ → List Ground → List Ground
-moveGrounds by [] = []
-moveGrounds by ((number at place when t) ∷ gs) = (number at by + place when t) ∷ moveGrounds by gs
-
-moveCheck : ℕ → Check → Check
-moveCheck by Passes = Passes
-moveCheck by (Refused number place) = Refused number (by + place)
-
-first-moved : (by : ℕ) (gs : List Ground) → first (moveGrounds by gs) ≡ moveCheck by (first gs)
-unfolding first moveGrounds moveCheck
-first-moved by [] = refl
-first-moved by ((number at place when true) ∷ gs) = refl
-first-moved by ((number at place when false) ∷ gs) = first-moved by gs
-
--- 20 is the only ground that asks for the place
-grounds-moved : (by : ℕ) (c : Command) (f : SoFar) (p : ℕ) (behind : List ℕ) → (c ≡ statesEdition → 0 < p)
-    → grounds c f (by + p) behind ≡ moveGrounds by (grounds c f p behind)
-unfolding grounds callGrounds moveGrounds
-grounds-moved by statesLine f p behind h = refl
-grounds-moved by callsByOffset f p behind h = refl
-grounds-moved by callsByRide f p behind h = refl
-grounds-moved by ends f p behind h =
-    let next-place : by + p + 1 ≡ by + (p + 1) = omega arith in
-    ap
-    (λ (q : ℕ). (13 at by + p when eqb (length (f .network .periods)) 0 || someLineSilent (f .network)) ∷ (14 at q when leb 1 (length behind)) ∷ [])
-    next-place
-grounds-moved by statesEdition f p behind h =
-    ap
-    (λ (t : Bool).
-    (3 at by + p when cutOff statesEdition behind) ∷ (20 at by + p when t) ∷ (21 at by + p when editionUnknown (editionOperand behind)) ∷ [])
-    (lt-ltb 0 (by + p) (omega (arith, h refl)) ∙ sym (lt-ltb 0 p (h refl)))
-grounds-moved by unknown f p behind h = refl
-
-proceed-moved : (by : ℕ) (k : Check) (c : Command) (f : SoFar) (onward : Reading)
-    → proceed (moveCheck by k) c f (moved by onward) ≡ moved by (proceed k c f onward)
-unfolding proceed moved moveCheck
-proceed-moved by (Refused number place) c f onward = refl
-proceed-moved by Passes statesLine f onward = refl
-proceed-moved by Passes callsByOffset f onward = refl
-proceed-moved by Passes callsByRide f onward = refl
-proceed-moved by Passes ends f onward = refl
-proceed-moved by Passes statesEdition f onward = refl
-proceed-moved by Passes unknown f onward = refl
-
--- No 56 stands at the place, or the place isn't byte 0
-abbrev NotOpened : ℕ → ℕ → List ℕ → Type 0
-NotOpened p k bs = p + k ≡ 0 → getD bs 0 0 ≡ 0x56 → ⊥
-
-readFrom-moved : (by : ℕ) (f : SoFar) (p k : ℕ) (bs : List ℕ) → NotOpened p k bs → readFrom f (by + p) k bs ≡ moved by (readFrom f p k bs)
-unfolding readFrom moved
-readFrom-moved by f p k [] h = refl
-readFrom-moved by f p (suc k) (b ∷ behind) h =
-    ap (λ (q : ℕ). readFrom f q k behind) (omega arith) ∙ readFrom-moved by f (p + 1) k behind (λ e. absurd (omega (arith, e)))
-readFrom-moved by f p zero (b ∷ behind) h =
-    let c = command b in
-    let onward = readFrom (extend c f behind) (p + 1) (operandBytes c) behind in
-    let behind-it : 0 < p + 1 = omega arith in
-    ap₂ (λ (k : Check) (m : Reading). proceed k c f m)
-    (ap first (grounds-moved by c f p behind (λ is. opened p (command-edition b is) h)) ∙ first-moved by (grounds c f p behind))
-    (ap (λ (q : ℕ). readFrom (extend c f behind) q (operandBytes c) behind) (omega arith)
-    ∙ readFrom-moved by (extend c f behind) (p + 1) (operandBytes c) behind (λ e. absurd (omega (arith, e))))
-    ∙ proceed-moved by (first (grounds c f p behind)) c f onward
-  where
-    opened : (q : ℕ) → b ≡ 0x56 → NotOpened q 0 (b ∷ behind) → 0 < q
-    opened zero e g = absurd (g refl e)
-    opened (suc q) e g = omega arith
+-- ---- a known edition that is stated
 
 -- A file that states a known edition is read on behind it
 pub read-edition : (edition : ℕ) (rest : List ℕ) → firstEdition ≤ edition → edition ≤ latestEdition
@@ -403,7 +332,36 @@ read-edition edition rest low high =
     read-onward 0x56 nothingRead 0 (edition ∷ rest) (soFar (netWith edition [] []))
     (edition-fits-passes nothingRead 0 (edition ∷ rest) (record { operands = omega arith; opens = refl; from = low; to = high })) edition-not-end refl
 
--- 56 01 before a file that doesn't begin with 56 changes nothing but the places
-pub first-edition-stated : (file : List ℕ) → (getD file 0 0 ≡ 0x56 → ⊥) → readFile (0x56 ∷ firstEdition ∷ file) ≡ moved 2 (readFile file)
-unfolding readFile
-first-edition-stated file h = read-edition firstEdition file (omega arith) (omega arith) ∙ readFrom-moved 2 nothingRead 0 0 file (λ e. h)
+-- ---- where the grounds of A.6 apply
+
+module _ {file : List ℕ} {f : SoFar} {p : ℕ} {behind : List ℕ} where
+  -- 19: in an edition above the first every 46 with its operands, whatever line and stop it names
+  pub ride-is-retired : Reached file f p (0x46 ∷ behind) → 4 ≤ length behind → firstEdition < f .network .edition → readFile file ≡ refused 19 p
+  unfolding command grounds cutOff operandBytes
+  ride-is-retired r whole later =
+      gives-what-is-read
+      (refuses r
+      (first-miss _ _ _ _ (le-ltb (length behind) 4 whole)
+      ∙ first-hit _ _ _ _ (lt-ltb firstEdition (f .network .edition) later)))
+
+  -- 20: every 56 with its operand that isn't byte 0, whatever edition it states
+  pub edition-is-late : Reached file f p (0x56 ∷ behind) → 1 ≤ length behind → 0 < p → readFile file ≡ refused 20 p
+  unfolding command grounds cutOff operandBytes
+  edition-is-late r whole late =
+      gives-what-is-read
+      (refuses r (first-miss _ _ _ _ (le-ltb (length behind) 1 whole) ∙ first-hit _ _ _ _ (lt-ltb 0 p late)))
+
+-- 21: a file that opens with an edition that isn't known, whatever stands behind it
+pub edition-is-unknown : (edition : ℕ) (rest : List ℕ) → (IsKnown edition → ⊥) → readFile (0x56 ∷ edition ∷ rest) ≡ refused 21 0
+unfolding command grounds cutOff operandBytes editionOperand
+edition-is-unknown edition rest strange =
+    gives-what-is-read
+    (refuses start
+    (first-miss _ _ _ _ (le-ltb (length (edition ∷ rest)) 1 (omega arith))
+    ∙ first-miss _ _ _ _ (le-ltb 0 0 (omega arith))
+    ∙ first-hit _ _ _ _ (go (decLt edition firstEdition) (decLt latestEdition edition))))
+  where
+    go : Dec (edition < firstEdition) → Dec (latestEdition < edition) → editionUnknown edition ≡ true
+    go (yes low) high = edition-too-low edition low
+    go (no not-low) (yes high) = edition-too-high edition high
+    go (no not-low) (no not-high) = absurd (strange (omega (arith, not-low), omega (arith, not-high)))

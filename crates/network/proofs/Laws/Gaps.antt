@@ -30,9 +30,9 @@ pub use Rattle.network.proofs.Laws.Rating.{rating-is-ratingBy, rating-s
 pub use Rattle.network.proofs.Laws.Refusals.{rate-refused}
 -- starts that rate alike
 pub use Rattle.network.proofs.Laws.Starts.{rating-residues, rating-moved-together}
--- two files of one network: the same periods, and the calls of each stop in another order
-pub use Rattle.network.proofs.Laws.SameNetwork.{tidied-same, callsOfStop-tidied, periods-tidied, cycle-tidied, periodOf-tidied, pairGaps-tidied}
-pub use Rattle.network.proofs.Laws.SameNetwork.{counted-tidied}
+-- two files with the same periods and offsets: the calls of each stop in another order, and the edition
+pub use Rattle.network.proofs.Laws.SameNetwork.{plain, plain-same, callsOfStop-plain, periods-plain, cycle-plain, periodOf-plain, pairGaps-plain}
+pub use Rattle.network.proofs.Laws.SameNetwork.{counted-plain}
 -- the order of ratings
 pub use Rattle.network.proofs.Laws.Order.{Above, above-of-isAbove, below-of-not-isAbove, isAbove-none, none-is-not-above}
 pub use Rattle.network.proofs.Laws.Order.{above-none, isAbove-irreflexive, not-above-of-above, not-above-transitive, not-above-of-le, isEqual-numbers}

@@ -81,7 +81,7 @@ pub edition-too-high : (edition : ℕ) → latestEdition < edition → editionUn
 unfolding editionUnknown
 edition-too-high edition h = rw (lt-ltb latestEdition edition h) (or-true (ltb edition firstEdition))
 
-pub edition-known : (edition : ℕ) → firstEdition ≤ edition → edition ≤ latestEdition → editionUnknown edition ≡ false
+edition-known : (edition : ℕ) → firstEdition ≤ edition → edition ≤ latestEdition → editionUnknown edition ≡ false
 unfolding editionUnknown
 edition-known edition h k = rw (le-ltb edition firstEdition h, le-ltb latestEdition edition k)
 
@@ -262,29 +262,29 @@ abbrev Named : ℕ → ℕ → ℕ → Type 0
 Named p number place = OfFile number × (p ≤ place) × (place ≤ p + 1)
 
 -- a ground of document 01, or of A.6
-old : {p number place : ℕ} → (1 ≤ number) × (number ≤ 14) × (p ≤ place) × (place ≤ p + 1) → Named p number place
+named-1-to-14 : {p number place : ℕ} → (1 ≤ number) × (number ≤ 14) × (p ≤ place) × (place ≤ p + 1) → Named p number place
 unfolding OfFile
-old (low, high, from, to) = (inl (low, high), from, to)
+named-1-to-14 (low, high, from, to) = (inl (low, high), from, to)
 
-new : {p number place : ℕ} → (19 ≤ number) × (number ≤ 21) × (p ≤ place) × (place ≤ p + 1) → Named p number place
+named-19-to-21 : {p number place : ℕ} → (19 ≤ number) × (number ≤ 21) × (p ≤ place) × (place ≤ p + 1) → Named p number place
 unfolding OfFile
-new (low, high, from, to) = (inr (low, high), from, to)
+named-19-to-21 (low, high, from, to) = (inr (low, high), from, to)
 
 grounds-named : (c : Command) (f : SoFar) (p : ℕ) (behind : List ℕ) → AllNamed (Named p) (grounds c f p behind)
 unfolding grounds callGrounds
-grounds-named statesLine f p behind = (old (omega arith), (old (omega arith), (old (omega arith), (old (omega arith), tt))))
+grounds-named statesLine f p behind = (named-1-to-14 (omega arith), (named-1-to-14 (omega arith), (named-1-to-14 (omega arith), (named-1-to-14 (omega arith), tt))))
 grounds-named callsByOffset f p behind =
-    (old (omega arith), (old (omega arith), (old (omega arith), (old (omega arith), (old (omega arith), tt)))))
+    (named-1-to-14 (omega arith), (named-1-to-14 (omega arith), (named-1-to-14 (omega arith), (named-1-to-14 (omega arith), (named-1-to-14 (omega arith), tt)))))
 grounds-named callsByRide f p behind = (
-  old (omega arith),
+  named-1-to-14 (omega arith),
   (
-    new (omega arith),
-    (old (omega arith), (old (omega arith), (old (omega arith), (old (omega arith), (old (omega arith), (old (omega arith), tt)))))),
+    named-19-to-21 (omega arith),
+    (named-1-to-14 (omega arith), (named-1-to-14 (omega arith), (named-1-to-14 (omega arith), (named-1-to-14 (omega arith), (named-1-to-14 (omega arith), (named-1-to-14 (omega arith), tt)))))),
   ),
 )
-grounds-named ends f p behind = (old (omega arith), (old (omega arith), tt))
-grounds-named statesEdition f p behind = (old (omega arith), (new (omega arith), (new (omega arith), tt)))
-grounds-named unknown f p behind = (old (omega arith), tt)
+grounds-named ends f p behind = (named-1-to-14 (omega arith), (named-1-to-14 (omega arith), tt))
+grounds-named statesEdition f p behind = (named-1-to-14 (omega arith), (named-19-to-21 (omega arith), (named-19-to-21 (omega arith), tt)))
+grounds-named unknown f p behind = (named-1-to-14 (omega arith), tt)
 
 pub refused-named : (c : Command) (f : SoFar) (p : ℕ) (behind : List ℕ) (number place : ℕ)
     → first (grounds c f p behind) ≡ Refused number place → OfFile number × (p ≤ place) × (place ≤ p + 1)

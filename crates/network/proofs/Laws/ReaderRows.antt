@@ -1,5 +1,5 @@
 -- Laws of what the reader keeps: the network, how often each line calls at each stop and each line's latest offset agree, and stay so with
--- one line or one call more; and what its loop keeps from turn to turn. Assumes nothing.
+-- another edition, one line or one call more; and what its loop keeps from turn to turn. Assumes nothing.
 use Prim.Native.Nat.{ℕ, _*_, _+_, _<_, _≤_}
 use mathlib.Core.Path.{_≡_, sym, ap, subst, _∙_}
 use mathlib.Core.List.{List, [], _∷_, _++_}

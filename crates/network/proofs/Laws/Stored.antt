@@ -1,5 +1,5 @@
--- Laws of a network as the engine holds it: its counts are the lengths of the lists that it stands for, a line or call more is written
--- behind those that count, and what a command tells says how the reading goes on. Assumes nothing.
+-- Laws of a network as the engine holds it: its counts are the lengths of the lists that it stands for, another edition is put and a line or call more
+-- is written behind those that count, and what a command tells says how the reading goes on. Assumes nothing.
 use Prim.Native.Nat.{ℕ, _+_, _<_, _≤_}
 use mathlib.Core.Path.{_≡_, refl, sym, ap, subst, _∙_}
 use mathlib.Core.List.{List, [], _∷_, _++_}
@@ -13,7 +13,7 @@ use Rattle.network.specs.declared.Check.the-variants.{Passes, Refused}
 use Rattle.network.specs.declared.Network.{Network}
 use Rattle.network.specs.declared.Parsed.the-variants as parsed
 use Rattle.network.specs.declared.Totals.{Totals}
-use Rattle.network.specs.Network.{netWith, SoFar, withNetwork, withEdition, withCalls, Command, callsByOffset, callsByRide, ends, extend}
+use Rattle.network.specs.Network.{Net, netWith, SoFar, withNetwork, withEdition, withCalls, Command, callsByOffset, callsByRide, ends, extend}
 use Rattle.network.specs.Network.{maxLines, maxCycle, maxStop, maxCalls, maxCallsAtStop, cycle, howOftenAt, word, callOf, withLine, withCall}
 use Rattle.network.specs.Valid.{Valid, IsBytes, noCall}
 use Rattle.network.specs.Reading.{accepted, refused}
@@ -266,9 +266,9 @@ sound-callsDropped n s =
     }
 
 -- with a call more
-pub held-withCall : (n m : Network) (c : Call) → netOf m ≡ withCall (netOf n) c → netOf m ≡ withCalls (netOf n) (netOf n .calls ++ (c ∷ []))
+pub withCall-appends : (n : Net) (c : Call) → withCall n c ≡ withCalls n (n .calls ++ (c ∷ []))
 unfolding withCall
-held-withCall n m c is = is
+withCall-appends n c = refl
 
 -- ---- what reading a file gives
 

@@ -1,4 +1,4 @@
--- How the engine holds a network: rows of fixed length of which the first places count, and the common cycle beside them.
+-- How the engine holds a network: rows of fixed length of which the first places count, and the common cycle and the edition beside them.
 use Prim.Native.Nat.{ℕ, suc, _+_, _*_, _-_, _/_, _%_, _≤_, _<_}
 use mathlib.Core.Path.{_≡_}
 use mathlib.Core.List.{List, map}

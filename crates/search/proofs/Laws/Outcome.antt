@@ -6,7 +6,7 @@ use mathlib.Core.List.{List}
 use native.Mathlib.Omega.{arith}
 use lib.IntN.{ℤ}
 use lib.ListN.{length}
-use Rattle.network.specs.Archive.{SameNetwork}
+use Rattle.network.specs.Archive.{SameOffsets}
 use Rattle.network.specs.Lists.{pick}
 use Rattle.network.specs.Network.{Net}
 use Rattle.network.specs.Reading.{accepted, refused, readFile}
@@ -31,9 +31,9 @@ module _ (n : Net) (row : List ℤ) (budget : ℕ) (fits : length row ≡ length
   unfolding startRowAfter rowAfterWalk
   fit-row = onStartRow-fit (λ (m : Net). rowAfterWalk (searched m budget) row) (λ number place. row) n (length row) fits
 
--- ---- two files of one network
+-- ---- two files with the same periods and offsets
 
-module _ {m n : Net} (v : Valid m) (w : Valid n) (same : SameNetwork m n) where
+module _ {m n : Net} (v : Valid m) (w : Valid n) (same : SameOffsets m n) where
   pub searchOutcome-same : (row budget : ℕ) → searchOutcome (accepted m) row budget ≡ searchOutcome (accepted n) row budget
   unfolding searchOutcome
   searchOutcome-same row budget =

@@ -6,7 +6,7 @@ use mathlib.Core.List.{List}
 use native.Mathlib.Omega.{arith}
 use lib.IntN.{ℤ}
 use lib.ListN.{length}
-use Rattle.network.specs.Archive.{SameNetwork}
+use Rattle.network.specs.Archive.{SameOffsets}
 use Rattle.network.specs.Lists.{pick}
 use Rattle.network.specs.Network.{Net}
 use Rattle.network.specs.Reading.{accepted, refused, readFile}
@@ -68,9 +68,9 @@ module _ (n : Net) (row : List ℤ) (wanted budget : ℕ) (fits : length row ≡
   unfolding wantedRowAfter rowAfterWalk
   fit-reached-row = onStartRow-fit (λ (m : Net). rowAfterWalk (walked m (atLeast wanted) budget) row) (λ number place. row) n (length row) fits
 
--- ---- two files of one network
+-- ---- two files with the same periods and offsets
 
-module _ {m n : Net} (v : Valid m) (w : Valid n) (same : SameNetwork m n) (wanted budget : ℕ) where
+module _ {m n : Net} (v : Valid m) (w : Valid n) (same : SameOffsets m n) (wanted budget : ℕ) where
   pub wantedOutcome-same : (row : ℕ) → wantedOutcome (accepted m) row wanted budget ≡ wantedOutcome (accepted n) row wanted budget
   unfolding wantedOutcome
   wantedOutcome-same row =

@@ -1,4 +1,4 @@
--- The walk is the same whatever order a file lists its calls in: caps and upper values depend on a stop's calls and not on their order, since
+-- The walk is the same whatever order a file lists its calls in, and in either edition: caps and upper values depend on a stop's calls and not on their order, since
 -- what a pair caps its stop at and gaps are those of a pair whichever comes first, and a sum is that of its terms. Assumes nothing.
 use Prim.Native.Nat.{ℕ, zero, suc, _/_, _<_, min}
 use mathlib.Core.Path.{_≡_, refl, sym, ap, ap₂, fun-ext, _∙_}
@@ -11,7 +11,7 @@ use lib.ListN.{length}
 use borrow.Author.Tests.{eq-eqb, ne-eqb}
 use Rattle.network.specs.declared.Call.{Call}
 use Rattle.network.specs.declared.Rating.{Rating}
-use Rattle.network.specs.Archive.{tidied, SameNetwork}
+use Rattle.network.specs.Archive.{SameOffsets}
 use Rattle.network.specs.Lists.{pick, leastOf, pairsOf, sumOf, leastFrom}
 use Rattle.network.specs.Divisor.{gcd}
 use Rattle.network.specs.Loops.{ownGap}
@@ -20,7 +20,7 @@ use Rattle.network.specs.Rating.{periodOf, pairGaps, callsOfStop, ratingBy}
 use Rattle.network.specs.Valid.{noCall, Valid}
 use Rattle.network.proofs.Laws.Divisor.{gcd-comm}
 use Rattle.network.proofs.Laws.Gaps.{gapOfStop-permuted, leastFrom-pairGaps-few, leastFrom-pairGaps-more, callsOfStop-period-pos, ownGap-is-fold, ownGap-symmetric}
-use Rattle.network.proofs.Laws.Gaps.{tidied-same, callsOfStop-tidied, periods-tidied, cycle-tidied, periodOf-tidied, pairGaps-tidied, counted-tidied}
+use Rattle.network.proofs.Laws.Gaps.{plain, plain-same, callsOfStop-plain, periods-plain, cycle-plain, periodOf-plain, pairGaps-plain, counted-plain}
 use Rattle.network.proofs.Laws.Least.{leastOf-permuted}
 use Rattle.network.proofs.Laws.Members.{All, keep-all}
 use Rattle.network.proofs.Laws.Permutations.{length-permuted, keep-permuted, sumOf-permuted, pairsOf-permuted}
@@ -86,55 +86,55 @@ leastFrom-permuted n starts v {cs} {ds} π positive = go (decLt 1 (length cs))
     go (no h) =
         leastFrom-pairGaps-few n starts v cs (omega arith) ∙ sym (leastFrom-pairGaps-few n starts v ds (omega (arith, length-permuted π)))
 
--- ---- a network with its calls in order
+-- ---- a network with its calls in order, in the first edition
 
 module _ {n : Net} (valid : Valid n) where
-  ownGap-tidied : (c d : Call) → ownGap (tidied n) c d ≡ ownGap n c d
-  ownGap-tidied c d =
-      sym (ownGap-is-fold (tidied n) c d (periodOf (tidied n) c) refl)
-      ∙ ownGap-is-fold n c d (periodOf (tidied n) c) (ap (λ (period : Call → ℕ). period c) (periodOf-tidied n))
+  ownGap-plain : (c d : Call) → ownGap (plain n) c d ≡ ownGap n c d
+  ownGap-plain c d =
+      sym (ownGap-is-fold (plain n) c d (periodOf (plain n) c) refl)
+      ∙ ownGap-is-fold n c d (periodOf (plain n) c) (ap (λ (period : Call → ℕ). period c) (periodOf-plain n))
 
-  pairCap-tidied : pairCap (tidied n) ≡ pairCap n
+  pairCap-plain : pairCap (plain n) ≡ pairCap n
   unfolding pairCap halfOf
-  pairCap-tidied =
+  pairCap-plain =
       fun-ext
       (λ c.
       fun-ext
       (λ d.
-      ap₂ (pick (eqb (c .line) (d .line))) (ownGap-tidied c d)
-      (ap (λ (period : Call → ℕ). gcd (period c) (period d) / 2) (periodOf-tidied n))))
+      ap₂ (pick (eqb (c .line) (d .line))) (ownGap-plain c d)
+      (ap (λ (period : Call → ℕ). gcd (period c) (period d) / 2) (periodOf-plain n))))
 
-  capOfCalls-tidied : (cs : List Call) → capOfCalls (tidied n) cs ≡ capOfCalls n cs
+  capOfCalls-plain : (cs : List Call) → capOfCalls (plain n) cs ≡ capOfCalls n cs
   unfolding capOfCalls pairCaps evenSpacing
-  capOfCalls-tidied [] = refl
-  capOfCalls-tidied (c ∷ []) = ap (λ (period : Call → ℕ). period c) (periodOf-tidied n)
-  capOfCalls-tidied (c ∷ d ∷ cs) =
-      ap₂ min (ap (λ (pair : Call → Call → ℕ). leastOf (pairsOf pair (c ∷ d ∷ cs))) pairCap-tidied)
-      (ap₂ (λ (period : Call → ℕ) (common : ℕ). common / sumOf (λ (c : Call). common / period c) (c ∷ d ∷ cs)) (periodOf-tidied n) (cycle-tidied n))
+  capOfCalls-plain [] = refl
+  capOfCalls-plain (c ∷ []) = ap (λ (period : Call → ℕ). period c) (periodOf-plain n)
+  capOfCalls-plain (c ∷ d ∷ cs) =
+      ap₂ min (ap (λ (pair : Call → Call → ℕ). leastOf (pairsOf pair (c ∷ d ∷ cs))) pairCap-plain)
+      (ap₂ (λ (period : Call → ℕ) (common : ℕ). common / sumOf (λ (c : Call). common / period c) (c ∷ d ∷ cs)) (periodOf-plain n) (cycle-plain n))
 
-  cap-tidied : (stop : ℕ) → cap (tidied n) stop ≡ cap n stop
+  cap-plain : (stop : ℕ) → cap (plain n) stop ≡ cap n stop
   unfolding cap
-  cap-tidied stop = capOfCalls-tidied (callsOfStop (tidied n) stop) ∙ sym (capOfCalls-permuted n (callsOfStop-tidied n stop))
+  cap-plain stop = capOfCalls-plain (callsOfStop (plain n) stop) ∙ sym (capOfCalls-permuted n (callsOfStop-plain n stop))
 
-  upperValue-tidied : (starts : List ℤ) (stop : ℕ) → upperValue (tidied n) (cap (tidied n)) starts stop ≡ upperValue n (cap n) starts stop
+  upperValue-plain : (starts : List ℤ) (stop : ℕ) → upperValue (plain n) (cap (plain n)) starts stop ≡ upperValue n (cap n) starts stop
   unfolding upperValue placedCalls
-  upperValue-tidied starts stop =
-      ap₂ (λ (v : ℕ) (gaps : List ℤ → List Call → List ℕ). leastFrom v (gaps starts (placedCalls starts (callsOfStop (tidied n) stop)))) (cap-tidied stop) (pairGaps-tidied n)
+  upperValue-plain starts stop =
+      ap₂ (λ (v : ℕ) (gaps : List ℤ → List Call → List ℕ). leastFrom v (gaps starts (placedCalls starts (callsOfStop (plain n) stop)))) (cap-plain stop) (pairGaps-plain n)
       ∙ sym
-      (leastFrom-permuted n starts (cap n stop) (keep-permuted (λ (c : Call). ltb (c .line) (length starts)) (callsOfStop-tidied n stop))
+      (leastFrom-permuted n starts (cap n stop) (keep-permuted (λ (c : Call). ltb (c .line) (length starts)) (callsOfStop-plain n stop))
       (keep-all noCall (λ (c : Call). ltb (c .line) (length starts)) (λ c. 0 < periodOf n c) (callsOfStop n stop)
       (λ i h _. callsOfStop-period-pos valid stop i h)))
 
-  upperRating-tidied : upperRating (tidied n) (cap (tidied n)) ≡ upperRating n (cap n)
+  upperRating-plain : upperRating (plain n) (cap (plain n)) ≡ upperRating n (cap n)
   unfolding upperRating
-  upperRating-tidied = fun-ext (λ starts. ap₂ ratingBy (fun-ext (upperValue-tidied starts)) (counted-tidied valid))
+  upperRating-plain = fun-ext (λ starts. ap₂ ratingBy (fun-ext (upperValue-plain starts)) (counted-plain valid))
 
-  walked-tidied : (rule : Rule) (budget : ℕ) → walked (tidied n) rule budget ≡ walked n rule budget
+  walked-plain : (rule : Rule) (budget : ℕ) → walked (plain n) rule budget ≡ walked n rule budget
   unfolding walked
-  walked-tidied rule budget =
-      ap₂ (λ (upper : List ℤ → Rating) (periods : List ℕ). walk upper rule budget (startCounts periods) [] atFirst) upperRating-tidied (periods-tidied n)
+  walked-plain rule budget =
+      ap₂ (λ (upper : List ℤ → Rating) (periods : List ℕ). walk upper rule budget (startCounts periods) [] atFirst) upperRating-plain (periods-plain n)
 
--- Two files of one network
-pub walked-same : {m n : Net} → Valid m → Valid n → SameNetwork m n → (rule : Rule) (budget : ℕ) → walked m rule budget ≡ walked n rule budget
+-- Two files with the same periods and offsets
+pub walked-same : {m n : Net} → Valid m → Valid n → SameOffsets m n → (rule : Rule) (budget : ℕ) → walked m rule budget ≡ walked n rule budget
 walked-same v w same rule budget =
-    sym (walked-tidied v rule budget) ∙ ap (λ (k : Net). walked k rule budget) (tidied-same same) ∙ walked-tidied w rule budget
+    sym (walked-plain v rule budget) ∙ ap (λ (k : Net). walked k rule budget) (plain-same same) ∙ walked-plain w rule budget

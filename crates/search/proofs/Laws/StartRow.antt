@@ -8,7 +8,7 @@ use borrow.Author.Tests.{eqb-true, eqb-false, eq-eqb, ne-eqb}
 use lib.Dec.{eqb}
 use lib.IntN.{ℤ}
 use lib.ListN.{length}
-use Rattle.network.specs.Archive.{SameNetwork}
+use Rattle.network.specs.Archive.{SameOffsets}
 use Rattle.network.specs.Lists.{pick}
 use Rattle.network.specs.Network.{Net}
 use Rattle.network.specs.Reading.{Reading, accepted, refused, readFile}
@@ -39,7 +39,7 @@ module _ {A : Type 0} (call : Net → A) (refuses : ℕ → ℕ → A) where
         go true e = g (eqb-true _ _ e)
 
   -- Two networks with as many lines on which it gives the same
-  pub onStartRow-same : {m n : Net} → SameNetwork m n → call m ≡ call n → (row : ℕ)
+  pub onStartRow-same : {m n : Net} → SameOffsets m n → call m ≡ call n → (row : ℕ)
       → onStartRow call refuses (accepted m) row ≡ onStartRow call refuses (accepted n) row
   unfolding onStartRow
   onStartRow-same same e row = ap₂ (λ (lines : ℕ) (a : A). pick (eqb row lines) a (refuses 16 0)) (ap length (same .same-periods)) e
