@@ -11,7 +11,7 @@ use Rattle.network.specs.declared.Call.{Call}
 use Rattle.network.specs.Archive.{wordBytes, editionBytes, lineBytes, callBytes, fileOf, tidied, archive, archiveLength, archiveOutcome}
 use Rattle.network.specs.Divisor.{gcdWithin, gcd, lcm, cycleFrom, commonCycle}
 use Rattle.network.specs.Lists.{any, keep, allBelow, joined}
-use Rattle.network.specs.Network.{Net, netWith, SoFar, Command, callsByRide, statesEdition, firstEdition, command, operandBytes}
+use Rattle.network.specs.Network.{Net, netWith, SoFar, Command, callsByRide, statesEdition, command, operandBytes}
 use Rattle.network.specs.Network.{word, cycle, extend, withLine, withCall, callOf, lineOperand, stopOperand, editionOperand, statedOffset, rideOffset}
 use Rattle.network.specs.Network.{howOftenAt, callsAnywhere, latestOffset}
 use Rattle.network.specs.Grounds.{first, cutOff, periodOutOfRange, editionUnknown, someLineSilent, callGrounds, grounds}

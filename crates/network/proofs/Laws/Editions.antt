@@ -2,23 +2,23 @@
 -- tried by the grounds before A.6, so that a file without 56 is read as before. Each follows from one command's grounds. Assumes nothing.
 use Prim.Native.Nat.{ℕ, zero, suc, _+_, _<_, _≤_}
 use mathlib.Core.Path.{_≡_, refl, sym, ap, ap₂, _∙_}
-use mathlib.Core.Bool.{Bool, true, false, _||_}
+use mathlib.Core.Bool.{Bool, true, false}
 use mathlib.Core.List.{List, [], _∷_}
 use mathlib.Core.Logic.{_⊎_, inl, inr, ⊎-elim, _↔_}
 use native.Mathlib.Omega.{arith}
 use native.Mathlib.Decide.{decLt}
 use borrow.Author.Tests.{eq-eqb, ne-eqb, eqb-true, lt-ltb, le-ltb}
-use lib.Dec.{eqb, leb}
+use lib.Dec.{eqb}
 use lib.ListN.{length, getD, take, drop, length-drop}
 use Rattle.network.specs.declared.Check.{Check}
 use Rattle.network.specs.declared.Check.the-variants.{Passes, Refused}
 use Rattle.network.specs.Lists.{pick}
 use Rattle.network.specs.Network.{Net, netWith, SoFar, soFar, nothingRead, Command, statesLine, callsByOffset, callsByRide, ends, statesEdition, unknown}
 use Rattle.network.specs.Network.{firstEdition, latestEdition, command, operandBytes, editionOperand, withLine, withCall, extend}
-use Rattle.network.specs.Grounds.{Ground, _at_when_, first, cutOff, editionUnknown, someLineSilent, callGrounds, grounds}
+use Rattle.network.specs.Grounds.{Ground, _at_when_, first, cutOff, editionUnknown, grounds}
 use Rattle.network.specs.Reading.{Reading, accepted, refused, proceed, readFrom, readFile}
 use Rattle.network.specs.Gives.{Reached, start, next, Gives, accepts, refuses}
-use Rattle.network.specs.Editions.{openingEdition, Meets, moved, commandBefore, groundsBefore, readFromBefore, readFileBefore}
+use Rattle.network.specs.Editions.{openingEdition, Meets, commandBefore, groundsBefore, readFromBefore, readFileBefore}
 use Rattle.network.proofs.Laws.Lists.{zero-ne-one}
 use Rattle.network.proofs.Laws.Grounds.{first-hit, first-miss, edition-too-low, edition-too-high, ride-passes, edition-not-end, edition-passes, edition-fits-passes}
 use Rattle.network.proofs.Laws.Reading.{passes-operands, proceed-cases, read-onward, readFrom-skip, readFile-gives, gives-what-is-read}

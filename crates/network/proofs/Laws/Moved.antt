@@ -4,14 +4,13 @@ use Prim.Native.Nat.{ℕ, zero, suc, _+_, _<_, _≤_}
 use mathlib.Core.Path.{_≡_, refl, sym, ap, ap₂, _∙_}
 use mathlib.Core.Bool.{Bool, true, false, _||_}
 use mathlib.Core.List.{List, [], _∷_}
-use mathlib.Core.Logic.{_⊎_, inl, inr, ⊎-elim}
 use native.Mathlib.Omega.{arith}
 use borrow.Author.Tests.{lt-ltb}
 use lib.Dec.{eqb, leb}
 use lib.ListN.{length, getD, drop, length-drop}
 use Rattle.network.specs.declared.Check.{Check}
 use Rattle.network.specs.declared.Check.the-variants.{Passes, Refused}
-use Rattle.network.specs.Network.{Net, netWith, withEdition, SoFar, soFar, nothingRead, Command, statesLine, callsByOffset, callsByRide, ends, statesEdition, unknown}
+use Rattle.network.specs.Network.{withEdition, SoFar, soFar, nothingRead, Command, statesLine, callsByOffset, callsByRide, ends, statesEdition, unknown}
 use Rattle.network.specs.Network.{firstEdition, cycle, rideOffset, command, operandBytes, editionOperand, withLine, withCall, extend}
 use Rattle.network.specs.Grounds.{Ground, _at_when_, first, cutOff, editionUnknown, someLineSilent, callGrounds, grounds}
 use Rattle.network.specs.Reading.{Reading, accepted, refused, proceed, readFrom, readFile}
