@@ -1,12 +1,24 @@
 //! Document 01, "The network file", and grounds 1 to 14 of "Grounds for refusing",
 //! as they stood before editions (document 02, A.6): four commands, and `56` is
 //! unknown. It stays as a witness: "Files without the command `56` are read as ever."
-//! Nothing here is brought up to date by later requests.
+//! Nothing here is brought up to date by later requests: limits and command bytes are
+//! its own, and of the papers it has the two types alone in which it answers.
 
-use crate::sections::network::{
-    Call, Refusal, CALL, EDITION, END, FOLLOW, LINE, MAX_CALLS, MAX_CYCLE, MAX_LINES, MAX_OFFSET,
-    MAX_PERIOD, STOPS,
-};
+use crate::sections::network::{Call, Refusal};
+
+const MAX_LINES: usize = 16;
+const STOPS: usize = 64;
+const MAX_CALLS: usize = 256;
+const MAX_PERIOD: u32 = 1_440;
+const MAX_CYCLE: u32 = 10_080;
+const MAX_OFFSET: u32 = 65_535;
+
+/// The four command bytes, and the one that came with editions.
+const LINE: u8 = 0x4C;
+const CALL: u8 = 0x43;
+const FOLLOW: u8 = 0x46;
+const END: u8 = 0x45;
+const EDITION: u8 = 0x56;
 
 /// An accepted network.
 #[derive(Clone, Debug, PartialEq, Eq)]

@@ -1,5 +1,6 @@
 //! The papers in Rust are independent: no file of `src/sections` names the
-//! engine, or anything of this crate but the sections.
+//! engine, or anything of this crate but the sections. And the reading before editions
+//! stays as it was: of the sections it has two types alone.
 
 #[test]
 fn the_sections_use_themselves_alone() {
@@ -16,4 +17,17 @@ fn the_sections_use_themselves_alone() {
         }
     }
     assert!(imports >= 7, "{imports} imports");
+}
+
+#[test]
+fn the_reading_before_editions_shares_two_types() {
+    let path = concat!(env!("CARGO_MANIFEST_DIR"), "/src/before_editions.rs");
+    let text = std::fs::read_to_string(path).expect("a source");
+    let from_elsewhere = |line: &&str| {
+        let paths = ["crate::", "super::", "engine::", "papers::"];
+        let import = line.trim_start().starts_with("use ");
+        import || paths.iter().any(|path| line.contains(path))
+    };
+    let imports: Vec<&str> = text.lines().filter(from_elsewhere).collect();
+    assert_eq!(imports, ["use crate::sections::network::{Call, Refusal};"]);
 }
