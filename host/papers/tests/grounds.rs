@@ -2,7 +2,7 @@
 //! hand, the order of the grounds, and generated files for each ground.
 
 use papers::files::{faulty_file, Dice, GROUNDS};
-use papers::sections::network::{read, Refusal};
+use papers::sections::network::{read, Refusal, LATEST_EDITION};
 
 /// Number and place, (0, 0) if accepted.
 fn refused(file: &[u8]) -> (u8, usize) {
@@ -212,10 +212,9 @@ fn ground_20_edition_not_first() {
 fn ground_21_edition_unknown() {
     for number in 0..=255u8 {
         let file = [edition(number), line(15), call(0, 0, 8), end()].concat();
-        let expected = if [1, 2].contains(&number) {
-            (0, 0)
-        } else {
-            (21, 0)
+        let expected = match number {
+            1..=LATEST_EDITION => (0, 0),
+            _ => (21, 0),
         };
         assert_eq!(refused(&file), expected, "edition {number}");
     }
@@ -232,6 +231,9 @@ fn grounds_of_editions_in_their_order() {
     let stated = [line(15), follow(0, 64, 0)].concat();
     assert_eq!(refused(&[edition(2), stated.clone()].concat()), (19, 5));
     assert_eq!(refused(&[edition(1), stated].concat()), (8, 5));
+    let thrice = [line(15), call(0, 5, 0), call(0, 5, 1), follow(0, 5, 1)].concat();
+    assert_eq!(refused(&[edition(2), thrice.clone()].concat()), (19, 15));
+    assert_eq!(refused(&[edition(1), thrice].concat()), (9, 15));
     let nowhere = [line(15), follow(0, 0, 0)].concat();
     assert_eq!(refused(&[edition(2), nowhere.clone()].concat()), (19, 5));
     assert_eq!(refused(&[edition(1), nowhere].concat()), (11, 5));
@@ -244,6 +246,9 @@ fn grounds_of_editions_in_their_order() {
         refused(&[edition(1), full].concat()),
         (10, 15 + 5 * 256 + 2)
     );
+    let late = [line(15), call(0, 0, 1), follow(0, 1, 65_535)].concat();
+    assert_eq!(refused(&[edition(2), late.clone()].concat()), (19, 10));
+    assert_eq!(refused(&[edition(1), late].concat()), (12, 10));
     // 20 before 21.
     assert_eq!(refused(&[edition(2), edition(7)].concat()), (20, 2));
     // An unknown edition comes before what stands behind it.
@@ -326,6 +331,31 @@ fn follow_goes_on_from_the_latest_call() {
     assert_eq!(of_line(1), [(4, 9), (9, 7)]);
     assert_eq!((net.calls.len(), net.cycle), (7, 60));
     assert_eq!(net.served_stops(), [3, 4, 5, 6, 9]);
+}
+
+/// Generated rides in edition 2 are those that edition 1 would take and those that it
+/// would refuse on each of the grounds behind 19.
+#[test]
+fn generated_rides_have_each_ground_behind_theirs() {
+    let mut dice = Dice::new(119);
+    let mut grounds = [0; 13];
+    for _ in 0..3_000 {
+        let mut faulty = faulty_file(&mut dice, 19);
+        faulty.bytes[1] = 1;
+        let (ground, place) = refused(&faulty.bytes);
+        let there = place == faulty.place;
+        grounds[if there { usize::from(ground) } else { 0 }] += 1;
+    }
+    println!(
+        "taken in edition 1: {}; refused by 7 to 12: {:?}",
+        grounds[0],
+        &grounds[7..]
+    );
+    assert_eq!(grounds[1..7], [0; 6]);
+    assert!(
+        grounds[0] > 20 && grounds[7..].iter().all(|&count| count > 20),
+        "{grounds:?}"
+    );
 }
 
 /// Generated files for each ground, their places known by how they were made.

@@ -12,6 +12,10 @@ use crate::sections::network::{
 /// The grounds of a file's author: those of document 01 and of document 02, A.6.
 pub const GROUNDS: [u8; 17] = [1, 2, 3, 4, 5, 6, 7, 8, 9, 10, 11, 12, 13, 14, 19, 20, 21];
 
+/// The outcomes that a test counts: accepted, at 0, and each ground at its number,
+/// those of sheets and rows too.
+pub const OUTCOMES: usize = 22;
+
 /// A refused file with the place that the papers give it.
 #[derive(Clone, Debug, PartialEq, Eq)]
 pub struct Faulty {
@@ -28,6 +32,7 @@ pub fn faulty_file(dice: &mut Dice, ground: u8) -> Faulty {
             4 => crowded(dice, MAX_LINES, 2),
             // 256 calls, and each line has stops left.
             10 => crowded(dice, 8, MAX_CALLS / 8),
+            19 if dice.once_in(10) => crowded(dice, 8, MAX_CALLS / 8),
             _ => valid_commands(dice),
         };
         let made = match ground {
@@ -117,6 +122,7 @@ fn with_faulty_command(
         // The places where these can occur are known.
         4 => dice.within(MAX_LINES, commands.len() - 1),
         10 => commands.len() - 1,
+        19 if dice.once_in(4) => commands.len() - 1,
         20 => dice.within(1, commands.len() - 1),
         21 => 0,
         _ => dice.below(commands.len()),
@@ -157,12 +163,18 @@ fn faulty_command(dice: &mut Dice, stated: &Stated, ground: u8) -> Option<Comman
     }
 }
 
-/// Ground 19: a `46` whose line may be stated or not, at a stop that there is or not.
+/// Ground 19: a `46` whose line may be stated or not, at a stop that there is or not, or
+/// where the line calls already.
 fn any_ride(dice: &mut Dice, stated: &Stated) -> Command {
-    let any = [dice.byte(), dice.byte()];
     let lines = stated.periods.len();
-    let likely = [dice.below(lines + 2) as u8, dice.below(STOPS + 2) as u8];
-    let [line, stop] = if dice.once_in(4) { any } else { likely };
+    let [line, stop] = match dice.below(4) {
+        0 => [dice.byte(), dice.byte()],
+        1 if !stated.calls.is_empty() => {
+            let (line, stop, _) = dice.pick(&stated.calls);
+            [line, stop]
+        }
+        _ => [lines + 1, STOPS + STOPS / 4].map(|bound| dice.below(bound) as u8),
+    };
     let ride = any_minutes(dice, u16::MAX);
     Command::Follow { line, stop, ride }
 }

@@ -56,7 +56,7 @@ fn seeded_files() {
 
 /// The files, with few long searches among them.
 fn seeded() -> Vec<Vec<u8>> {
-    let mut dice = Dice::new(23);
+    let mut dice = Dice::new(24);
     let mut files = Vec::new();
     for ground in GROUNDS {
         files.extend((0..OF_EACH_GROUND).map(|_| faulty_file(&mut dice, ground).bytes));
