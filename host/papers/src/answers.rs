@@ -7,7 +7,7 @@ use crate::sections::network::Network;
 use crate::sections::sheets::Marked;
 use crate::sections::walk::{Answer, Walked};
 use crate::sections::wanted::{self, Sought};
-use engine::{Better, Counts, Ground, Hundred, Mark, Rating, Refusal, Searched, Wanted};
+use engine::{Better, Classes, Counts, Ground, Hundred, Mark, Rating, Refusal, Searched, Wanted};
 
 pub fn refusal(paper: sections::network::Refusal) -> Refusal {
     let number = u32::from(paper.number);
@@ -40,6 +40,14 @@ pub fn counted(paper: sections::network::Counts) -> Counts {
         served_stops: paper.served_stops as u32,
         calls: paper.calls as u32,
         cycle: paper.cycle,
+    }
+}
+
+pub fn classed(paper: sections::classes::Classes) -> Classes {
+    Classes {
+        class_row: paper.class_row,
+        weight_row: paper.weight_row,
+        count: paper.count as u32,
     }
 }
 

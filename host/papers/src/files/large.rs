@@ -4,7 +4,7 @@ use super::bytes::{likely_bytes, random_bytes};
 use super::commands::{bytes_of, Command};
 use super::dice::Dice;
 use super::valid::{opening, valid_commands, valid_file};
-use crate::sections::network::MAX_CALLS;
+use crate::sections::network::{FIRST_EDITION, LATEST_EDITION, MAX_CALLS};
 
 /// A network of exactly so many lines and stops, with as many calls as the
 /// limit of 256 allows, for measuring the walk. Few lines get long periods, so
@@ -36,9 +36,15 @@ pub fn dense_file(dice: &mut Dice, lines: usize, stops: usize) -> Vec<u8> {
     bytes_of(&commands)
 }
 
-/// The longest file there is, 1,331 bytes: its edition, 16 lines, 256 calls in any
-/// order and the end.
-pub fn longest_file(dice: &mut Dice, edition: u8) -> Vec<u8> {
+/// What a file may begin with: no edition, or each of those that are known.
+pub fn openings() -> Vec<Option<u8>> {
+    let known = (FIRST_EDITION..=LATEST_EDITION).map(Some);
+    std::iter::once(None).chain(known).collect()
+}
+
+/// The longest file that begins so: 16 lines, 256 calls in any order and the end,
+/// 1,329 bytes, and two more for an edition.
+pub fn longest_file(dice: &mut Dice, edition: Option<u8>) -> Vec<u8> {
     let period = dice.pick(&[12, 60, 1_440]);
     let mut calls: Vec<Command> = (0..=255u8)
         .map(|call| Command::Call {
@@ -48,8 +54,9 @@ pub fn longest_file(dice: &mut Dice, edition: u8) -> Vec<u8> {
         })
         .collect();
     dice.shuffle(&mut calls);
-    let opening = vec![Command::Edition { edition }];
+    let opening = edition.map(|edition| Command::Edition { edition });
     let lines = vec![Command::Line { period }; 16];
+    let opening: Vec<Command> = opening.into_iter().collect();
     bytes_of(&[opening, lines, calls, vec![Command::End]].concat())
 }
 

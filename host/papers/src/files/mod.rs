@@ -30,8 +30,8 @@ pub use bytes::{likely_bytes, random_bytes};
 pub use commands::{bytes_of, Command, Stated};
 pub use damaged::damaged_file;
 pub use dice::Dice;
-pub use faulty::{faulty_file, Faulty, GROUNDS};
-pub use large::{dense_file, limit_file, longest_file, very_long_file};
+pub use faulty::{faulty_file, Faulty, GROUNDS, OUTCOMES};
+pub use large::{dense_file, limit_file, longest_file, openings, very_long_file};
 pub use retyped::retyped;
 pub use sheets::{any_budget, any_gap, any_sheet, any_sheet_bytes, any_start, sheet, sheet_bytes};
 pub use valid::{

@@ -3,10 +3,12 @@
 use crate::given::{file, hex, p1, p7, p8, p9, refusal};
 use engine::Sheet;
 use papers::answers;
-use papers::files::{longest_file, Dice};
+use papers::files::{longest_file, openings, sheet_bytes, Dice};
 use papers::sections::archive::archive;
+use papers::sections::classes::classes as classes_of;
+use papers::sections::hundred;
 use papers::sections::network::{read, read_counts, Counts, Refusal};
-use papers::sections::sheets::{mark, rate, weighted_rate};
+use papers::sections::sheets::{better_bytes, mark, rate, weighted_rate};
 use papers::sections::walk::walk;
 use papers::sections::wanted::seek;
 use std::fmt::Debug;
@@ -158,57 +160,64 @@ fn archive_rows() {
 }
 
 /// An edition, 16 lines, 256 calls and the end are the longest file, and a byte more is
-/// at the last place of all.
+/// at the last place of all; without the edition all is two bytes before.
 #[test]
 fn the_longest_file() {
     let mut dice = Dice::new(77);
-    for (edition, length) in [(1, 1_329), (2, 1_331)] {
+    for edition in openings() {
         let longest = longest_file(&mut dice, edition);
-        assert_eq!(longest.len(), 1_331);
+        let end = edition.map_or(1_328, |_| 1_330);
+        assert_eq!(longest.len(), end + 1);
         assert_eq!(counts(&longest).map(|counts| counts.calls), Ok(256));
+        let length = match edition {
+            None | Some(1) => 1_329,
+            _ => 1_331,
+        };
         assert_eq!(form(&longest).len(), length);
         assert_eq!(archived(&longest, length - 1).0, refusal(18, 0));
         for byte in [0, 0x45, 0x56] {
             let longer = [&longest[..], &[byte]].concat();
-            assert_eq!(counts(&longer), refusal(14, 1_331));
+            assert_eq!(counts(&longer), refusal(14, end + 1));
         }
         // A 257th call in its stead.
-        let longer = [&longest[..1_330], &hex("4300000000 45")].concat();
-        assert_eq!(counts(&longer), refusal(10, 1_330));
+        let longer = [&longest[..end], &hex("4300000000 45")].concat();
+        assert_eq!(counts(&longer), refusal(10, end));
     }
 }
 
-/// What the engine answers on a file, beside the papers: ratings, marks, searches and
-/// classes.
-fn compare_answers(file: &[u8], starts: &[i32]) -> impl PartialEq + Debug {
-    let (net, sheet) = (
-        read(file).expect("an accepted file"),
-        Sheet::of_starts(starts),
-    );
+/// What the engine answers of two sheets, beside the papers: ratings, marks, also out of
+/// a hundred and by a key, and the better.
+fn compare_sheets(file: &[u8], starts: &[i32]) -> impl PartialEq + Debug {
+    let other = &vec![0; starts.len()][..];
+    let [sheet, key] = [starts, other].map(Sheet::of_starts);
     let rating = engine::rate(file, &sheet);
     assert_eq!(rating, answers::rating_or_refusal(rate(file, starts)));
     let weighted = engine::weighted(file, &sheet);
-    assert_eq!(
-        weighted,
-        answers::rating_or_refusal(weighted_rate(file, starts))
-    );
+    let paper = weighted_rate(file, starts);
+    assert_eq!(weighted, answers::rating_or_refusal(paper));
     let marked = engine::mark(file, &sheet, 500);
     let paper = mark(file, starts, 500);
     assert_eq!(marked, paper.map(answers::marked).map_err(answers::refusal));
+    let by_key = engine::mark_by_key(file, &sheet, &key);
+    let paper = hundred::by_key(file, starts, other).map(answers::out_of_hundred);
+    assert_eq!(by_key, paper.map_err(answers::refusal));
+    let better = engine::better(file, &sheet, &key);
+    let [first, second] = [starts, other].map(sheet_bytes);
+    let paper = better_bytes(file, &first, &second);
+    assert_eq!(better, answers::better(paper));
+    (rating, weighted, marked, by_key, better)
+}
+
+/// What it answers without a sheet: searches and classes.
+fn compare_searches(file: &[u8]) -> impl PartialEq + Debug {
+    let net = read(file).expect("an accepted file");
     let searched = engine::search(file, 500).map(answers::walked);
     assert_eq!(searched, Ok(walk(&net, 500)));
     let sought = engine::wanted(file, 2, 500).map(answers::sought);
     assert_eq!(sought, Ok(seek(&net, 2, 500)));
     let classes = engine::classes(file);
-    (
-        counts(file),
-        rating,
-        weighted,
-        marked,
-        searched,
-        sought,
-        classes,
-    )
+    assert_eq!(classes, Ok(answers::classed(classes_of(&net))));
+    (counts(file), searched, sought, classes)
 }
 
 /// They go by lines and calls alone.
@@ -218,10 +227,12 @@ fn either_edition_is_answered_alike() {
     for typed in [p1(), p7(), p8(), p9(), loops] {
         let lines = read(&typed).expect("an accepted file").lines();
         let starts = &[0, -17, 5][..lines];
-        let expected = compare_answers(&typed, starts);
+        let of_sheets = compare_sheets(&typed, starts);
+        let of_searches = compare_searches(&typed);
         for edition in [1, 2] {
             let opened = [&[0x56, edition], &typed[..]].concat();
-            assert_eq!(compare_answers(&opened, starts), expected);
+            assert_eq!(compare_sheets(&opened, starts), of_sheets);
+            assert_eq!(compare_searches(&opened), of_searches);
         }
     }
 }

@@ -6,11 +6,8 @@ use crate::compared::{
     compare_mark, compare_rate, compare_read, compare_search, compare_wanted, AllSeen, Rates,
 };
 use crate::{examination_rate, examination_wanted, examination_weighted};
-use papers::files::{bytes_of, longest_file, sheet, sheet_bytes, Command, Dice};
+use papers::files::{bytes_of, longest_file, openings, sheet, sheet_bytes, Command, Dice};
 use papers::sections::sheets::{rate_bytes, weighted_bytes};
-
-/// Ground 14 at 1,331, the last place of all.
-const BEHIND_THE_LONGEST: u32 = 14 * 65_536 + 1_331;
 
 /// Every export on a file, with rows and sheets that are right for so many lines.
 fn compare_with_right_rows(dice: &mut Dice, file: &[u8], lines: usize) -> AllSeen {
@@ -40,9 +37,9 @@ fn compare_with_right_rows(dice: &mut Dice, file: &[u8], lines: usize) -> AllSee
 #[test]
 fn the_longest_file_is_accepted() {
     let mut dice = Dice::new(76);
-    for edition in [1, 2] {
+    for edition in openings() {
         let longest = longest_file(&mut dice, edition);
-        assert_eq!(longest.len(), 1_331);
+        assert_eq!(longest.len(), edition.map_or(1_329, |_| 1_331));
         let seen = compare_with_right_rows(&mut dice, &longest, 16);
         for one in seen.refusing() {
             assert!(one.answers != [0; 3] && one.grounds[14] == 0, "{seen:?}");
@@ -84,24 +81,30 @@ fn a_wanted_gap_has_16_bits() {
     }
 }
 
-/// A byte more than the longest file, whatever it is, is ground 14 at 1,331,
-/// however many come behind it.
+/// The longest file lengthened by any bytes to so many: ground 14 behind its end.
+fn compare_longer(dice: &mut Dice, longest: &[u8], length: usize) {
+    for tail in [0, 0x43, 0x45, 0x4C, 0x56, 0xFF] {
+        let mut longer = longest.to_vec();
+        longer.resize(length, tail);
+        let seen = compare_with_right_rows(dice, &longer, 16);
+        let behind = 14 * 65_536 + longest.len() as u32;
+        for one in seen.refusing() {
+            assert_eq!((one.answers, one.last), ([0; 3], behind));
+        }
+        assert_eq!(seen.better.answers, [1, 0, 0]);
+    }
+}
+
+/// A byte more than the longest file, whatever it is, is ground 14 at 1,329, or with an
+/// edition at 1,331, the last place of all, however many come behind it.
 #[test]
 fn a_byte_behind_the_longest_file() {
     let mut dice = Dice::new(68);
-    for (at, length) in [1_332, 1_333, 1_336, 4_095, 4_096, 4_097, 5_000, 65_536]
-        .into_iter()
-        .enumerate()
-    {
-        let longest = longest_file(&mut dice, 1 + at as u8 % 2);
-        for tail in [0, 0x43, 0x45, 0x4C, 0x56, 0xFF] {
-            let mut longer = longest.clone();
-            longer.resize(length, tail);
-            let seen = compare_with_right_rows(&mut dice, &longer, 16);
-            for one in seen.refusing() {
-                assert_eq!((one.answers, one.last), ([0; 3], BEHIND_THE_LONGEST));
-            }
-            assert_eq!(seen.better.answers, [1, 0, 0]);
+    for edition in openings() {
+        let longest = longest_file(&mut dice, edition);
+        let few = [1, 2, 5].map(|more| longest.len() + more);
+        for length in [&few[..], &[4_095, 4_096, 4_097, 5_000, 65_536]].concat() {
+            compare_longer(&mut dice, &longest, length);
         }
     }
 }

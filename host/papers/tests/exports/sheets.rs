@@ -49,7 +49,7 @@ fn sheets_of_every_byte_count() {
     let files = [
         (bytes_of(&one_line), 4),
         (three_lines([15, 20, 12]), 12),
-        (longest_file(&mut dice, 2), 64),
+        (longest_file(&mut dice, Some(2)), 64),
     ];
     for (file, right) in files {
         let counts = counts(right);
