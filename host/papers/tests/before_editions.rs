@@ -7,7 +7,7 @@ use papers::answers;
 use papers::before_editions::{self, is_of_before};
 use papers::files::{
     any_file, damaged_file, faulty_file, likely_bytes, limit_file, roomy_file, valid_file,
-    very_long_file, Dice,
+    very_long_file, Dice, OUTCOMES,
 };
 use papers::sections::network::{read, Network, Refusal, EDITION, END, FOLLOW};
 
@@ -41,7 +41,7 @@ fn file_of_any_kind(dice: &mut Dice) -> Vec<u8> {
 }
 
 /// How often each outcome was met: accepted, or refused by a ground.
-type Met = [usize; 22];
+type Met = [usize; OUTCOMES];
 
 fn count<T>(met: &mut Met, answer: &Result<T, Refusal>) {
     let ground = answer.as_ref().map_or_else(|why| why.number, |_| 0);
@@ -97,14 +97,13 @@ fn files_by_hand_are_read_as_ever() {
     }
 }
 
-/// The place of the first `46` with all its operands, before the end and every byte
-/// that is no command.
+/// The place of the first `46` with all its operands before the end.
 fn first_ride(file: &[u8]) -> Option<usize> {
     let mut place = 0;
     for command in commands(file) {
         match *command {
             [FOLLOW, _, _, _, _] => return Some(place),
-            [END] | [] => return None,
+            [END] => return None,
             _ => place += command.len(),
         }
     }

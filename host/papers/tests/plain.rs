@@ -3,7 +3,7 @@
 
 use papers::files::{
     any_budget, any_file, any_sheet_bytes, dense_file, faulty_file, sheet, sheet_bytes, valid_file,
-    Dice, GROUNDS,
+    Dice, GROUNDS, OUTCOMES,
 };
 use papers::plain;
 use papers::sections::network::{read, read_counts, Refusal};
@@ -25,7 +25,7 @@ fn each_ground_in(outcomes: &[usize]) -> bool {
 #[test]
 fn reads_as_the_papers_do() {
     let mut dice = Dice::new(97);
-    let mut outcomes = [0; 22];
+    let mut outcomes = [0; OUTCOMES];
     for case in 0..20_000 {
         let file = any_file(&mut dice);
         let expected = read_counts(&file);
@@ -71,7 +71,7 @@ fn betters_as_the_papers_do() {
 #[test]
 fn marks_as_the_papers_do() {
     let mut dice = Dice::new(99);
-    let (mut kinds, mut grounds) = ([0; 3], [0; 22]);
+    let (mut kinds, mut grounds) = ([0; 3], [0; OUTCOMES]);
     for case in 0..12_000 {
         let file = any_file(&mut dice);
         let budget = any_budget(&mut dice);
@@ -112,7 +112,7 @@ fn sheet_to_mark(dice: &mut Dice, file: &[u8], budget: u32) -> Vec<u8> {
 #[test]
 fn rates_as_the_papers_do() {
     let mut dice = Dice::new(91);
-    let mut outcomes = [0; 22];
+    let mut outcomes = [0; OUTCOMES];
     for case in 0..20_000 {
         let file = any_file(&mut dice);
         let lines = read(&file).map_or(3, |net| net.lines());

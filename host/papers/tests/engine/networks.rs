@@ -1,9 +1,16 @@
 //! Files of one network, and of two.
 
 use papers::files::{bytes_of, retyped, valid_commands, Dice, Stated};
-use papers::sections::network::read;
+use papers::sections::network::{read, FIRST_EDITION, LATEST_EDITION};
 
-/// The network with at most one change: an offset moved by a whole period or the other
+/// One of the other editions that are known.
+fn another_edition(dice: &mut Dice, edition: u8) -> u8 {
+    let known = FIRST_EDITION..=LATEST_EDITION;
+    let others: Vec<u8> = known.filter(|&other| other != edition).collect();
+    dice.pick(&others)
+}
+
+/// The network with at most one change: an offset moved by a whole period or another
 /// edition, neither of which a rating sees, or two lines exchanged.
 fn varied(dice: &mut Dice, stated: &Stated) -> Stated {
     let mut varied = stated.clone();
@@ -25,7 +32,7 @@ fn varied(dice: &mut Dice, stated: &Stated) -> Stated {
                 };
             }
         }
-        2 => varied.edition = 3 - stated.edition,
+        2 => varied.edition = another_edition(dice, stated.edition),
         _ => {}
     }
     varied

@@ -6,7 +6,7 @@ use crate::{
     examination_archive, examination_better, examination_classes, examination_rate,
     examination_read, examination_search, examination_wanted, examination_weighted,
 };
-use papers::files::{any_budget, any_gap, any_sheet_bytes, bytes_of, Command, Dice};
+use papers::files::{any_budget, any_gap, any_sheet_bytes, bytes_of, Command, Dice, OUTCOMES};
 use papers::sections::archive::{archive, archive_form};
 use papers::sections::classes::class_call;
 use papers::sections::hundred::by_key_bytes;
@@ -28,7 +28,7 @@ pub fn refused(refusal: Refusal) -> u32 {
 #[derive(Clone, Debug, Default)]
 pub struct Seen {
     pub answers: [usize; 3],
-    pub grounds: [usize; 22],
+    pub grounds: [usize; OUTCOMES],
     /// What was returned at last.
     pub last: u32,
 }
@@ -44,7 +44,7 @@ impl Seen {
 
     /// Whether each of these grounds was seen often, and no other one.
     pub fn has_exactly(&self, grounds: &[usize]) -> bool {
-        (1..22).all(|number| match grounds.contains(&number) {
+        (1..OUTCOMES).all(|number| match grounds.contains(&number) {
             true => self.grounds[number] >= 10,
             false => self.grounds[number] == 0,
         })

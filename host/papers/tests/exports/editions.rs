@@ -3,9 +3,11 @@
 
 use crate::compared::{compare_all, compare_read, three_lines, AllSeen, Seen};
 use crate::lent::answer_row;
-use crate::{examination_rate, examination_read, examination_search};
-use papers::files::{any_file, sheet, sheet_bytes, valid_file, Dice};
-use papers::sections::network::{read, EDITION};
+use crate::{called, examination_classes, examination_rate, examination_read, examination_search};
+use papers::files::{
+    any_file, bytes_of, retyped, sheet, sheet_bytes, valid_commands, Dice, Stated,
+};
+use papers::sections::network::{EDITION, LATEST_EDITION};
 
 const UNKNOWN: u32 = 21 * 65_536;
 
@@ -23,17 +25,19 @@ fn every_edition() {
     let mut seen = AllSeen::default();
     for edition in 0..=255 {
         let opened = [&[EDITION, edition], &file[..]].concat();
-        let known = [1, 2].contains(&edition);
+        let known = (1..=LATEST_EDITION).contains(&edition);
         assert_eq!(returned(&opened), if known { 0 } else { UNKNOWN });
         compare_all(&mut dice, &opened, &mut seen);
         let alone = if known { 65_536 + 2 } else { UNKNOWN };
         assert_eq!(returned(&opened[..2]), alone);
         assert_eq!(returned(&opened[..1]), 3 * 65_536);
     }
+    let unknown = 256 - usize::from(LATEST_EDITION);
     for one in seen.refusing() {
-        assert_eq!(one.grounds[21], 254);
+        assert_eq!(one.grounds[21], unknown);
     }
-    assert_eq!(seen.better.grounds, [0; 22]);
+    let [neither, first, second] = seen.better.answers;
+    assert!(neither >= unknown && neither + first + second == 256);
 }
 
 /// A second `56`, at whichever command and of whichever edition, is ground 20.
@@ -41,7 +45,7 @@ fn every_edition() {
 fn a_second_edition() {
     let file = three_lines([15, 20, 12]);
     let commands = engine::typed::commands(&file);
-    for first in [1, 2] {
+    for first in 1..=LATEST_EDITION {
         let mut place = 2;
         for (at, command) in commands.iter().enumerate() {
             for second in [0, 1, 2, 3, 7, 255] {
@@ -58,41 +62,55 @@ fn a_second_edition() {
     }
 }
 
-/// What rate and search return and answer of a file: a rating, then a rating, the tries
-/// and the starts.
-fn answers(file: &[u8], sheet: &[u8], lines: usize) -> ([u32; 2], [u32; 5], Vec<i32>) {
-    let (mut rating, mut best, mut starts) = ([7; 2], [7; 3], vec![7; lines]);
-    let (bytes, length) = (sheet.as_ptr(), sheet.len());
-    let rated = unsafe { examination_rate(file.as_ptr(), file.len(), bytes, length, &mut rating) };
-    let row = starts.as_mut_ptr();
-    let searched =
-        unsafe { examination_search(file.as_ptr(), file.len(), row, lines, 500, &mut best) };
-    let [least, sum, tries] = best;
-    (rating, [rated, searched, least, sum, tries], starts)
+/// What some exports return and write of a file.
+#[derive(Debug, PartialEq, Eq)]
+struct Answers {
+    rated: (u32, [u32; 2]),
+    searched: (u32, [u32; 3], Vec<i32>),
+    marked: (u32, [u32; 6]),
+    classes: (u32, [u32; 1], [u8; 64], [u16; 64]),
 }
 
-/// A file without rides is the same to rate and search in either edition, and behind
-/// `56 01` as without it.
+fn answers(file: &[u8], sheet: &[u8], lines: usize) -> Answers {
+    let (bytes, length) = (file.as_ptr(), file.len());
+    let mut rating = [7; 2];
+    let rated =
+        unsafe { examination_rate(bytes, length, sheet.as_ptr(), sheet.len(), &mut rating) };
+    let (mut best, mut starts) = ([7; 3], vec![7; lines]);
+    let row = starts.as_mut_ptr();
+    let searched = unsafe { examination_search(bytes, length, row, lines, 500, &mut best) };
+    let mut mark = [7; 6];
+    let marked = called::mark(file, sheet, 500, &mut mark);
+    let (mut count, mut classes, mut weights) = ([7], [7; 64], [7; 64]);
+    let rows = (classes.as_mut_ptr(), weights.as_mut_ptr());
+    let classed = unsafe { examination_classes(bytes, length, rows.0, 64, rows.1, 64, &mut count) };
+    Answers {
+        rated: (rated, rating),
+        searched: (searched, best, starts),
+        marked: (marked, mark),
+        classes: (classed, count, classes, weights),
+    }
+}
+
+/// A network is the same to these in edition 1, typed with rides, and in edition 2.
 #[test]
 fn editions_are_answered_alike() {
     let mut dice = Dice::new(87);
-    let mut compared = 0;
     for number in 0..3_000 {
-        let file = valid_file(&mut dice);
-        let in_second = [&[EDITION, 2], &file[..]].concat();
-        if read(&in_second).is_err() {
-            continue;
-        }
-        compared += 1;
-        let lines = read(&file).expect("a valid file").lines();
+        let stated = Stated::by(&valid_commands(&mut dice));
+        let lines = stated.periods.len();
         let sheet = sheet_bytes(&sheet(&mut dice, lines));
-        let expected = answers(&file, &sheet, lines);
-        let in_first = [&[EDITION, 1], &file[..]].concat();
-        assert_eq!(answers(&in_first, &sheet, lines), expected, "{number}");
-        assert_eq!(answers(&in_second, &sheet, lines), expected, "{number}");
+        let [first, second] = [1, 2].map(|edition| {
+            let stated = Stated {
+                edition,
+                ..stated.clone()
+            };
+            let file = bytes_of(&retyped(&mut dice, &stated));
+            answers(&file, &sheet, lines)
+        });
+        assert_eq!((first.rated.0, first.classes.0), (0, 0), "{number}");
+        assert_eq!(first, second, "{number}");
     }
-    println!("{compared} files without rides");
-    assert!(compared > 400);
 }
 
 /// Any file behind an edition of any kind.
@@ -101,7 +119,7 @@ fn any_file_behind_an_edition() {
     let mut dice = Dice::new(88);
     let mut seen = Seen::default();
     for _ in 0..6_000 {
-        let edition = dice.pick(&[0, 1, 1, 2, 2, 2, 3, 255]);
+        let edition = dice.pick(&[0, 1, 1, 2, 2, 2, LATEST_EDITION + 1, 255]);
         let opened = [&[EDITION, edition], &any_file(&mut dice)[..]].concat();
         compare_read(&mut dice, &opened, &mut seen);
     }
@@ -112,6 +130,7 @@ fn any_file_behind_an_edition() {
     assert!(seen.answers[0] > 500);
     let mut answer = answer_row::<4>(&mut dice);
     let before = answer.clone();
-    let found = unsafe { examination_read([EDITION, 3].as_ptr(), 2, answer.pointer().cast()) };
+    let next = [EDITION, LATEST_EDITION + 1];
+    let found = unsafe { examination_read(next.as_ptr(), 2, answer.pointer().cast()) };
     assert_eq!((found, answer), (UNKNOWN, before));
 }

@@ -5,7 +5,9 @@ use crate::compared::{
     compare_rate, compare_search, compare_wanted, small_budget, three_lines, AllSeen, Rates, Seen,
 };
 use crate::{examination_rate, examination_weighted};
-use papers::files::{any_file, faulty_file, sheet, sheet_bytes, valid_file, Dice, GROUNDS};
+use papers::files::{
+    any_file, faulty_file, sheet, sheet_bytes, valid_file, Dice, GROUNDS, OUTCOMES,
+};
 use papers::sections::sheets::{rate_bytes, weighted_bytes};
 
 const CASES: usize = 6_000;
@@ -74,7 +76,7 @@ fn both_ends_of_32_bits() {
             compare_by_key(&mut dice, &file, &sheet, &other, &mut seen);
         }
     }
-    assert_eq!(seen.grounds, [0; 22]);
+    assert_eq!(seen.grounds, [0; OUTCOMES]);
 }
 
 /// Empty parts: a file, sheets and rows of no places.

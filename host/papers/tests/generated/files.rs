@@ -2,9 +2,9 @@
 
 use papers::files::{
     any_file, bytes_of, damaged_file, likely_bytes, limit_file, random_bytes, valid_commands,
-    valid_file, very_long_file, Command, Dice, Stated, GROUNDS,
+    valid_file, very_long_file, Command, Dice, Stated, GROUNDS, OUTCOMES,
 };
-use papers::sections::network::{read, read_counts, Call, Refusal, MAX_CYCLE};
+use papers::sections::network::{read, read_counts, Call, Refusal, LATEST_EDITION, MAX_CYCLE};
 
 #[test]
 fn the_same_seed_gives_the_same_files() {
@@ -22,7 +22,8 @@ fn the_same_seed_gives_the_same_files() {
 #[test]
 fn valid_files_are_read_as_written() {
     let mut dice = Dice::new(8);
-    let (mut follows, mut loops, mut editions) = (0, 0, [0; 3]);
+    let (mut follows, mut loops) = (0, 0);
+    let mut editions = [0; LATEST_EDITION as usize + 1];
     for _ in 0..3_000 {
         let commands = valid_commands(&mut dice);
         let file = bytes_of(&commands);
@@ -51,7 +52,8 @@ fn valid_files_are_read_as_written() {
         assert_eq!(read_counts(&file), Ok(net.counts()));
     }
     assert!(follows > 3_000, "{follows}");
-    assert!(editions[1] > 2_000 && editions[2] > 250, "{editions:?}");
+    let each = editions[1..].iter().all(|&count| count > 200);
+    assert!(each && editions[1] > 2_000, "{editions:?}");
     assert!((300..2_000).contains(&loops), "{loops}");
 }
 
@@ -90,8 +92,8 @@ fn accepted_files_cut_and_lengthened() {
 }
 
 /// How many of the files are accepted, and on which grounds others are refused.
-fn outcomes(files: impl Iterator<Item = Vec<u8>>) -> [usize; 22] {
-    let mut counts = [0; 22];
+fn outcomes(files: impl Iterator<Item = Vec<u8>>) -> [usize; OUTCOMES] {
+    let mut counts = [0; OUTCOMES];
     for file in files {
         match read(&file) {
             Ok(_) => counts[0] += 1,
