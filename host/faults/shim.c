@@ -29,6 +29,9 @@ extern __typeof__(examination_archive) real_archive;
 #define LAST_PLACE_OF_ALL EXAMINATION_MOST_ARCHIVE_BYTES
 #define LAST_REFUSAL (14 * EXAMINATION_REFUSED + LAST_PLACE_OF_ALL)
 
+/* Behind the longest file without an edition. */
+#define PLACE_BEFORE (LAST_PLACE_OF_ALL - 2)
+
 enum fault {
     NO_FAULT,
 #define FAULT(name, words, file, test) name,
@@ -92,7 +95,10 @@ static uint32_t returns(uint32_t returned, size_t file_len)
     if (!examination_is_refused(returned)) return returned;
     const uint32_t place = examination_place(returned);
     if (is(PLACE) && place > 0) return returned - 1;
-    if ((is(LAST_PLACE) || is(LAST_PLACE_WRAPPED)) && place == LAST_PLACE_OF_ALL) return returned - 1;
+    if ((is(LAST_PLACE) || is(LAST_PLACE_WRAPPED)) && place == LAST_PLACE_OF_ALL)
+        return returned - 1;
+    if ((is(PLACE_BEFORE_LAST) || is(PLACE_BEFORE_LAST_WRAPPED)) && place == PLACE_BEFORE)
+        return returned - 1;
     if (is(EMPTY_FILE) && file_len == 0) return 2 * EXAMINATION_REFUSED;
     if (is(LONG_TAIL) && file_len > 4096 && place > 0) return returned + 1;
     return returned;
@@ -104,14 +110,39 @@ static int is_opened(const uint8_t *file, size_t file_len, unsigned edition)
     return file_len > 1 && file[0] == 0x56 && file[1] == edition;
 }
 
-/* Reads a file that begins with an edition as if it were another. */
+/* A file that begins with an edition, as if it were another. */
+struct retyped {
+    uint8_t bytes[EXAMINATION_DECIDING_BYTES];
+    size_t count;
+};
+
+static struct retyped retype(uint8_t edition, const uint8_t *file, size_t file_len)
+{
+    struct retyped other;
+    other.count = file_len < sizeof other.bytes ? file_len : sizeof other.bytes;
+    memcpy(other.bytes, file, other.count);
+    other.bytes[1] = edition;
+    return other;
+}
+
 static uint32_t read_in(uint8_t edition, const uint8_t *file, size_t file_len, uint32_t answer[4])
 {
-    uint8_t other[EXAMINATION_DECIDING_BYTES];
-    const size_t count = file_len < sizeof other ? file_len : sizeof other;
-    memcpy(other, file, count);
-    other[1] = edition;
-    return real_read(other, count, answer);
+    const struct retyped other = retype(edition, file, file_len);
+    return real_read(other.bytes, other.count, answer);
+}
+
+/* Whether the refusal is that of a ride, and this fault takes it. */
+static int takes_ride(enum fault fault, uint32_t returned)
+{
+    return is(fault) && examination_ground(returned) == EXAMINATION_RIDE_RETIRED;
+}
+
+/* Whether a file that is accepted has a ride. */
+static int has_ride(const uint8_t *file, size_t file_len)
+{
+    size_t at = file_len > 1 && file[0] == 0x56 ? 2 : 0;
+    while (at < file_len && file[at] != 0x45 && file[at] != 0x46) at += file[at] == 0x4C ? 3 : 5;
+    return at < file_len && file[at] == 0x46;
 }
 
 /* What read returns of a ride. */
@@ -120,8 +151,7 @@ static uint32_t fault_ride(uint32_t returned, const uint8_t *file, size_t file_l
 {
     const uint32_t ground = examination_ground(returned), place = examination_place(returned);
     uint32_t counts[EXAMINATION_READ_PLACES];
-    if (is(RIDE_TAKEN) && ground == EXAMINATION_RIDE_RETIRED)
-        return read_in(1, file, file_len, answer);
+    if (takes_ride(RIDE_TAKEN, returned)) return read_in(1, file, file_len, answer);
     if (is(RIDE_TRIED_LATE) && ground == EXAMINATION_RIDE_RETIRED) {
         const uint32_t first = read_in(1, file, file_len, counts);
         return examination_is_refused(first) && examination_place(first) == place ? first
@@ -140,7 +170,7 @@ static uint32_t fault_edition(uint32_t returned, const uint8_t *file, size_t fil
     const uint32_t ground = examination_ground(returned), place = examination_place(returned);
     if (ground == EXAMINATION_EDITION_UNKNOWN) {
         if (is(EDITION_0_TAKEN) && file[1] == 0) return read_in(1, file, file_len, answer);
-        if (is(EDITION_3_TAKEN) && file[1] == EXAMINATION_LATEST_EDITION + 1)
+        if (is(NEXT_EDITION_TAKEN) && file[1] == EXAMINATION_LATEST_EDITION + 1)
             return read_in(EXAMINATION_LATEST_EDITION, file, file_len, answer);
     }
     if (is(UNKNOWN_FIRST) && ground == EXAMINATION_EDITION_NOT_FIRST &&
@@ -159,7 +189,8 @@ static uint32_t fault_edition(uint32_t returned, const uint8_t *file, size_t fil
 uint32_t examination_read(const uint8_t *file, size_t file_len, uint32_t answer[4])
 {
     uint32_t returned = real_read(file, taken_file(file_len), answer);
-    if (examination_is_refused(returned)) returned = fault_edition(returned, file, file_len, answer);
+    if (examination_is_refused(returned))
+        returned = fault_edition(returned, file, file_len, answer);
     if (is(WRONG_SLOT) && returned == 0) answer[2]++;
     if (is(CALLS_OF_8_BITS) && returned == 0) answer[2] &= 255;
     if (is(CYCLE_OF_13_BITS) && returned == 0) answer[3] &= 8191;
@@ -212,10 +243,15 @@ uint32_t examination_rate(const uint8_t *file, size_t file_len, const uint8_t *s
         return rate_unsigned(file, file_len, sheet, sheet_len, answer);
     const size_t taken = taken_length(LONG_SHEET_RATED, file, file_len, sheet_len);
     const uint32_t returned = real_rate(file, file_len, sheet, taken, answer);
+    if (takes_ride(RIDE_TAKEN_BY_RATE, returned)) {
+        const struct retyped other = retype(1, file, file_len);
+        return real_rate(other.bytes, other.count, sheet, taken, answer);
+    }
     if (is(SHEET_CHANGED) && sheet_len > 0) ((uint8_t *)sheet)[0] ^= 1;
     if (is(EVERY_3000TH_RATE) && is_3000th(&calls) && returned == 0) answer[1]++;
     if (is(SUM_OF_16_BITS) && returned == 0) answer[1] &= 65535;
     if (is(RATED_BY_EDITION) && returned == 0 && is_opened(file, file_len, 2)) answer[1]++;
+    if (is(RATED_WITH_RIDES) && returned == 0 && has_ride(file, file_len)) answer[1]++;
     if (is(SHARED_ROW) && returned == 0) answer_by_shared_row(answer);
     if (is(FROM_BEFORE) && returned == 0) answer_from_before(file_len, sheet_len, answer);
     return returns(returned, file_len);
@@ -247,6 +283,7 @@ uint32_t examination_classes(const uint8_t *file, size_t file_len, uint8_t *clas
         real_classes(file, file_len, class_row, length, weight_row, weight_len, answer);
     if (returned != 0) return returns(returned, file_len);
     if (is(UNSERVED_AS_0) && class_row[63] == EXAMINATION_UNSERVED) class_row[63] = 0;
+    if (is(CLASSES_BY_EDITION) && is_opened(file, file_len, 2)) answer[0]++;
     for (size_t stop = 63; is(WEIGHT_ELSEWHERE) && stop > 0; stop--) {
         const uint8_t lowest = class_row[stop];
         if (lowest == EXAMINATION_UNSERVED || lowest == stop) continue;
@@ -418,6 +455,8 @@ uint32_t examination_mark(const uint8_t *file, size_t file_len, const uint8_t *s
     if (is(EVERY_3000TH_MARK) && is_3000th(&calls) && returned == EXAMINATION_DECIDED)
         answer[4] ^= 1;
     fault_mark(returned, answer);
+    if (is(MARKED_BY_EDITION) && returned == EXAMINATION_DECIDED && is_opened(file, file_len, 2))
+        answer[3]++;
     if (is_called_undecided(returned, answer, budget)) {
         answer[2] = answer[3] = answer[4] = 0;
         return EXAMINATION_UNDECIDED;
@@ -577,7 +616,7 @@ static uint32_t fault_opening(const uint8_t *file, size_t file_len, uint8_t *row
         memmove(row, row + 2, returned - 2);
         return returned - 2;
     }
-    if (is(EDITION_2_AS_1) && row[0] == 0x56) row[1] = 1;
+    if (is(EDITION_1_FOR_2) && row[0] == 0x56) row[1] = 1;
     if (is(EDITION_1_ARCHIVED) && is_opened(file, file_len, 1) && row_len >= returned + 2) {
         memmove(row + 2, row, returned);
         memcpy(row, file, 2);
@@ -590,6 +629,10 @@ uint32_t examination_archive(const uint8_t *file, size_t file_len, uint8_t *row,
 {
     const size_t length = is(LONG_ARCHIVE_ROW) && row_len > 4096 ? 0 : row_len;
     uint32_t returned = real_archive(file, file_len, row, length);
+    if (takes_ride(RIDE_TAKEN_BY_ARCHIVE, returned)) {
+        const struct retyped other = retype(1, file, file_len);
+        return real_archive(other.bytes, other.count, row, length);
+    }
     if (is(LAST_PLACE_OF_ARCHIVE) && returned == LAST_REFUSAL)
         return returned - 1;
     if (is(EDITION_NOT_COUNTED) && is_opened(file, file_len, 2) &&
