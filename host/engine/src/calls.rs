@@ -376,7 +376,9 @@ pub fn archive(file: &[u8]) -> Result<Vec<u8>, Refusal> {
 }
 
 /// As [`archive`], to the beginning of a row of the caller, which stays as it is
-/// where the call is refused. Returns the length.
+/// where the call is refused. Returns the length. A row of 1,331 bytes is enough for
+/// every file; in edition 2 the form is two bytes longer than its lines and calls ask
+/// for.
 ///
 /// ```
 /// use engine::typed;
@@ -385,6 +387,11 @@ pub fn archive(file: &[u8]) -> Result<Vec<u8>, Refusal> {
 /// let mut row = [9; 18];
 /// assert_eq!(engine::archive_into(network.bytes(), &mut row), Ok(17));
 /// assert_eq!((&row[..17], row[17]), (network.bytes(), 9));
+///
+/// let second = typed::read(b"5602 4C000F 4C0014 4300000008 4301000011 45")?;
+/// let refusal = engine::archive_into(second.bytes(), &mut row).unwrap_err();
+/// assert_eq!(refusal.to_string(), "refused 18 at 0");
+/// assert_eq!(engine::archive_into(second.bytes(), &mut [0; 1_331]), Ok(19));
 /// # Ok::<(), typed::Mistyped>(())
 /// ```
 pub fn archive_into(file: &[u8], row: &mut [u8]) -> Result<usize, Refusal> {

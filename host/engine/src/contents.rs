@@ -4,6 +4,17 @@ use crate::calls::archive;
 use crate::refusal::Refusal;
 use crate::typed::{commands, CALL, EDITION, END, LINE};
 
+/// Editions are 1 to this one.
+///
+/// ```
+/// use engine::{typed::EDITION, Ground, LATEST_EDITION};
+///
+/// let ground = |edition| engine::read(&[EDITION, edition]).unwrap_err().ground;
+/// assert_eq!(ground(LATEST_EDITION), Ground::NoCommand);
+/// assert_eq!(ground(LATEST_EDITION + 1), Ground::EditionUnknown);
+/// ```
+pub const LATEST_EDITION: u8 = 2;
+
 /// What an accepted network file says. It is taken from the archive form, which
 /// the engine writes, and never from the file: what stands here is what the
 /// engine read.
@@ -89,7 +100,7 @@ impl Contents {
 pub fn contents(file: &[u8]) -> Result<Contents, Refusal> {
     let form = archive(file)?;
     let mut contents = Contents {
-        // An archive form states every other.
+        // Edition 1 isn't stated in an archive form; every other one is.
         edition: 1,
         periods: Vec::new(),
         calls: Vec::new(),

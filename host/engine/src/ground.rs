@@ -149,9 +149,30 @@ impl Ground {
     /// assert!(Ground::EditionUnknown.is_of_file());
     /// ```
     pub fn is_of_file(self) -> bool {
-        // Later requests have added grounds of files behind these.
-        let of_call = Ground::SheetLength..=Ground::ArchiveRowLength;
-        !of_call.contains(&self)
+        // Without an arm for others: a ground that is added has to be told apart here.
+        match self {
+            Ground::NoCommand
+            | Ground::UnknownCommand
+            | Ground::CutOff
+            | Ground::TooManyLines
+            | Ground::Period
+            | Ground::Cycle
+            | Ground::LineNotStated
+            | Ground::Stop
+            | Ground::ThirdCall
+            | Ground::TooManyCalls
+            | Ground::RideFromNowhere
+            | Ground::Offset
+            | Ground::EndTooEarly
+            | Ground::ByteAfterEnd
+            | Ground::RideRetired
+            | Ground::EditionNotFirst
+            | Ground::EditionUnknown => true,
+            Ground::SheetLength
+            | Ground::StartRowLength
+            | Ground::ClassRowLength
+            | Ground::ArchiveRowLength => false,
+        }
     }
 }
 

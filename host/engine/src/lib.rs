@@ -19,7 +19,7 @@
 //! | [`mark`]      | a file, a sheet, a budget | [`Mark`]: the sheet beside the best   |
 //! | [`mark_by_key`] | a file, a sheet, a key | [`Hundred`]: the mark out of a hundred  |
 //! | [`archive`]   | a file                 | the one form in which a network is kept  |
-//! | [`contents`]  | a file                 | [`Contents`]: edition, periods and calls, by that form |
+//! | [`contents`]  | a file                 | [`Contents`]: what that form states      |
 //!
 //! What a call doesn't take it refuses, with a [`Ground`] and a place
 //! ([`Refusal`]). Nothing that is handed over makes a call panic.
@@ -110,7 +110,7 @@ pub use calls::{
     archive, archive_into, better, classes, classes_into, mark, mark_by_key, rate, read, search,
     search_into, wanted, wanted_into, weighted,
 };
-pub use contents::{contents, Call, Contents};
+pub use contents::{contents, Call, Contents, LATEST_EDITION};
 pub use ground::{Ground, NoGround};
 pub use refusal::Refusal;
 pub use sheet::Sheet;
