@@ -67,8 +67,8 @@ extern "C" {
 
 /* Limits: the latest edition, lines of a network, places of the class row and of the
  * weight row, an unserved stop's entry in the class row, bytes of a start on a sheet,
- * bytes of the longest archive form; and how many of a file's bytes decide: a longer file is
- * answered as its first 4,096 bytes are. */
+ * bytes of the longest archive form; and how many of a file's bytes decide: a longer
+ * file is answered as its first 4,096 bytes are. */
 #define EXAMINATION_LATEST_EDITION 2
 #define EXAMINATION_MOST_LINES 16
 #define EXAMINATION_STOPS 64
@@ -177,7 +177,9 @@ uint32_t examination_by_key(const uint8_t *file, size_t file_len,
 
 /* Writes the archive form at the row's beginning; what lies behind it stays.
  * Returns its length, 3 x lines + 5 x calls + 1, and 2 more in edition 2 (9 to 1,331);
- * or a refusal, a ground of the file, or 18 where the row is shorter than that. */
+ * or a refusal, a ground of the file, or 18 where the row is shorter than that. An
+ * accepted file is in the edition of its second byte where its first is 56, else in 1;
+ * a row of EXAMINATION_MOST_ARCHIVE_BYTES is enough in each. */
 uint32_t examination_archive(const uint8_t *file, size_t file_len,
                              uint8_t *row, size_t row_len);
 

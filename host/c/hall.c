@@ -36,6 +36,12 @@ static const struct network paper = {
      0x43, 0x01, 0x00, 0x00, 0x11, 0x45},
     17};
 
+/* Period 15, offset 8, and 5 minutes on: edition 1 alone has such a ride. */
+static const struct network ride = {
+    {0x4C, 0x00, 0x0F, 0x43, 0x00, 0x00, 0x00, 0x08, 0x46, 0x00, 0x01, 0x00,
+     0x05, 0x45},
+    14};
+
 static int is_row_of(const uint32_t *row, size_t places, uint32_t value)
 {
     for (size_t i = 0; i < places; i++) {
@@ -288,18 +294,28 @@ static void archive_it(const struct network *file, size_t room)
     printf("\n");
 }
 
-/* The same network in an edition, which a file states first. */
-static void open_it(const struct network *file, unsigned edition)
+/* The same network in an edition, which a file states first; one that it has already
+ * is left out. */
+static void open_it(const char *which, const struct network *file, unsigned edition)
 {
     struct network opened = {{0x56, (uint8_t)edition}, 2};
+    const size_t from = file->count > 1 && file->bytes[0] == 0x56 ? 2 : 0;
     const size_t room = sizeof opened.bytes - opened.count;
-    const size_t count = file->count < room ? file->count : room;
-    memcpy(opened.bytes + opened.count, file->bytes, count);
+    const size_t count = file->count - from < room ? file->count - from : room;
+    memcpy(opened.bytes + opened.count, file->bytes + from, count);
     opened.count += count;
-    printf("in edition %u, ", edition);
+    printf("%sin edition %u, ", which, edition);
     read_it("read", &opened);
-    printf("in edition %u, ", edition);
+    printf("%sin edition %u, ", which, edition);
     archive_it(&opened, EXAMINATION_MOST_ARCHIVE_BYTES);
+}
+
+/* In each edition, and in the one behind the latest. */
+static void open_all(const char *which, const struct network *file)
+{
+    for (unsigned edition = 1; edition <= EXAMINATION_LATEST_EDITION + 1; edition++) {
+        open_it(which, file, edition);
+    }
 }
 
 static void show(size_t number, const struct sheet *sheet)
@@ -357,9 +373,8 @@ static void run(const struct network *file, const struct sheet *sheets, size_t c
         cut.count--;
     }
     read_it("read without the last byte", &cut);
-    for (unsigned edition = 1; edition <= EXAMINATION_LATEST_EDITION + 1; edition++) {
-        open_it(file, edition);
-    }
+    open_all("", file);
+    open_all("with a ride ", &ride);
 }
 
 /* At most so many bytes of a file: -1 where it can't be read. */
