@@ -27,7 +27,7 @@
 //! | `NAME at MINUTES`        | it calls at the stop, so long after its start        |
 //! | `NAME +MINUTES`          | it calls at the stop, so long after the call above   |
 //! | `stop NUMBER NAME`       | the number of a stop, before the first call          |
-//! | `edition NUMBER`         | the edition, before the first line; without it 1     |
+//! | `edition NUMBER`         | the edition, 1 or 2, before all lines; without it 1  |
 //!
 //! Calls stand under their line; the first has `at`. Two may name one stop.
 //!

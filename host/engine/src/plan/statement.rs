@@ -53,10 +53,11 @@ pub(super) fn statement(text: &[u8]) -> Result<Option<Statement>, Fault> {
             name: name_of(name)?,
         },
         ["stop"] => return no_statement(STOP_FORM),
-        // A stop may be called so, too: `edition +5` is a call.
-        ["edition", edition] if !edition.starts_with('+') => Statement::Edition {
-            edition: number(edition)?,
-        },
+        // A stop may be called so, too: `edition +5` is a call, `edition at` half of one.
+        ["edition", word] if !word.starts_with('+') && !WORDS.contains(word) => {
+            let edition = number(word)?;
+            Statement::Edition { edition }
+        }
         ["edition"] => return no_statement(EDITION_FORM),
         [stop @ .., "at", minutes] => Statement::Call {
             stop: name_of(stop)?,
@@ -193,6 +194,9 @@ mod tests {
             expected(text, call);
         }
         for text in ["Edition 2", "edition 2 of 2", "2nd edition"] {
+            expected(text, call);
+        }
+        for text in ["edition at", "edition every", "edition + 8"] {
             expected(text, call);
         }
         expected("edition", "edition NUMBER");

@@ -51,6 +51,10 @@ mod tests {
         assert_eq!(one, other);
         let late = of(b"4C000F 4C0014 4300000008 4301000012 45").expect("accepted");
         assert_ne!(one, late);
+        let first = of(b"5601 4C000F 4C0014 4300000008 4301000011 45").expect("accepted");
+        assert_eq!(one, first);
+        let second = of(b"5602 4C000F 4C0014 4300000008 4301000011 45").expect("accepted");
+        assert_ne!(one, second);
         assert!(of(b"4C000F").is_err());
     }
 }

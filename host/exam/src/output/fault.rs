@@ -45,6 +45,11 @@ pub fn explained(refusal: Refusal, network: &Network) -> String {
         text += &format!("\n  {words}");
         place = stated;
     }
+    if let Some(edition) = without_rides(refusal, network) {
+        text += &format!(
+            "\n  edition {edition} has no 46: state the call by 43, its minutes from the line's start"
+        );
+    }
     if let Some((number, line)) = network.text_line(place) {
         text += &format!("\n  text line {number}: {line}");
     }
@@ -146,6 +151,14 @@ fn without_call(network: &Network, end: usize) -> (String, usize) {
             (format!("{line} never calls"), place)
         }
         None => ("there is no line".to_string(), end),
+    }
+}
+
+/// The edition that a ride was refused in: the file's second byte.
+fn without_rides(refusal: Refusal, network: &Network) -> Option<u8> {
+    match (refusal.ground, network.bytes()) {
+        (Ground::RideRetired, [EDITION, edition, ..]) => Some(*edition),
+        _ => None,
     }
 }
 

@@ -29,7 +29,7 @@ A plan has a statement on each text line, and # begins a comment:
   NAME at MINUTES          it reaches the stop so long after its start
   NAME +MINUTES            it reaches the stop so long after the call above
   stop NUMBER NAME         the number of a stop, above all calls
-  edition NUMBER           the edition, above all lines; without it 1
+  edition NUMBER           the edition, 1 or 2, above all lines; without it 1
 A line's calls stand under it, the first with at. A name is one word or several, with
 a letter, without the words line, stop, every, at, and without a + at a word's
 beginning. Without stop statements stops are numbered from 0 as they first appear;

@@ -1,7 +1,7 @@
 //! Plans, and `exam plan`.
 
 use crate::common::{exam, exam_with, written, Folder, HEX, ROOT};
-use engine::plan::{self, Names};
+use engine::plan::{self, Names, Plan};
 use papers::files::{bytes_of, dense_file, limit_file, valid_commands, valid_file, Dice};
 
 #[test]
@@ -98,10 +98,11 @@ fn there_and_back_on_many_files() {
         for place in 0..plan.bytes().len() {
             assert!(plan.line(place).is_some());
         }
+        contents.edition
     };
-    for _ in 0..5_000 {
-        there_and_back(&valid_file(&mut dice));
-    }
+    let editions = (0..5_000).map(|_| there_and_back(&valid_file(&mut dice)));
+    let second = editions.filter(|&edition| edition == 2).count();
+    assert!(second > 400, "{second} files in edition 2");
     let mut full = 0;
     for _ in 0..200 {
         let file = limit_file(&mut dice);
@@ -114,79 +115,96 @@ fn there_and_back_on_many_files() {
     assert!(full > 20, "{full} files at the limits");
 }
 
+/// The words and signs of plans.
+const WORDS: [&str; 26] = [
+    "edition ",
+    "line ",
+    "stop ",
+    "every ",
+    "at ",
+    "+",
+    "+3",
+    "0",
+    "2 ",
+    "7 ",
+    "20 ",
+    "65535",
+    "256",
+    "\n",
+    "\n",
+    "\n  ",
+    "# ",
+    "\r\n",
+    "Market ",
+    "market ",
+    "Old mill ",
+    "\u{1B}",
+    "\u{FEFF}",
+    "é",
+    "\t",
+    "line A every 5\nX at 0\n",
+];
+
+/// Whole statements, of which more plans come about.
+const STATEMENTS: [&str; 12] = [
+    "edition 1\n",
+    "edition 2\n",
+    "edition 2\nline A every 20\nX at 4\n",
+    "edition at 3\n",
+    "stop 3 X\n",
+    "stop 9 Y\n",
+    "line A every 20\n",
+    "line B every 30\n",
+    "X at 4\n",
+    "Y +9\n",
+    "X +60000\n",
+    "Y at 0 # a\n",
+];
+
+/// The edition of a plan that was read, if it is accepted; then it comes back from its
+/// own plan.
+fn edition_there_and_back(plan: &Plan, text: &str) -> Option<u8> {
+    let stated = plan.bytes().len() > 1;
+    assert_eq!(plan.line(0).is_some(), stated, "{text}");
+    let contents = engine::contents(plan.bytes()).ok()?;
+    let again = plan::text(&contents, plan.names());
+    let again = plan::read(again.as_bytes()).expect("a plan");
+    assert_eq!(again.names(), plan.names());
+    assert_eq!(
+        engine::contents(again.bytes()).as_ref(),
+        Ok(&contents),
+        "{text}"
+    );
+    Some(contents.edition)
+}
+
 /// Texts of the words and signs of plans in any order: each is read or has an
 /// error, and what is read has a text line for each byte and comes back from its
 /// plan.
 #[test]
 fn any_text_is_read_or_has_an_error() {
-    const WORDS: [&str; 25] = [
-        "edition ",
-        "line ",
-        "stop ",
-        "every ",
-        "at ",
-        "+",
-        "+3",
-        "0",
-        "7 ",
-        "20 ",
-        "65535",
-        "256",
-        "\n",
-        "\n",
-        "\n  ",
-        "# ",
-        "\r\n",
-        "Market ",
-        "market ",
-        "Old mill ",
-        "\u{1B}",
-        "\u{FEFF}",
-        "é",
-        "\t",
-        "line A every 5\nX at 0\n",
-    ];
-    const STATEMENTS: [&str; 10] = [
-        "edition 2\n",
-        "edition at 3\n",
-        "stop 3 X\n",
-        "stop 9 Y\n",
-        "line A every 20\n",
-        "line B every 30\n",
-        "X at 4\n",
-        "Y +9\n",
-        "X +60000\n",
-        "Y at 0 # a\n",
-    ];
     let mut dice = Dice::new(98);
-    let (mut read, mut accepted) = (0, 0);
+    let (mut read, mut accepted, mut second) = (0, 0, 0);
     for _ in 0..20_000 {
         let words: &[&str] = if dice.once_in(2) { &WORDS } else { &STATEMENTS };
         let count = dice.within(0, 12);
         let text: String = (0..count).map(|_| dice.pick(words)).collect();
-        match plan::read(text.as_bytes()) {
-            Err(why) => assert!(
-                (1..=text.lines().count().max(1)).contains(&why.line),
-                "{text}"
-            ),
+        let edition = match plan::read(text.as_bytes()) {
             Ok(plan) => {
                 read += 1;
-                let stated = plan.bytes().len() > 1;
-                assert_eq!(plan.line(0).is_some(), stated, "{text}");
-                if let Ok(contents) = engine::contents(plan.bytes()) {
-                    accepted += 1;
-                    let again = plan::text(&contents, plan.names());
-                    let again = plan::read(again.as_bytes()).expect("a plan");
-                    assert_eq!(again.names(), plan.names());
-                    assert_eq!(engine::contents(again.bytes()), Ok(contents), "{text}");
-                }
+                edition_there_and_back(&plan, &text)
             }
-        }
+            Err(why) => {
+                let lines = 1..=text.lines().count().max(1);
+                assert!(lines.contains(&why.line), "{text}");
+                None
+            }
+        };
+        accepted += usize::from(edition.is_some());
+        second += usize::from(edition == Some(2));
     }
-    assert!(
-        read > 1_000 && accepted > 100,
-        "{read} read, {accepted} accepted"
-    );
+    println!("{read} read, {accepted} accepted, {second} in edition 2");
+    assert!(read > 1_000 && accepted > 100 && second > 50);
 }
 
 /// A plan is refused so, and this is said of it.

@@ -40,6 +40,24 @@ fn words_for_each_ground_of_the_file() {
     }
 }
 
+/// A ride in edition 2: which edition it is, and what to type in its place. In edition 1
+/// it is refused without.
+#[test]
+fn words_for_a_retired_ride() {
+    let remedy = "edition 2 has no 46: state the call by 43, its minutes from the line's start";
+    let typed = b"56 02\n4C 000F\n43 00 00 0008\n46 00 01 0005\n45\n";
+    let pieces = [
+        "(line 0, stop 1, ride 5)",
+        remedy,
+        "text line 4: 46 00 01 0005",
+    ];
+    exam_with(&["read", "-", "--typed"], typed).told("refused 19 at 10\n", 1, &pieces);
+    let first = b"56 01 4C 000F 46 00 01 0005 45";
+    let ran = exam_with(&["read", "-", "--typed"], first);
+    assert_eq!((&ran.out[..], ran.status), ("refused 11 at 5\n", 1));
+    assert!(!ran.err.contains("has no 46"), "{ran:?}");
+}
+
 #[test]
 fn words_for_a_sheet_of_the_wrong_length() {
     let folder = Folder::new();
