@@ -11,10 +11,11 @@ use papers::files::{
 use papers::sections;
 use papers::sections::archive::archive_form;
 use papers::sections::hundred::by_key_bytes;
-use papers::sections::network::{read, Network, FIRST_EDITION, LATEST_EDITION};
+use papers::sections::network::{read, Network, LATEST_EDITION};
 use papers::sections::sheets::{better_bytes, mark_bytes, rate_bytes, weighted_bytes, Better};
 use papers::sections::walk::{walk, Answer};
 use papers::sections::wanted::{seek, Wanted};
+use std::array::from_fn;
 use std::fmt::Debug;
 use std::panic::{catch_unwind, AssertUnwindSafe};
 use std::sync::atomic::{AtomicUsize, Ordering};
@@ -287,9 +288,8 @@ fn seeded_files_and_sheets() {
     let above_key = count(&|kind| kind.above_key);
     let [long, empty] = [count(&|kind| kind.very_long), count(&|kind| kind.empty)];
     let [alike, untidy] = [count(&|kind| kind.alike), count(&|kind| kind.untidy)];
-    let known = FIRST_EDITION..=LATEST_EDITION;
-    let editions = known.map(|edition| count(&|kind| kind.edition == edition));
-    let editions: Vec<usize> = editions.collect();
+    let editions: [usize; LATEST_EDITION as usize] =
+        from_fn(|before| count(&|kind| usize::from(kind.edition) == before + 1));
     println!("{cases} cases; rated {rated}, refused by 15 {unfit}, by the file {grounds:?}");
     println!("each edition, from 1: {editions:?}");
     println!("searches finished, stopped, stopped with none: {searches:?}");
