@@ -140,11 +140,15 @@ pub use Rattle.examination.proofs.ExportHundred.{by-key-export-as-mark}
 -- "A new command 56 with one byte, the edition, may open a file; without it the edition is 1. Edition 2 has no 46": the edition of an accepted file is
 -- the one that opens it, 1 or 2, and 2 exactly where the file begins with 56 02; in edition 2 reading meets no 46
 pub use Rattle.network.proofs.Editions.{edition-of-accepted}
--- "Files without the command 56 are read as ever": as by the reading before, whole and place by place, and every file that was accepted is
+-- "Files without the command 56 are read as ever": as by the reading before, whole and place by place, and every file that was accepted still is, as the
+-- same network; and what 56 01 or 56 02 before such a file changes
 pub use Rattle.network.proofs.Editions.{read-as-ever, accepted-as-ever, edition-1-throughout, grounds-as-ever, edition-1-stated, edition-2-stated}
 -- "edition 1's archive form has neither 46 nor 56. Edition 2 is archived with its 56 first, which adds two bytes to the length that ground 18 tests":
 -- of the row that the archive call has written, under A.1 above, whose length has the two bytes
 pub use Rattle.network.proofs.Editions.{archived-edition}
+-- "The edition is part of the network: archive bytes are from then on equal exactly when periods, offsets and edition are": `equal-archives`, under A.1
+-- above
+
 -- "(19: 46 in edition 2, between grounds 3 and 7; 20: 56 not first, after ground 3; 21: edition unknown, after 20.)": with every other ground under
 -- demand 1; the numbers and places of a file's refusals, and files of the request by evaluation
 pub use Rattle.network.proofs.Editions.{retired-is-19, not-first-is-20, unknown-is-21, refusal-names, first-bytes-decide}

@@ -1,6 +1,7 @@
 -- What document 02, A.6, "Following calls retired", asks of reading and of the archive form, of every file: by the definitions, which are what every
--- call's contract answers by. Each follows from the grounds of one command, tried at every place to which reading comes. The demands themselves stand in
--- Demands.antt in the words they had. Assumes nothing.
+-- call's contract answers by. What is read follows from the grounds of each command, tried at every place to which reading comes; what the archive form
+-- has, from the commands of which it is made; the cases compute. The order's demands stand in Demands.antt in the words they had, and there too what A.1
+-- promises, with the edition. Assumes nothing.
 use Prim.Native.Nat.{ℕ, _<_, _≤_}
 use mathlib.Core.Path.{_≡_, refl, sym, _∙_}
 use mathlib.Core.List.{List, [], _∷_, _++_}
@@ -52,7 +53,7 @@ edition-of-accepted file {n} reads =
 
 -- whatever line, stop and ride it names
 pub retired-is-19 : {file : List ℕ} {f : SoFar} {p : ℕ} {behind : List ℕ} → Reached file f p (0x46 ∷ behind) → 4 ≤ length behind
-    → 1 < f .network .edition → readFile file ≡ refused 19 p
+    → 1 < openingEdition file → readFile file ≡ refused 19 p
 retired-is-19 = ride-is-retired
 
 -- first means byte 0; whatever edition it states
@@ -136,7 +137,8 @@ callAt8 = record { line = 0; stop = 0; offset = 8 }
 abbrev callAt11 : Call
 callAt11 = record { line = 0; stop = 1; offset = 11 }
 
--- Refusals: an edition that isn't known, 56 that isn't first, and operands that are cut off before either
+-- Refusals: an edition that isn't known, 56 that isn't first, operands that are cut off before either; and behind an edition a byte after the end, no
+-- command, and an end without line
 pub edition-cases-refused : (readFile (0x56 ∷ 0x00 ∷ []) ≡ refused 21 0)
     × (readFile (0x56 ∷ 0x03 ∷ []) ≡ refused 21 0)
     × (readFile (0x56 ∷ 0xFF ∷ []) ≡ refused 21 0)
@@ -167,7 +169,7 @@ pub accepted-cases : (readFile (editionTwo ++ oneCall ++ (0x45 ∷ [])) ≡ acce
 unfolding readFile readFrom proceed first grounds cutOff periodOutOfRange editionUnknown someLineSilent callGrounds command operandBytes word lineOperand stopOperand editionOperand statedOffset rideOffset latestOffset callOf extend withLine withCall howOftenAt callsAnywhere any keep allBelow cycle commonCycle cycleFrom lcm gcd gcdWithin
 accepted-cases = (refl, refl, refl, refl)
 
--- .. and as they were read before A.6
+-- Before A.6: a file without 56 as now, 56 an unknown command at byte 0 and behind a line, and 46 of no line ground 7
 pub before-cases : (readFileBefore (oneCall ++ (0x45 ∷ [])) ≡ accepted (netWith 1 (15 ∷ []) (callAt8 ∷ [])))
     × (readFileBefore (editionTwo ++ oneCall ++ (0x45 ∷ [])) ≡ refused 2 0)
     × (readFileBefore (0x4C ∷ 0x00 ∷ 0x0F ∷ 0x56 ∷ []) ≡ refused 2 3)
@@ -175,6 +177,7 @@ pub before-cases : (readFileBefore (oneCall ++ (0x45 ∷ [])) ≡ accepted (netW
 unfolding readFileBefore readFromBefore proceed first groundsBefore cutOff periodOutOfRange someLineSilent callGrounds commandBefore operandBytes word lineOperand stopOperand statedOffset callOf extend withLine withCall howOftenAt callsAnywhere any keep allBelow cycle commonCycle cycleFrom lcm gcd gcdWithin
 before-cases = (refl, refl, refl, refl)
 
+-- The archive forms of these networks and their lengths; in edition 2 a row of 11 is enough and one of 10 is ground 18
 pub archived-cases : (archive (netWith 2 (15 ∷ []) (callAt8 ∷ [])) ≡ editionTwo ++ oneCall ++ (0x45 ∷ []))
     × (archiveLength (netWith 2 (15 ∷ []) (callAt8 ∷ [])) ≡ 11)
     × (archiveOutcome (accepted (netWith 2 (15 ∷ []) (callAt8 ∷ []))) 11 ≡ values (11 ∷ []))

@@ -38,7 +38,8 @@ unfoldable pub inEdition : ℕ → Reading → Reading
 inEdition edition (accepted n) = accepted (withEdition n edition)
 inEdition edition (refused number place) = refused number place
 
--- ---- Reading before A.6, written out as it stood
+-- ---- Reading before A.6: its commands and each command's grounds written out as they stood; what says nothing of 56 (`callGrounds`, `extend`,
+-- `proceed`, `operandBytes` and the tests) is today's
 
 -- 56 was an unknown command
 unfoldable pub commandBefore : ℕ → Command

@@ -1,5 +1,6 @@
 -- Laws of editions: 56 passes at byte 0 alone, so that the edition behind it is the one that opens the file; and in edition 1 every other command is
--- tried by the grounds before A.6, so that a file without 56 is read as before. Each follows from one command's grounds. Assumes nothing.
+-- tried by the grounds before A.6, so that a file without 56 is read as before. Each follows from the commands' grounds, place by place from the
+-- file's beginning on. Assumes nothing.
 use Prim.Native.Nat.{ℕ, zero, suc, _+_, _<_, _≤_}
 use mathlib.Core.Path.{_≡_, refl, sym, ap, ap₂, _∙_}
 use mathlib.Core.Bool.{Bool, true, false}
@@ -335,14 +336,15 @@ read-edition edition rest low high =
 -- ---- where the grounds of A.6 apply
 
 module _ {file : List ℕ} {f : SoFar} {p : ℕ} {behind : List ℕ} where
-  -- 19: in an edition above the first every 46 with its operands, whatever line and stop it names
-  pub ride-is-retired : Reached file f p (0x46 ∷ behind) → 4 ≤ length behind → firstEdition < f .network .edition → readFile file ≡ refused 19 p
+  -- 19: in a file that opens with an edition above the first every 46 with its operands, whatever line and stop it names
+  pub ride-is-retired : Reached file f p (0x46 ∷ behind) → 4 ≤ length behind → firstEdition < openingEdition file → readFile file ≡ refused 19 p
   unfolding command grounds cutOff operandBytes
   ride-is-retired r whole later =
+      let there = met-edition r (ride-no-edition (command 0x46) refl) in
       gives-what-is-read
       (refuses r
       (first-miss _ _ _ _ (le-ltb (length behind) 4 whole)
-      ∙ first-hit _ _ _ _ (lt-ltb firstEdition (f .network .edition) later)))
+      ∙ first-hit _ _ _ _ (lt-ltb firstEdition (f .network .edition) (omega (arith, there, later)))))
 
   -- 20: every 56 with its operand that isn't byte 0, whatever edition it states
   pub edition-is-late : Reached file f p (0x56 ∷ behind) → 1 ≤ length behind → 0 < p → readFile file ≡ refused 20 p

@@ -1,5 +1,6 @@
--- Laws of the same bytes read some places on, and in another edition: 20 is the only ground that asks for the place, and 19 the only one that asks for
--- the edition. Assumes nothing.
+-- The same bytes read some places on give the same reading with its places moved, where no 56 opens them; and in another edition the same reading with
+-- its network in that one, where no 46 is met either: 20 is the only ground that tests the place, and 19 the only one that tests the edition. Assumes
+-- nothing.
 use Prim.Native.Nat.{ℕ, zero, suc, _+_, _<_, _≤_}
 use mathlib.Core.Path.{_≡_, refl, sym, ap, ap₂, _∙_}
 use mathlib.Core.Bool.{Bool, true, false, _||_}
