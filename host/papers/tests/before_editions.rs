@@ -119,18 +119,26 @@ fn behind(edition: u8, answer: Result<Network, Refusal>) -> Result<Network, Refu
     answer.map(|net| Network { edition, ..net }).map_err(moved)
 }
 
+/// Seeded files that don't begin with an edition.
+fn unopened_files(seed: u64) -> impl Iterator<Item = Vec<u8>> {
+    let mut dice = Dice::new(seed);
+    let files = (0..20_000).map(move |_| file_of_any_kind(&mut dice));
+    files.filter(|file| file.first() != Some(&EDITION))
+}
+
+/// What papers and engine read where a file is opened with an edition, counted.
+fn read_opened(edition: u8, file: &[u8], met: &mut Met) -> Result<Network, Refusal> {
+    let opened = read_by_both(&[&[EDITION, edition], file].concat());
+    count(met, &opened);
+    opened
+}
+
 /// A file that begins with no edition, opened with the first one.
 #[test]
 fn the_first_edition_says_what_a_file_without_it_says() {
-    let mut dice = Dice::new(84);
     let mut met = Met::default();
-    for number in 0..20_000 {
-        let file = file_of_any_kind(&mut dice);
-        if file.first() == Some(&EDITION) {
-            continue;
-        }
-        let opened = read_by_both(&[&[EDITION, 1], &file[..]].concat());
-        count(&mut met, &opened);
+    for (number, file) in unopened_files(84).enumerate() {
+        let opened = read_opened(1, &file, &mut met);
         assert_eq!(opened, behind(1, read(&file)), "file {number}");
     }
     println!("accepted, then refusals 1 to 21: {met:?}");
@@ -141,23 +149,20 @@ fn the_first_edition_says_what_a_file_without_it_says() {
 /// something before it is.
 #[test]
 fn the_second_edition_says_the_same_without_rides() {
-    let mut dice = Dice::new(85);
     let mut met = Met::default();
     let (mut with, mut without) = (0, 0);
-    for number in 0..20_000 {
-        let file = file_of_any_kind(&mut dice);
-        if file.first() == Some(&EDITION) {
-            continue;
-        }
-        let opened = read_by_both(&[&[EDITION, 2], &file[..]].concat());
-        count(&mut met, &opened);
+    for (number, file) in unopened_files(85).enumerate() {
+        let opened = read_opened(2, &file, &mut met);
         let first = read(&file);
         let before = |ride: usize| first.as_ref().is_err_and(|why| why.place < ride);
         match first_ride(&file).filter(|&ride| !before(ride)) {
             Some(ride) => {
                 with += 1;
-                let (number, place) = (19, ride + 2);
-                assert_eq!(opened, Err(Refusal { number, place }));
+                let retired = Refusal {
+                    number: 19,
+                    place: ride + 2,
+                };
+                assert_eq!(opened, Err(retired), "file {number}");
             }
             None => {
                 without += 1;
