@@ -278,7 +278,8 @@ module _ (κs : Lfts 2) (a : ArgsD wanting.signature κs) (r : ResD wanting.sign
       = rw (file, gaps) (wants κs′ a′ r′ s′ kept′) in
       with-more-tries (wants κs a r s kept) other reads rows larger
 
-  -- Two files with the same periods and offsets, in either edition, a file and its archive form among them: the same answer with the same tries, and the same row
+  -- Two files with the same periods and offsets, in either edition, a file and its archive form among them: the same answer with the same tries, and
+  -- the same row
   pub same-network-wanted-alike : {m n : Net} → readFile (a .0 .now) ≡ accepted m → readFile (a′ .0 .now) ≡ accepted n → SameOffsets m n
       → a .1 .0 .now ≡ a′ .1 .0 .now → a .1 .1 .0 ≡ a′ .1 .1 .0 → a .1 .1 .1 .0 ≡ a′ .1 .1 .1 .0
       → (wantedAnswer r ≡ wantedAnswer r′) × (s .1 .0 .now ≡ s′ .1 .0 .now)

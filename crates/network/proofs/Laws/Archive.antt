@@ -1,5 +1,5 @@
--- The archive form: a file that states a valid network by its edition, lines, calls and the end is read back as that network, since each command passes and adds
--- what it states; so the archive form is read as the network with its calls in order, and settles the network. Assumes nothing.
+-- The archive form: a file that states a valid network by its edition, lines, calls and the end is read back as that network, since each command
+-- passes and adds what it states; so the archive form is read as the network with its calls in order, and settles the network. Assumes nothing.
 use Prim.Native.Nat.{ℕ, zero, suc, _+_, _*_, _<_, _≤_}
 use mathlib.Core.Path.{_≡_, refl, sym, ap, ap₂, subst, _∙_}
 use mathlib.Core.Bool.{Bool, true, false, _&&_}

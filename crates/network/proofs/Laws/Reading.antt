@@ -19,8 +19,8 @@ use Rattle.network.specs.Network.{statedOffset, rideOffset, withEdition,
 use Rattle.network.specs.Grounds.{first, grounds, callGrounds, cutOff}
 use Rattle.network.specs.Reading.{Reading, accepted, refused, proceed, readFrom, readFile}
 use Rattle.network.specs.Gives.{Reached, start, next, Gives, runs-out, refuses, accepts}
-use Rattle.network.proofs.Laws.Lists.{zero-ne-one}
 use Rattle.network.specs.Refusals.{OfFile}
+use Rattle.network.proofs.Laws.Lists.{zero-ne-one}
 use Rattle.network.proofs.Laws.Grounds.{line-passes, offset-passes, ride-passes, edition-passes, refused-named}
 
 -- The operands of the command before are passed over

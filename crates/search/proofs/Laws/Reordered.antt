@@ -1,5 +1,6 @@
--- The walk is the same whatever order a file lists its calls in, and in either edition: caps and upper values depend on a stop's calls and not on their order, since
--- what a pair caps its stop at and gaps are those of a pair whichever comes first, and a sum is that of its terms. Assumes nothing.
+-- The walk is the same whatever order a file lists its calls in, and in either edition: caps and upper values depend on a stop's calls and not on
+-- their order, since what a pair caps its stop at and gaps are those of a pair whichever comes first, and a sum is that of its terms. Assumes
+-- nothing.
 use Prim.Native.Nat.{ℕ, zero, suc, _/_, _<_, min}
 use mathlib.Core.Path.{_≡_, refl, sym, ap, ap₂, fun-ext, _∙_}
 use mathlib.Core.List.{List, [], _∷_, List·Permᴰ}
