@@ -1,5 +1,5 @@
--- Every network that the reader accepts is within the limits of document 01, in an edition that is known: each command that passes keeps them, and the last shows what
--- only a whole network has. And the laws of its common cycle, which are those of a least common multiple. Assumes nothing.
+-- Every network that the reader accepts is within the limits of document 01, in an edition that is known: each command that passes keeps them, and
+-- the last shows what only a whole network has. And the laws of its common cycle, which are those of a least common multiple. Assumes nothing.
 use Prim.Native.Nat.{ℕ, suc, _+_, _≤_, _<_}
 use mathlib.Core.Path.{_≡_, refl, sym, ap, subst}
 use mathlib.Core.List.{List, [], _∷_}
