@@ -354,7 +354,7 @@ module _ (κs : Lfts 2) (a : ArgsD archive-call.signature κs) (r : ResD archive
       )
 
 -- Two files with the same periods and offsets, in either edition, a file and its archive form among them, are answered alike
-alike-of-bytes : (one other : List ℕ) {m n : Net} → IsBytes one → IsBytes other → readFile one ≡ accepted m → readFile other ≡ accepted n
+pub alike-of-bytes : (one other : List ℕ) {m n : Net} → IsBytes one → IsBytes other → readFile one ≡ accepted m → readFile other ≡ accepted n
     → SameOffsets m n → AnswersAlike (readFile one) (readFile other)
 alike-of-bytes one other {m} {n} bytes bytes′ reads reads′ same =
     rw (reads, reads′) (same-answers-alike (accepted-valid one m bytes reads) (accepted-valid other n bytes′ reads′) same)

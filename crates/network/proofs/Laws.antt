@@ -46,6 +46,11 @@ pub mod AlikeByCalls
 pub mod AlikeByLines
 pub mod Placed
 pub mod Classes
+pub mod BoardRows
+pub mod Board
+pub mod Due
+pub mod Listed
+pub mod BoardCall
 pub mod ReaderRows
 pub mod ClassRows
 pub mod Weighted

@@ -2,3 +2,4 @@
 pub mod Stored
 pub mod Scan
 pub mod Placed
+pub mod Due

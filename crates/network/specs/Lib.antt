@@ -16,4 +16,5 @@ pub mod ByLines
 pub mod Classes
 pub mod Rate
 pub mod ClassCall
+pub mod Board
 pub mod Engine

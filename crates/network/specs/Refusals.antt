@@ -6,9 +6,10 @@ use mathlib.Core.List.{List}
 use mathlib.Core.Logic.{_⊎_}
 use lib.IntN.{ℤ}
 use lib.ListN.{length}
-use Rattle.network.specs.Network.{Net, stopCount}
+use Rattle.network.specs.Network.{Net, maxStop, stopCount}
 use Rattle.network.specs.Reading.{readFile, accepted, refused}
 use Rattle.network.specs.Archive.{archiveLength}
+use Rattle.network.specs.Board.{Window, board, maxMinutes}
 
 -- The grounds of a file's author: document 01's fourteen, and 19 to 21 of document 02, A.6
 unfoldable pub OfFile : ℕ → Type 0
@@ -31,6 +32,21 @@ Not64 classes weights n = (length classes ≡ stopCount → ⊥) ⊎ (length wei
 -- 18: the row is shorter than the archive form
 abbrev pub TooShort : List ℕ → Net → Type 0
 TooShort row n = length row < archiveLength n
+
+-- The board call refuses by the file's own ground, at its place; or, after the file, at place 0, by the first of its own that applies (document 02, A.7)
+pub data BoardRefuses (file : List ℕ) (sheet : List ℤ) (w : Window) (timeRow : List ℤ) (lineRow : List ℕ) : ℕ → ℕ → Type 0 where
+  of-file : {number place : ℕ} → readFile file ≡ refused number place → BoardRefuses file sheet w timeRow lineRow number place
+  -- 15: the sheet hasn't one start for each line
+  of-sheet : {n : Net} → readFile file ≡ accepted n → Unfit sheet n → BoardRefuses file sheet w timeRow lineRow 15 0
+  -- 8: the stop is above 63
+  of-stop : {n : Net} → readFile file ≡ accepted n → length sheet ≡ length (n .periods) → maxStop < w .stop → BoardRefuses file sheet w timeRow lineRow 8 0
+  -- 22: the length is above 10,080
+  of-length : {n : Net} → readFile file ≡ accepted n → length sheet ≡ length (n .periods) → w .stop ≤ maxStop → maxMinutes < w .minutes
+      → BoardRefuses file sheet w timeRow lineRow 22 0
+  -- 23: a row is shorter than the list
+  of-row : {n : Net} → readFile file ≡ accepted n → length sheet ≡ length (n .periods) → w .stop ≤ maxStop → w .minutes ≤ maxMinutes
+      → (length timeRow < length (board n sheet w)) ⊎ (length lineRow < length (board n sheet w))
+      → BoardRefuses file sheet w timeRow lineRow 23 0
 
 -- Demand 1 of a call that answers so, given when it is to refuse, and with what, and what it is for each lent row to be as it was
 pub record Demand1 (answers refuses : ℕ → ℕ → Type 0) (untouched : Type 0) : Type 0 where

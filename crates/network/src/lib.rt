@@ -1,6 +1,7 @@
-// The network of lines and stops: the reader of network files, gaps and ratings, and classes of stops.
+// The network of lines and stops: the reader of network files, gaps and ratings, classes of stops, the archive form, and the board of a stop.
 mod alike;
 pub mod archive;
+pub mod board;
 pub mod classes;
 pub mod divisor;
 pub mod gaps;
@@ -99,6 +100,9 @@ impl Network {
     // In the class row: the stop is unserved.
     pub const UNSERVED: u8 = 255;
 
+    // The longest board of a stop.
+    pub const MAX_MINUTES: u32 = 10080;
+
     // The network before the first command.
     pub fn new() -> Network
         ensures { λ r. ⌜ Sound r × (netOf r ≡ net.emptyNet) ⌝ }
@@ -129,6 +133,15 @@ impl Network {
 struct StopCalls {
     pub codes: [u32; Network::PLACES],
     pub counts: [u8; Network::STOPS],
+}
+
+// A stop's calls in their order: of the first `count` places each row has one for each call, its line, its line's period, and the minutes that have
+// passed since its latest arrival.
+struct Due {
+    pub count: usize,
+    pub lines: [u8; Network::MAX_AT_STOP],
+    pub periods: [u32; Network::MAX_AT_STOP],
+    pub since: [u32; Network::MAX_AT_STOP],
 }
 
 // Whether a ground for refusing applies: its number, and the place of the file that it names.
@@ -265,5 +278,11 @@ pub enum ClassAnswer {
 // What the archive call answers.
 pub enum ArchiveAnswer {
     Archived { bytes: u32 },
+    Refused { number: u8, place: usize },
+}
+
+// What the board call answers.
+pub enum BoardAnswer {
+    Listed { count: u32 },
     Refused { number: u8, place: usize },
 }

@@ -2,7 +2,7 @@
 -- residues: the differences of two trips are all the integers of one residue by the periods' greatest common divisor. Assumes nothing.
 use Prim.Native.Nat.{ℕ, suc, _+_, _*_, _-_, _/_, _%_, _≤_, _<_, min}
 use native.Mathlib.Nat.{mod-lt, mod-le, mod-eq-of-lt, div-add-mod', add-mul-mod-self-right}
-use native.Mathlib.Nat.{eq-zero-or-pos, le-antisymm, le-mul-of-pos-right}
+use native.Mathlib.Nat.{eq-zero-or-pos, le-antisymm, le-mul-of-pos-right, eq-of-mul-eq-mul-right}
 use native.Mathlib.Omega.{arith, min-cases}
 use mathlib.Core.Path.{_≡_, refl, sym, ap, subst, _∙_}
 use mathlib.Core.Logic.{_⊎_, inl, inr}
@@ -99,6 +99,13 @@ fold-residue-attained x g h =
 pub difference-trip : {a k : ℤ} {p n q m : ℕ} → IsDifference a p n → IsDifference k q m → (t : ℕ) → IsDifference (trip a t k) (p + q * t) (n + m * t)
 unfolding trip
 difference-trip h i t = difference-add-multiple h i t
+
+-- Different trips arrive at different minutes
+pub trip-injective : (a : ℤ) (t : ℕ) → 0 < t → (j k : ℤ) → trip a t j ≡ trip a t k → j ≡ k
+trip-injective a t positive j k e =
+    let same = difference-of-eq (difference-trip (difference a) (difference j) t) (difference-trip (difference a) (difference k) t) e in
+    let times : (up j + dn k) * t ≡ (up k + dn j) * t = omega (arith, same) in
+    eq-of-difference (difference j) (difference k) (eq-of-mul-eq-mul-right t positive (up j + dn k) (up k + dn j) times)
 
 pub distance-of-difference : {x y : ℤ} {p n q m : ℕ} → IsDifference x p n → IsDifference y q m → distance x y ≡ (p + m - (n + q)) + (n + q - (p + m))
 unfolding distance

@@ -2,18 +2,21 @@
 -- same for the network with its calls in order in the first edition, and that is one for both. Assumes nothing.
 use Prim.Native.Nat.{ℕ, suc, _+_}
 use mathlib.Core.Path.{_≡_, refl, sym, ap, ap₂, subst, fun-ext, _∙_}
-use mathlib.Core.Bool.{Bool, _&&_}
-use mathlib.Core.List.{List, [], _∷_, List·Permᴰ, Permᴰ·symm}
+use mathlib.Core.Bool.{Bool, not, _&&_, _||_}
+use mathlib.Core.List.{List, [], _∷_, _++_, List·Permᴰ, Permᴰ·symm}
 use native.Mathlib.Omega.{arith}
-use lib.Dec.{eqb}
+use lib.Dec.{eqb, ltb}
 use lib.IntN.{ℤ}
-use lib.ListN.{length, getD}
+use lib.ListN.{length, getD, drop}
 use Rattle.network.specs.declared.Call.{Call}
+use Rattle.network.specs.declared.Check.{Check}
 use Rattle.network.specs.declared.Rating.{Rating}
 use Rattle.network.specs.Archive.{tidied, SameOffsets}
+use Rattle.network.specs.Board.{Window, maxMinutes, boardGrounds, unless, boardOutcome, timeRowAfter, lineRowAfter}
 use Rattle.network.specs.ClassCall.{rowsFit, classOutcome, classRowAfter, weightRowAfter, weightedRating, weightedOutcome}
 use Rattle.network.specs.Classes.{ordered, remainder, sameLine, sameRemainder, isAlike, firstBelow, lowestAlike, isLowest, table, unserved, classRow, weightRow, classCount}
 use Rattle.network.specs.Divisor.{commonCycle}
+use Rattle.network.specs.Grounds.{_at_when_, first}
 use Rattle.network.specs.Lists.{pick, allBelow, countBelow}
 use Rattle.network.specs.Network.{Net, netWith, withEdition, firstEdition, maxStop, cycle, isServed, servedStops}
 use Rattle.network.specs.Rate.{ratingValues, onSheet, ratedOnSheet, rateOutcome}
@@ -22,6 +25,7 @@ use Rattle.network.specs.Reading.{Reading, accepted, values, refusal, re
 use Rattle.network.specs.Tidy.{tidy}
 use Rattle.network.specs.Valid.{Valid, noCall}
 use Rattle.network.proofs.Laws.Archive.{tidied-valid}
+use Rattle.network.proofs.Laws.BoardRows.{board-rows-same}
 use Rattle.network.proofs.Laws.Classes.{lowest-rating}
 use Rattle.network.proofs.Laws.Permutations.{any-permuted, keep-permuted}
 use Rattle.network.proofs.Laws.Permuted.{counted-permuted, rating-permuted}
@@ -159,6 +163,31 @@ classCount-plain : (n : Net) → classCount (plain n) ≡ classCount n
 unfolding classCount
 classCount-plain n = ap (λ (p : ℕ → Bool). countBelow p (suc maxStop)) (fun-ext (isLowest-plain n))
 
+-- ---- boards
+
+-- What the board call answers and leaves in the rows, by the lengths, the times and the lines of its list
+board-plain : (n : Net) (w : Window) (timeRow : List ℤ) (lineRow : List ℕ) (sheet : List ℤ)
+    → (boardOutcome w (length timeRow) (length lineRow) (accepted (plain n)) sheet ≡ boardOutcome w (length timeRow) (length lineRow) (accepted n) sheet)
+    × (timeRowAfter w timeRow lineRow (accepted (plain n)) sheet ≡ timeRowAfter w timeRow lineRow (accepted n) sheet)
+    × (lineRowAfter w timeRow lineRow (accepted (plain n)) sheet ≡ lineRowAfter w timeRow lineRow (accepted n) sheet)
+unfolding boardOutcome timeRowAfter lineRowAfter boardGrounds plain tidied
+board-plain n w timeRow lineRow sheet =
+    let (long, times-are, lines-are) = board-rows-same (plain n) n sheet w (periods-plain n) (ordered-plain n (w .stop)) in (
+      ap (λ (k : ℕ). unless (checked k) refusal (values (k ∷ []))) long,
+      ap₂ (λ (k : ℕ) (l : List ℤ). unless (checked k) (λ number place. timeRow) (l ++ drop k timeRow)) long times-are,
+      ap₂ (λ (k : ℕ) (l : List ℕ). unless (checked k) (λ number place. lineRow) (l ++ drop k lineRow)) long lines-are,
+    )
+  where
+    checked : ℕ → Check
+    checked k =
+        first (
+        (15 at 0 when not (eqb (length sheet) (length (n .periods)))) ∷
+        (8 at 0 when ltb maxStop (w .stop)) ∷
+        (22 at 0 when ltb maxMinutes (w .minutes)) ∷
+        (23 at 0 when ltb (length timeRow) k || ltb (length lineRow) k) ∷
+        []
+        )
+
 -- ---- two accepted files with the same periods and offsets
 
 -- What the calls on the network answer of one reading and of the other
@@ -169,6 +198,11 @@ pub record AnswersAlike (one other : Reading) : Type 0 where
   pub classes-alike : (classes weights : ℕ) → classOutcome one classes weights ≡ classOutcome other classes weights
   pub class-row-alike : (classes weights : List ℕ) → classRowAfter one classes weights ≡ classRowAfter other classes weights
   pub weight-row-alike : (classes weights : List ℕ) → weightRowAfter one classes weights ≡ weightRowAfter other classes weights
+  pub board-alike :
+      (w : Window) (timeRow : List ℤ) (lineRow : List ℕ) (sheet : List ℤ)
+      → (boardOutcome w (length timeRow) (length lineRow) one sheet ≡ boardOutcome w (length timeRow) (length lineRow) other sheet)
+      × (timeRowAfter w timeRow lineRow one sheet ≡ timeRowAfter w timeRow lineRow other sheet)
+      × (lineRowAfter w timeRow lineRow one sheet ≡ lineRowAfter w timeRow lineRow other sheet)
 
 plain-answers-alike : {n : Net} → Valid n → AnswersAlike (accepted (plain n)) (accepted n)
 unfolding rateOutcome weightedOutcome classOutcome classRowAfter weightRowAfter
@@ -180,6 +214,7 @@ plain-answers-alike {n} v =
       classes-alike = λ classes weights. ap (λ (k : ℕ). pick (rowsFit classes weights) (values (k ∷ [])) (refusal 17 0)) (classCount-plain n);
       class-row-alike = λ classes weights. ap (λ (l : List ℕ). pick (rowsFit (length classes) (length weights)) l classes) (classRow-plain n);
       weight-row-alike = λ classes weights. ap (λ (l : List ℕ). pick (rowsFit (length classes) (length weights)) l weights) (weightRow-plain n);
+      board-alike = board-plain n;
     }
 
 pub same-answers-alike : {m n : Net} → Valid m → Valid n → SameOffsets m n → AnswersAlike (accepted m) (accepted n)
@@ -194,4 +229,8 @@ same-answers-alike {m} {n} v w same =
       classes-alike = λ classes weights. sym (a .classes-alike classes weights) ∙ b .classes-alike classes weights;
       class-row-alike = λ classes weights. sym (a .class-row-alike classes weights) ∙ b .class-row-alike classes weights;
       weight-row-alike = λ classes weights. sym (a .weight-row-alike classes weights) ∙ b .weight-row-alike classes weights;
+      board-alike = λ w timeRow lineRow sheet.
+          let (one, times-are, lines-are) = a .board-alike w timeRow lineRow sheet in
+          let (other, times-there, lines-there) = b .board-alike w timeRow lineRow sheet in
+          (sym one ∙ other, sym times-are ∙ times-there, sym lines-are ∙ lines-there);
     }

@@ -66,7 +66,7 @@ module _ {n : Net} (valid : Valid n) (starts moved : List ℤ) (same : SameResid
 
 -- ---- all starts moved together (3.4.1)
 
-arrival-moved : (starts : List ℤ) (k : ℤ) (c : Call) → c .line < length starts
+pub arrival-moved : (starts : List ℤ) (k : ℤ) (c : Call) → c .line < length starts
     → arrivalOf (map (λ x. x +ℤ k) starts) c ≡ arrivalOf starts c +ℤ k
 unfolding arrivalOf
 arrival-moved starts k c h =

@@ -1,0 +1,248 @@
+-- What document 02, A.7, asks of the board of a stop, of every network within the limits (`Valid`: those of all accepted files, by `accepted-valid` of
+-- Laws/Valid.antt) and all integer starts: the computed list is the board over all trips, past and future, and its rows are the only ones. It holds since
+-- minute by minute the calls that arrive are those with a trip then, in their order: Laws/Board.antt; the cases compute. Assumes nothing.
+use Prim.Native.Nat.{ℕ, _+_, _*_, _<_, _≤_}
+use mathlib.Core.Path.{_≡_, refl, sym, _∙_}
+use mathlib.Core.Bool.{false}
+use mathlib.Core.List.{List, [], _∷_, _++_, map}
+use lib.IntN.{ℤ, pos, negsuc, _+ℤ_}
+use borrow.Fn.World.{ArgsD, ResD}
+use borrow.Fn.Kinds.{endedOf}
+use contract.Lifetimes.{Lfts}
+use denote.Triple.Clauses.{AtExit}
+use lib.ListN.{length, getD, drop}
+use Rattle.network.specs.declared.Call.{Call}
+use Rattle.network.specs.Lists.{keep, below}
+use Rattle.network.specs.Network.{Net, netWith, maxStop, isServed}
+use Rattle.network.specs.Valid.{Valid}
+use Rattle.network.specs.Gap.{residue}
+use Rattle.network.specs.Rating.{arrivalOf, periodOf, CallsThere}
+use Rattle.network.specs.Archive.{SameOffsets}
+use Rattle.network.specs.Tidy.{insertBy, sortBy, notAfter}
+use Rattle.network.specs.Reading.{Outcome, values, refusal, readFile, accepted}
+use Rattle.network.specs.Refusals.{BoardRefuses, Demand1}
+use Rattle.network.specs.Board.{Window, window, Arrival, callAt, tripAt, InWindow, IsBoard, arrives, boardCalls, boardAt, boardFrom, board, times, lines}
+use Rattle.network.specs.Board.{maxMinutes, boardAnswer}
+use Rattle.network.proofs.Laws.Board as law
+use Rattle.network.proofs.Laws.BoardCall.{board-refuses, board-refuses-only, board-rows-as-found, board-answers}
+use Rattle.network.proofs.Laws.Gap.{trip-injective}
+use Rattle.network.proofs.Laws.Valid.{accepted-valid}
+use Rattle.network.proofs.Demands.{alike-of-bytes}
+use Rattle.network.proofs.board.board as board-call
+use Rattle.network.proofs.board.board.Kinds as board-kinds
+use Rattle.network.proofs.board.board.Reads as board-contract
+
+-- ---- The board
+
+-- The computed list has one place for each trip of each call at the stop that arrives in the window, and no other; by time, then line, then offset
+pub board-is-board : {n : Net} → Valid n → (starts : List ℤ) (w : Window) → IsBoard n starts w (board n starts w)
+board-is-board = law.board-is-board
+
+-- .. where a call's trips are told apart by their minutes
+pub trips-apart : {n : Net} → Valid n → (starts : List ℤ) (stop c : ℕ) → CallsThere n stop c → (j k : ℤ) → tripAt n starts c j ≡ tripAt n starts c k → j ≡ k
+unfolding periodOf
+trips-apart {n} valid starts stop c calls j k e =
+    trip-injective _ _ (valid .period-pos (callAt n c .line) (valid .call-line c (calls .stated))) j k e
+
+-- All such lists have the same times and lines, and one length: what is left open is the order of a line's two calls with one offset, which no row shows
+pub IsBoard-rows : {n : Net} {starts : List ℤ} {w : Window} → Valid n → {xs ys : List Arrival} → IsBoard n starts w xs → IsBoard n starts w ys
+    → (times xs ≡ times ys) × (lines n xs ≡ lines n ys) × (length xs ≡ length ys)
+IsBoard-rows = law.IsBoard-rows
+
+-- .. so that whatever list is a board, the computed rows are its rows
+pub board-rows-only : {n : Net} → Valid n → (starts : List ℤ) (w : Window) (xs : List Arrival) → IsBoard n starts w xs
+    → (times (board n starts w) ≡ times xs) × (lines n (board n starts w) ≡ lines n xs)
+board-rows-only valid starts w xs b =
+    let rows = law.IsBoard-rows valid (law.board-is-board valid starts w) b in (rows .0, rows .1)
+
+-- ---- How long it is, and what its rows hold
+
+-- An unserved stop has none
+pub board-unserved : (n : Net) (starts : List ℤ) (w : Window) → isServed (w .stop) (n .calls) ≡ false → board n starts w ≡ []
+board-unserved = law.board-unserved
+
+-- In no minutes none arrives
+pub board-no-minutes : (n : Net) (starts : List ℤ) (stop : ℕ) (from : ℤ) → board n starts (window stop from 0) ≡ []
+board-no-minutes = law.board-no-minutes
+
+-- At most 32 arrive in a minute: each of 16 lines twice
+pub board-length-le : {n : Net} → Valid n → (starts : List ℤ) (w : Window) → length (board n starts w) ≤ 32 * w .minutes
+board-length-le = law.board-length-le
+
+-- Both rows take one number for each arrival
+pub board-rows-length : (n : Net) (starts : List ℤ) (w : Window)
+    → (length (times (board n starts w)) ≡ length (board n starts w)) × (length (lines n (board n starts w)) ≡ length (board n starts w))
+board-rows-length n starts w = (law.length-times (board n starts w), law.length-lines n (board n starts w))
+
+-- Every time is in the window
+pub board-times-in-window : {n : Net} → Valid n → (starts : List ℤ) (w : Window) (i : ℕ) → i < length (times (board n starts w))
+    → InWindow w (getD (times (board n starts w)) i (pos 0))
+board-times-in-window = law.times-in-window
+
+-- Every line is one of the network
+pub board-lines-stated : {n : Net} → Valid n → (starts : List ℤ) (w : Window) (i : ℕ) → i < length (lines n (board n starts w))
+    → getD (lines n (board n starts w)) i 0 < length (n .periods)
+board-lines-stated = law.lines-stated
+
+-- ---- Other windows, other starts
+
+-- Two windows side by side have the one's arrivals and then the other's
+pub board-side-by-side : (n : Net) (starts : List ℤ) (stop : ℕ) (from : ℤ) (a b : ℕ)
+    → board n starts (window stop from (a + b)) ≡ board n starts (window stop from a) ++ board n starts (window stop (from +ℤ pos a) b)
+board-side-by-side = law.board-side-by-side
+
+-- Where all starts and the window move by `k`, so does every arrival, and nothing else changes
+pub board-moved : {n : Net} → Valid n → (starts : List ℤ) → length starts ≡ length (n .periods) → (k : ℤ) (stop : ℕ) (from : ℤ) (minutes : ℕ)
+    → board n (map (λ x. x +ℤ k) starts) (window stop (from +ℤ k) minutes)
+    ≡ map (λ (a : Arrival). record { call = a .call; time = a .time +ℤ k }) (board n starts (window stop from minutes))
+board-moved = law.board-moved
+
+-- .. so that each time is moved, and the lines are the same
+pub board-rows-moved : {n : Net} → Valid n → (starts : List ℤ) → length starts ≡ length (n .periods) → (k : ℤ) (stop : ℕ) (from : ℤ) (minutes : ℕ)
+    → (times (board n (map (λ x. x +ℤ k) starts) (window stop (from +ℤ k) minutes)) ≡ map (λ x. x +ℤ k) (times (board n starts (window stop from minutes))))
+    × (lines n (board n (map (λ x. x +ℤ k) starts) (window stop (from +ℤ k) minutes)) ≡ lines n (board n starts (window stop from minutes)))
+board-rows-moved = law.board-rows-moved
+
+-- ---- The board call
+
+pub board-asks-nothing : (κs : Lfts 4) (a : ArgsD board-call.signature κs) → board-contract.Pre κs a
+board-asks-nothing κs a = tt
+
+-- What it answers and leaves in the rows where no ground applies
+pub record Lists (n : Net) (sheet : List ℤ) (w : Window) (answer : Outcome) (timeRow : List ℤ) (lineRow : List ℕ) (timesAfter : List ℤ) (linesAfter : List ℕ) : Type 0 where
+  -- the rows hold the times and lines of a board, and what lies behind stays; the answer is its count
+  pub list : List Arrival
+  pub is-board : IsBoard n sheet w list
+  pub answered : answer ≡ values (length list ∷ [])
+  pub times-written : timesAfter ≡ times list ++ drop (length list) timeRow
+  pub lines-written : linesAfter ≡ lines n list ++ drop (length list) lineRow
+  -- whichever list is a board, these are its rows and its count
+  pub only : (xs : List Arrival) → IsBoard n sheet w xs → (times xs ≡ times list) × (lines n xs ≡ lines n list) × (length xs ≡ length list)
+  pub count-range : length list ≤ 32 * w .minutes
+
+pub lists : {n : Net} → Valid n → (sheet : List ℤ) (w : Window) (timeRow : List ℤ) (lineRow : List ℕ)
+    → Lists n sheet w (values (length (board n sheet w) ∷ [])) timeRow lineRow (times (board n sheet w) ++ drop (length (board n sheet w)) timeRow) (lines n (board n sheet w) ++ drop (length (board n sheet w)) lineRow)
+lists {n} valid sheet w timeRow lineRow =
+    record {
+      list = board n sheet w;
+      is-board = law.board-is-board valid sheet w;
+      answered = refl;
+      times-written = refl;
+      lines-written = refl;
+      only = λ xs b. law.IsBoard-rows valid b (law.board-is-board valid sheet w);
+      count-range = law.board-length-le valid sheet w;
+    }
+
+-- What is lent to a call, and the rows at its exit
+module _ (κs : Lfts 4) (a : ArgsD board-call.signature κs) where
+  abbrev pub file : List ℕ
+  file = a .0 .now
+
+  abbrev pub sheet : List ℤ
+  sheet = a .1 .0 .now
+
+  abbrev pub asked : Window
+  asked = window (a .1 .1 .0) (a .1 .1 .1 .0) (a .1 .1 .1 .1 .0)
+
+  abbrev pub timeRow : List ℤ
+  timeRow = a .1 .1 .1 .1 .1 .0 .now
+
+  abbrev pub lineRow : List ℕ
+  lineRow = a .1 .1 .1 .1 .1 .1 .0 .now
+
+module _ (κs : Lfts 4) (s : AtExit (endedOf 4 board-kinds.ps board-kinds.r) κs) where
+  abbrev pub timesAfter : List ℤ
+  timesAfter = s .1 .1 .1 .1 .1 .0 .now
+
+  abbrev pub linesAfter : List ℕ
+  linesAfter = s .1 .1 .1 .1 .1 .1 .0 .now
+
+module _ (κs : Lfts 4) (a : ArgsD board-call.signature κs) (r : ResD board-call.signature κs)
+    (s : AtExit (endedOf 4 board-kinds.ps board-kinds.r) κs) (kept : board-contract.Post κs a r s) where
+  pub board-demand-1 : Demand1 (λ number place. boardAnswer r ≡ refusal number place) (BoardRefuses (file κs a) (sheet κs a) (asked κs a) (timeRow κs a) (lineRow κs a))
+      ((timesAfter κs s ≡ timeRow κs a) × (linesAfter κs s ≡ lineRow κs a))
+  board-demand-1 =
+      record {
+        faulty-is-refused = λ number place f. kept .0 ∙ board-refuses (file κs a) (sheet κs a) (asked κs a) (timeRow κs a) (lineRow κs a) f;
+        no-other-is-refused = λ number place e. board-refuses-only (file κs a) (sheet κs a) (asked κs a) (timeRow κs a) (lineRow κs a) (sym (kept .0) ∙ e);
+        rows-as-found = λ number place e.
+            let (times-are, lines-are) = board-rows-as-found (file κs a) (sheet κs a) (asked κs a) (timeRow κs a) (lineRow κs a) (sym (kept .0) ∙ e) in
+            (kept .1 .0 ∙ times-are, kept .1 .1 .0 ∙ lines-are);
+      }
+
+  -- Every arrival in the window, on an accepted file and a sheet that fits, at a stop up to 63 and for up to 10,080 minutes, in rows that are long enough
+  pub board-lists : {n : Net} → readFile (file κs a) ≡ accepted n → length (sheet κs a) ≡ length (n .periods) → asked κs a .stop ≤ maxStop → asked κs a .minutes ≤ maxMinutes
+      → length (board n (sheet κs a) (asked κs a)) ≤ length (timeRow κs a) → length (board n (sheet κs a) (asked κs a)) ≤ length (lineRow κs a)
+      → Lists n (sheet κs a) (asked κs a) (boardAnswer r) (timeRow κs a) (lineRow κs a) (timesAfter κs s) (linesAfter κs s)
+  board-lists {n} reads fits low within timesFit linesFit =
+      let (told, times-are, lines-are) = board-answers (file κs a) (sheet κs a) (asked κs a) (timeRow κs a) (lineRow κs a) reads fits low within timesFit linesFit in
+      rw (kept .0 ∙ told, kept .1 .0 ∙ times-are, kept .1 .1 .0 ∙ lines-are) (lists (accepted-valid (file κs a) n (kept .1 .1 .1) reads) (sheet κs a) (asked κs a) (timeRow κs a) (lineRow κs a))
+
+-- Two files with the same periods and offsets, in either edition, a file and its archive form among them, have one board: rows of the same content before have the
+-- same content afterwards
+module _ (κs : Lfts 4) (a : ArgsD board-call.signature κs) (r : ResD board-call.signature κs)
+    (s : AtExit (endedOf 4 board-kinds.ps board-kinds.r) κs) (kept : board-contract.Post κs a r s) (κs′ : Lfts 4)
+    (a′ : ArgsD board-call.signature κs′) (r′ : ResD board-call.signature κs′) (s′ : AtExit (endedOf 4 board-kinds.ps board-kinds.r) κs′)
+    (kept′ : board-contract.Post κs′ a′ r′ s′) where
+  pub same-network-board-alike : {m n : Net} → readFile (file κs a) ≡ accepted m → readFile (file κs′ a′) ≡ accepted n → SameOffsets m n
+      → sheet κs a ≡ sheet κs′ a′ → asked κs a ≡ asked κs′ a′ → timeRow κs a ≡ timeRow κs′ a′ → lineRow κs a ≡ lineRow κs′ a′
+      → (boardAnswer r ≡ boardAnswer r′) × (timesAfter κs s ≡ timesAfter κs′ s′) × (linesAfter κs s ≡ linesAfter κs′ s′)
+  same-network-board-alike reads reads′ same sheets windows timeRows lineRows =
+      let alike = alike-of-bytes (file κs a) (file κs′ a′) (kept .1 .1 .1) (kept′ .1 .1 .1) reads reads′ same in
+      let (answers, times-are, lines-are) = alike .board-alike (asked κs a) (timeRow κs a) (lineRow κs a) (sheet κs a) in (
+        kept .0 ∙ answers ∙ (cc) ∙ sym (kept′ .0),
+        kept .1 .0 ∙ times-are ∙ (cc) ∙ sym (kept′ .1 .0),
+        kept .1 .1 .0 ∙ lines-are ∙ (cc) ∙ sym (kept′ .1 .1 .0),
+      )
+
+-- ---- Boards of some networks, by the definitions: each side computes
+
+-- A call of a line at stop 0, so many minutes after its start
+abbrev callAfter : ℕ → ℕ → Call
+callAfter line offset = record { line = line; stop = 0; offset = offset }
+
+-- A list's rows
+abbrev rows : Net → List Arrival → List ℤ × List ℕ
+rows n list = (times list, lines n list)
+
+-- Lines every 15 and 20 minutes, which call at stop 0 after 8 and 17 minutes
+abbrev two : Net
+two = netWith 1 (15 ∷ 20 ∷ []) (callAfter 0 8 ∷ callAfter 1 17 ∷ [])
+
+-- One line every 10 minutes, with two calls at stop 0 after these
+abbrev loop : ℕ → ℕ → Net
+loop first second = netWith 1 (10 ∷ []) (callAfter 0 first ∷ callAfter 0 second ∷ [])
+
+-- Lines every 20 and 30 minutes, the second's call stated first
+abbrev crossing : Net
+crossing = netWith 1 (20 ∷ 30 ∷ []) (callAfter 1 5 ∷ callAfter 0 2 ∷ [])
+
+-- One line every 7 minutes, whose call has the greatest offset
+abbrev seven : Net
+seven = netWith 1 (7 ∷ []) (callAfter 0 65535 ∷ [])
+
+-- An hour from 0; and the 20 minutes before
+pub two-lines : (rows two (board two (pos 0 ∷ pos 0 ∷ []) (window 0 (pos 0) 60))
+    ≡ (pos 8 ∷ pos 17 ∷ pos 23 ∷ pos 37 ∷ pos 38 ∷ pos 53 ∷ pos 57 ∷ [], 0 ∷ 1 ∷ 0 ∷ 1 ∷ 0 ∷ 0 ∷ 1 ∷ []))
+    × (rows two (board two (pos 0 ∷ pos 0 ∷ []) (window 0 (negsuc 19) 20)) ≡ (negsuc 6 ∷ negsuc 2 ∷ [], 0 ∷ 1 ∷ []))
+unfolding board boardFrom boardAt boardCalls arrives residue arrivalOf periodOf keep below insertBy sortBy notAfter times lines
+two-lines = (refl, refl)
+
+-- The first minute counts, and the one behind the last doesn't
+pub half-open : (times (board two (pos 0 ∷ pos 0 ∷ []) (window 0 (pos 8) 9)) ≡ pos 8 ∷ [])
+    × (times (board two (pos 0 ∷ pos 0 ∷ []) (window 0 (pos 8) 10)) ≡ pos 8 ∷ pos 17 ∷ [])
+unfolding board boardFrom boardAt boardCalls arrives residue arrivalOf periodOf keep below insertBy sortBy notAfter times
+half-open = (refl, refl)
+
+-- At one minute: a loop's two calls are two arrivals, in order of offset, and two lines come in order of line, whatever order the file has
+pub one-minute : (rows (loop 3 3) (board (loop 3 3) (pos 0 ∷ []) (window 0 (pos 0) 10)) ≡ (pos 3 ∷ pos 3 ∷ [], 0 ∷ 0 ∷ []))
+    × (board (loop 13 3) (pos 0 ∷ []) (window 0 (pos 0) 10) ≡ record { call = 1; time = pos 3 } ∷ record { call = 0; time = pos 3 } ∷ [])
+    × (rows crossing (board crossing (pos 4 ∷ pos 1 ∷ []) (window 0 (pos 0) 10)) ≡ (pos 6 ∷ pos 6 ∷ [], 0 ∷ 1 ∷ []))
+unfolding board boardFrom boardAt boardCalls arrives residue arrivalOf periodOf keep below insertBy sortBy notAfter times lines
+one-minute = (refl, refl, refl)
+
+-- Far apart: from the least 32-bit number on, under the greatest start and offset, none arrives in 4 minutes and one in 5
+pub far-apart : (board seven (pos 2147483647 ∷ []) (window 0 (negsuc 2147483647) 4) ≡ [])
+    × (rows seven (board seven (pos 2147483647 ∷ []) (window 0 (negsuc 2147483647) 5)) ≡ (negsuc 2147483643 ∷ [], 0 ∷ []))
+unfolding board boardFrom boardAt boardCalls arrives residue arrivalOf periodOf keep below insertBy sortBy notAfter times lines
+far-apart = (refl, refl)
