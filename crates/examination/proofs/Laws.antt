@@ -3,3 +3,4 @@ pub mod Bytes
 pub mod Chosen
 pub mod Hundred
 pub mod Refusals
+pub mod BoardBytes

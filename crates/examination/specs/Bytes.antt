@@ -12,6 +12,7 @@ use Rattle.network.specs.Lists.{pick}
 use Rattle.network.specs.Network.{Net}
 use Rattle.network.specs.Rating.{rating}
 use Rattle.network.specs.Reading.{Reading, accepted, refused, Outcome, refusal}
+use Rattle.network.specs.Board.{Window, boardOutcome, timeRowAfter, lineRowAfter}
 use Rattle.examination.specs.ByKey.{besideKey}
 use Rattle.examination.specs.Sheets.{Better, neither, betterBy, MarkOutcome, markOutcome}
 use Rattle.examination.specs.Sheets as sheets
@@ -32,9 +33,12 @@ starts (a ∷ b ∷ c ∷ []) = []
 unfoldable pub bytesFit : Net → List ℕ → Bool
 bytesFit n bytes = eqb (length bytes) (4 * length (n .periods))
 
+abbrev pub BytesFit : List ℕ → Net → Type 0
+BytesFit bytes n = length bytes ≡ 4 * length (n .periods)
+
 -- 15: there aren't ("Grounds for refusing", of a sheet handed over as bytes)
 abbrev pub BytesUnfit : List ℕ → Net → Type 0
-BytesUnfit bytes n = length bytes ≡ 4 * length (n .periods) → ⊥
+BytesUnfit bytes n = BytesFit bytes n → ⊥
 
 -- A call on a file and a sheet, the sheet being handed over as bytes: the file's refusal, then ground 15, then the call's answer on the starts
 unfoldable pub byBytes : {A : Type 0} → (Reading → List ℤ → A) → (ℕ → ℕ → A) → Reading → List ℕ → A
@@ -60,3 +64,13 @@ keyBytes (accepted n) sheet key =
 -- 15: there aren't 4 bytes for each line, of the sheet or of the key
 abbrev pub EitherBytesUnfit : List ℕ → List ℕ → Net → Type 0
 EitherBytesUnfit sheet key n = BytesUnfit sheet n ⊎ BytesUnfit key n
+
+-- The board of a stop (document 02, A.7), the sheet being handed over as bytes: the answer, and what both rows hold afterwards
+abbrev pub boardBytes : Window → ℕ → ℕ → Reading → List ℕ → Outcome
+boardBytes w timeRow lineRow = byBytes (boardOutcome w timeRow lineRow) refusal
+
+abbrev pub timeRowBytes : Window → List ℤ → List ℕ → Reading → List ℕ → List ℤ
+timeRowBytes w timeRow lineRow = byBytes (timeRowAfter w timeRow lineRow) (λ (number place : ℕ). timeRow)
+
+abbrev pub lineRowBytes : Window → List ℤ → List ℕ → Reading → List ℕ → List ℕ
+lineRowBytes w timeRow lineRow = byBytes (lineRowAfter w timeRow lineRow) (λ (number place : ℕ). lineRow)

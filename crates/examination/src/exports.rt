@@ -7,10 +7,12 @@ use crate::by_key::by_key;
 use crate::bytes::sheet_of;
 use crate::marking::mark;
 use network::ArchiveAnswer;
+use network::BoardAnswer;
 use network::ClassAnswer;
 use network::RateAnswer;
 use network::ReadAnswer;
 use network::archive::archive;
+use network::board::board;
 use network::classes::classes;
 use network::classes::weighted;
 use network::rate::rate;
@@ -23,6 +25,7 @@ ghost use mathlib.Core.Path.{_≡_};
 ghost use Prim.Native.Nat.{ℕ, _<_};
 ghost use lib.ListN.{length};
 ghost use Rattle.network.specs.Archive as form;
+ghost use Rattle.network.specs.Board.{window};
 ghost use Rattle.network.specs.ClassCall as call;
 ghost use Rattle.network.specs.Rate.{rateAnswer, rateOutcome};
 ghost use Rattle.network.specs.Reading.{readFile, readOutcome, refusal};
@@ -151,6 +154,45 @@ pub extern "C" fn examination_archive(file: &[u8], row: &mut [u8]) -> u32
     match told {
         ArchiveAnswer::Refused { number, place } => refusal_code(number, place),
         ArchiveAnswer::Archived { bytes } => bytes,
+    }
+}
+
+// The board of a stop, the sheet as bytes.
+#[no_mangle]
+pub extern "C" fn examination_board(
+    file: &[u8],
+    sheet: &[u8],
+    stop: u32,
+    from: i32,
+    minutes: u32,
+    time_row: &mut [i64],
+    line_row: &mut [u8],
+    answer: &mut [u32; 1],
+) -> u32
+    ensures returned { λ r. ⌜ r ≡ export.status (bytes.boardBytes (window stop from minutes) (length (now («time_row» .entry))) (length (now («line_row» .entry))) (readFile (now (file .entry))) (now (sheet .entry))) ⌝ }
+    ensures row { λ _. ⌜ now (answer .exit) ≡ export.rowAfter (bytes.boardBytes (window stop from minutes) (length (now («time_row» .entry))) (length (now («line_row» .entry))) (readFile (now (file .entry))) (now (sheet .entry))) (now (answer .entry)) ⌝ }
+    ensures times { λ _. ⌜ now («time_row» .exit) ≡ bytes.timeRowBytes (window stop from minutes) (now («time_row» .entry)) (now («line_row» .entry)) (readFile (now (file .entry))) (now (sheet .entry)) ⌝ }
+    ensures lines { λ _. ⌜ now («line_row» .exit) ≡ bytes.lineRowBytes (window stop from minutes) (now («time_row» .entry)) (now («line_row» .entry)) (readFile (now (file .entry))) (now (sheet .entry)) ⌝ }
+    ensures bytes { λ _. ⌜ IsBytes (now (file .entry)) ⌝ }
+{
+    let taken = sheet_of(sheet);
+    let starts = taken.starts;
+    let count = taken.count;
+    let told = board(
+        file,
+        &starts[..count],
+        stop,
+        from,
+        minutes,
+        time_row,
+        line_row,
+    );
+    match told {
+        BoardAnswer::Refused { number, place } => refusal_code(number, place),
+        BoardAnswer::Listed { count: listed } => {
+            *answer = [listed];
+            0
+        }
     }
 }
 

@@ -20,7 +20,7 @@ use Rattle.network.specs.Rating.{arrivalOf, periodOf, CallsThere}
 use Rattle.network.specs.Archive.{SameOffsets}
 use Rattle.network.specs.Tidy.{insertBy, sortBy, notAfter}
 use Rattle.network.specs.Reading.{Outcome, values, refusal, readFile, accepted}
-use Rattle.network.specs.Refusals.{BoardRefuses, Demand1}
+use Rattle.network.specs.Refusals.{Fits, BoardRefuses, Demand1}
 use Rattle.network.specs.Board.{Window, window, Arrival, callAt, tripAt, InWindow, IsBoard, arrives, boardCalls, boardAt, boardFrom, board, times, lines}
 use Rattle.network.specs.Board.{maxMinutes, boardAnswer}
 use Rattle.network.proofs.Laws.Board as law
@@ -118,7 +118,10 @@ pub record Lists (n : Net) (sheet : List ℤ) (w : Window) (answer : Outcome) (t
   pub lines-written : linesAfter ≡ lines n list ++ drop (length list) lineRow
   -- whichever list is a board, these are its rows and its count
   pub only : (xs : List Arrival) → IsBoard n sheet w xs → (times xs ≡ times list) × (lines n xs ≡ lines n list) × (length xs ≡ length list)
+  -- at most 32 for each minute; each time is in the window, and each line one of the network
   pub count-range : length list ≤ 32 * w .minutes
+  pub times-in-window : (i : ℕ) → i < length (times list) → InWindow w (getD (times list) i (pos 0))
+  pub lines-stated : (i : ℕ) → i < length (lines n list) → getD (lines n list) i 0 < length (n .periods)
 
 pub lists : {n : Net} → Valid n → (sheet : List ℤ) (w : Window) (timeRow : List ℤ) (lineRow : List ℕ)
     → Lists n sheet w (values (length (board n sheet w) ∷ [])) timeRow lineRow (times (board n sheet w) ++ drop (length (board n sheet w)) timeRow) (lines n (board n sheet w) ++ drop (length (board n sheet w)) lineRow)
@@ -131,6 +134,8 @@ lists {n} valid sheet w timeRow lineRow =
       lines-written = refl;
       only = λ xs b. law.IsBoard-rows valid b (law.board-is-board valid sheet w);
       count-range = law.board-length-le valid sheet w;
+      times-in-window = law.times-in-window valid sheet w;
+      lines-stated = law.lines-stated valid sheet w;
     }
 
 -- What is lent to a call, and the rows at its exit
@@ -159,7 +164,7 @@ module _ (κs : Lfts 4) (s : AtExit (endedOf 4 board-kinds.ps board-kinds.r) κs
 
 module _ (κs : Lfts 4) (a : ArgsD board-call.signature κs) (r : ResD board-call.signature κs)
     (s : AtExit (endedOf 4 board-kinds.ps board-kinds.r) κs) (kept : board-contract.Post κs a r s) where
-  pub board-demand-1 : Demand1 (λ number place. boardAnswer r ≡ refusal number place) (BoardRefuses (file κs a) (sheet κs a) (asked κs a) (timeRow κs a) (lineRow κs a))
+  pub board-demand-1 : Demand1 (λ number place. boardAnswer r ≡ refusal number place) (BoardRefuses (file κs a) (Fits (sheet κs a)) (sheet κs a) (asked κs a) (timeRow κs a) (lineRow κs a))
       ((timesAfter κs s ≡ timeRow κs a) × (linesAfter κs s ≡ lineRow κs a))
   board-demand-1 =
       record {

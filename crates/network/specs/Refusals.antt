@@ -21,9 +21,13 @@ pub data Refuses (file : List ℕ) (ground : ℕ) (unfit : Net → Type 0) : ℕ
   by-file : {number place : ℕ} → readFile file ≡ refused number place → Refuses file ground unfit number place
   after-file : {n : Net} → readFile file ≡ accepted n → unfit n → Refuses file ground unfit ground 0
 
--- 15 and 16: the sheet, or the start row, hasn't one place for each line
+-- The sheet, or the start row, has one place for each line
+abbrev pub Fits : List ℤ → Net → Type 0
+Fits row n = length row ≡ length (n .periods)
+
+-- 15 and 16: it hasn't
 abbrev pub Unfit : List ℤ → Net → Type 0
-Unfit row n = length row ≡ length (n .periods) → ⊥
+Unfit row n = Fits row n → ⊥
 
 -- 17: class or weight row isn't 64 long
 abbrev pub Not64 : List ℕ → List ℕ → Net → Type 0
@@ -33,20 +37,21 @@ Not64 classes weights n = (length classes ≡ stopCount → ⊥) ⊎ (length wei
 abbrev pub TooShort : List ℕ → Net → Type 0
 TooShort row n = length row < archiveLength n
 
--- The board call refuses by the file's own ground, at its place; or, after the file, at place 0, by the first of its own that applies (document 02, A.7)
-pub data BoardRefuses (file : List ℕ) (sheet : List ℤ) (w : Window) (timeRow : List ℤ) (lineRow : List ℕ) : ℕ → ℕ → Type 0 where
-  of-file : {number place : ℕ} → readFile file ≡ refused number place → BoardRefuses file sheet w timeRow lineRow number place
+-- The board call refuses by the file's own ground, at its place; or, after the file, at place 0, by the first of its own that applies (document 02, A.7),
+-- given when the sheet fits the file's network, and its starts
+pub data BoardRefuses (file : List ℕ) (fits : Net → Type 0) (sheet : List ℤ) (w : Window) (timeRow : List ℤ) (lineRow : List ℕ) : ℕ → ℕ → Type 0 where
+  of-file : {number place : ℕ} → readFile file ≡ refused number place → BoardRefuses file fits sheet w timeRow lineRow number place
   -- 15: the sheet hasn't one start for each line
-  of-sheet : {n : Net} → readFile file ≡ accepted n → Unfit sheet n → BoardRefuses file sheet w timeRow lineRow 15 0
+  of-sheet : {n : Net} → readFile file ≡ accepted n → (fits n → ⊥) → BoardRefuses file fits sheet w timeRow lineRow 15 0
   -- 8: the stop is above 63
-  of-stop : {n : Net} → readFile file ≡ accepted n → length sheet ≡ length (n .periods) → maxStop < w .stop → BoardRefuses file sheet w timeRow lineRow 8 0
+  of-stop : {n : Net} → readFile file ≡ accepted n → fits n → maxStop < w .stop → BoardRefuses file fits sheet w timeRow lineRow 8 0
   -- 22: the length is above 10,080
-  of-length : {n : Net} → readFile file ≡ accepted n → length sheet ≡ length (n .periods) → w .stop ≤ maxStop → maxMinutes < w .minutes
-      → BoardRefuses file sheet w timeRow lineRow 22 0
+  of-length : {n : Net} → readFile file ≡ accepted n → fits n → w .stop ≤ maxStop → maxMinutes < w .minutes
+      → BoardRefuses file fits sheet w timeRow lineRow 22 0
   -- 23: a row is shorter than the list
-  of-row : {n : Net} → readFile file ≡ accepted n → length sheet ≡ length (n .periods) → w .stop ≤ maxStop → w .minutes ≤ maxMinutes
+  of-row : {n : Net} → readFile file ≡ accepted n → fits n → w .stop ≤ maxStop → w .minutes ≤ maxMinutes
       → (length timeRow < length (board n sheet w)) ⊎ (length lineRow < length (board n sheet w))
-      → BoardRefuses file sheet w timeRow lineRow 23 0
+      → BoardRefuses file fits sheet w timeRow lineRow 23 0
 
 -- Demand 1 of a call that answers so, given when it is to refuse, and with what, and what it is for each lent row to be as it was
 pub record Demand1 (answers refuses : ℕ → ℕ → Type 0) (untouched : Type 0) : Type 0 where

@@ -18,7 +18,7 @@ use Rattle.network.specs.Network.{Net}
 use Rattle.network.specs.Lists.{pick}
 use Rattle.network.specs.Rate.{onSheet, ratedOnSheet}
 use Rattle.network.specs.Reading.{Reading, accepted, refused, refusal, readFile, readOutcome}
-use Rattle.network.specs.Refusals.{Refuses, by-file, after-file, Unfit}
+use Rattle.network.specs.Refusals.{Refuses, by-file, after-file, Fits, Unfit}
 use Rattle.network.specs.Valid.{IsBytes}
 use Rattle.network.proofs.Laws.Lists.{zero-ne-one}
 use Rattle.network.proofs.Laws.Reading.{refused-number-range, refused-place}
@@ -31,7 +31,7 @@ use Rattle.search.specs.Wanted.{wantedOutcome}
 use Rattle.search.specs.Wanted as wanted
 use Rattle.search.proofs.Demands.{Searches, demand-1}
 use Rattle.search.proofs.WantedGap as asked
-use Rattle.examination.specs.Bytes.{starts, bytesFit, byBytes, markBytes, keyBytes, BytesUnfit, EitherBytesUnfit}
+use Rattle.examination.specs.Bytes.{starts, bytesFit, byBytes, markBytes, keyBytes, BytesFit, BytesUnfit, EitherBytesUnfit}
 use Rattle.examination.specs.Exports.{placeLimit}
 use Rattle.examination.specs.ByKey.{besideKey, keyOutcome, EitherUnfit}
 use Rattle.examination.specs.Sheets.{fits, marked, markOutcome}
@@ -167,15 +167,19 @@ module _ (file : List ℕ) {number place : ℕ} where
 
 module _ (file : List ℕ) (is-bytes : IsBytes file) (bytes : List ℕ) where
   -- The sheet that the bytes stand for fits where they do
-  unfit-bytes : (n : Net) → readFile file ≡ accepted n → Unfit (sheetOf bytes) n → BytesUnfit bytes n
+  pub fit-of-bytes : (n : Net) → readFile file ≡ accepted n → BytesFit bytes n → Fits (sheetOf bytes) n
   unfolding fits bytesFit
-  unfit-bytes n e differ same =
-      differ (eqb-true _ _ (sheetOf-fits n (accepted-valid file n is-bytes e .lines) bytes ∙ eq-eqb _ _ same))
+  fit-of-bytes n e same = eqb-true _ _ (sheetOf-fits n (accepted-valid file n is-bytes e .lines) bytes ∙ eq-eqb _ _ same)
+
+  pub bytes-of-fit : (n : Net) → readFile file ≡ accepted n → Fits (sheetOf bytes) n → BytesFit bytes n
+  unfolding fits bytesFit
+  bytes-of-fit n e same = eqb-true _ _ (sym (sheetOf-fits n (accepted-valid file n is-bytes e .lines) bytes) ∙ eq-eqb _ _ same)
+
+  unfit-bytes : (n : Net) → readFile file ≡ accepted n → Unfit (sheetOf bytes) n → BytesUnfit bytes n
+  unfit-bytes n e differ same = differ (fit-of-bytes n e same)
 
   bytes-unfit : (n : Net) → readFile file ≡ accepted n → BytesUnfit bytes n → Unfit (sheetOf bytes) n
-  unfolding fits bytesFit
-  bytes-unfit n e differ same =
-      differ (eqb-true _ _ (sym (sheetOf-fits n (accepted-valid file n is-bytes e .lines) bytes) ∙ eq-eqb _ _ same))
+  bytes-unfit n e differ same = differ (bytes-of-fit n e same)
 
   to-bytes : {number place : ℕ} → Refuses file 15 (Unfit (sheetOf bytes)) number place → Refuses file 15 (BytesUnfit bytes) number place
   to-bytes (by-file e) = by-file e

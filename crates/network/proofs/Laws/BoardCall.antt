@@ -14,7 +14,7 @@ use Rattle.network.specs.Lists.{pick}
 use Rattle.network.specs.Network.{Net, maxStop}
 use Rattle.network.specs.Grounds.{Ground, _at_when_, first}
 use Rattle.network.specs.Reading.{Reading, accepted, refused, Outcome, values, refusal, readFile}
-use Rattle.network.specs.Refusals.{BoardRefuses, of-file, of-sheet, of-stop, of-length, of-row}
+use Rattle.network.specs.Refusals.{BoardRefuses, Fits, Unfit, of-file, of-sheet, of-stop, of-length, of-row}
 use Rattle.network.specs.Board.{Window, window, Arrival, board, times, lines, maxMinutes, boardGrounds, unless, boardOutcome, timeRowAfter, lineRowAfter}
 use Rattle.network.specs.Engine.Due.{askedGrounds, tooShort, listedOutcome, listedTimes, listedLines}
 use Rattle.network.proofs.Laws.Lists.{zero-ne-one, or-left, or-right}
@@ -70,11 +70,15 @@ module _ (w : Window) (read : Reading) (starts : List ℤ) (timeRow : List ℤ) 
   called-refused e = rw e (refl, (refl, refl))
 
   module _ {n : Net} (reads : read ≡ accepted n) where
-    -- a ground that needs no list applies
+    -- a ground that needs no list applies, such as the sheet's
     pub called-asked : {number place : ℕ} → first (askedGrounds (length (n .periods)) (length starts) (w .stop) (w .minutes)) ≡ Refused number place
         → Called w read starts timeRow lineRow (refusal number place) timeRow lineRow
     unfolding boardOutcome timeRowAfter lineRowAfter unless
     called-asked e = rw (reads, grounds-asked n starts w (length timeRow) (length lineRow) e) (refl, (refl, refl))
+
+    pub called-unfit : Unfit starts n → Called w read starts timeRow lineRow (refusal 15 0) timeRow lineRow
+    unfolding askedGrounds first
+    called-unfit unfit = called-asked (rw (ne-eqb (length starts) (length (n .periods)) unfit))
 
     -- none of them does: the rows decide
     pub called-listed : first (askedGrounds (length (n .periods)) (length starts) (w .stop) (w .minutes)) ≡ Passes
@@ -108,13 +112,13 @@ module _ (file : List ℕ) (sheet : List ℤ) (w : Window) (timeRow : List ℤ) 
   answered = boardOutcome w (length timeRow) (length lineRow) (readFile file) sheet
 
   abbrev Refuses : ℕ → ℕ → Type 0
-  Refuses = BoardRefuses file sheet w timeRow lineRow
+  Refuses = BoardRefuses file (Fits sheet) sheet w timeRow lineRow
 
   by-asked : {n : Net} {number place : ℕ} → readFile file ≡ accepted n
       → first (askedGrounds (length (n .periods)) (length sheet) (w .stop) (w .minutes)) ≡ Refused number place → answered ≡ refusal number place
   by-asked reads e = sym (called-asked w (readFile file) sheet timeRow lineRow reads e .0)
 
-  pub board-refuses : {number place : ℕ} → BoardRefuses file sheet w timeRow lineRow number place → answered ≡ refusal number place
+  pub board-refuses : {number place : ℕ} → BoardRefuses file (Fits sheet) sheet w timeRow lineRow number place → answered ≡ refusal number place
   unfolding askedGrounds first listedOutcome tooShort
   board-refuses (of-file e) = sym (called-refused w (readFile file) sheet timeRow lineRow e .0)
   board-refuses (of-sheet {n = n} reads unfit) = by-asked reads (rw (ne-eqb (length sheet) (length (n .periods)) unfit))
@@ -135,7 +139,7 @@ module _ (file : List ℕ) (sheet : List ℤ) (w : Window) (timeRow : List ℤ) 
   Untouched read = (timeRowAfter w timeRow lineRow read sheet ≡ timeRow) × (lineRowAfter w timeRow lineRow read sheet ≡ lineRow)
 
   board-refused : {number place : ℕ} (read : Reading) → readFile file ≡ read → boardOutcome w (length timeRow) (length lineRow) read sheet ≡ refusal number place
-      → BoardRefuses file sheet w timeRow lineRow number place × Untouched read
+      → BoardRefuses file (Fits sheet) sheet w timeRow lineRow number place × Untouched read
   unfolding boardOutcome timeRowAfter lineRowAfter boardGrounds first unless
   board-refused (refused number′ place′) e h = (of-file (e ∙ same-refusal h), (refl, refl))
   board-refused {number} {place} (accepted n) e h =
@@ -172,7 +176,7 @@ module _ (file : List ℕ) (sheet : List ℤ) (w : Window) (timeRow : List ℤ) 
       go true false false false false ea eb ec ed ef g = absurd (zero-ne-one (cc))
 
   module _ {number place : ℕ} (h : answered ≡ refusal number place) where
-    pub board-refuses-only : BoardRefuses file sheet w timeRow lineRow number place
+    pub board-refuses-only : BoardRefuses file (Fits sheet) sheet w timeRow lineRow number place
     board-refuses-only = board-refused (readFile file) refl h .0
 
     pub board-rows-as-found : Untouched (readFile file)
