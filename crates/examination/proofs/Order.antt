@@ -5,6 +5,7 @@
 
 -- "Every file, sheet and row lent to a call may hold any content and have any length: the call returns"
 pub use Rattle.network.proofs.Demands.{read-asks-nothing, rate-asks-nothing, weighted-asks-nothing, classes-asks-nothing, archive-asks-nothing}
+pub use Rattle.network.proofs.StopBoard.{board-asks-nothing}
 pub use Rattle.search.proofs.Demands.{search-asks-nothing}
 pub use Rattle.search.proofs.WantedGap.{wanted-asks-nothing}
 pub use Rattle.examination.proofs.Demands.{better-asks-nothing, mark-asks-nothing}
@@ -15,9 +16,11 @@ pub use Rattle.examination.proofs.ExportWanted.{wanted-export-asks-noth
 pub use Rattle.examination.proofs.ExportBetter.{better-export-asks-nothing}
 pub use Rattle.examination.proofs.HundredMark.{by-key-asks-nothing}
 pub use Rattle.examination.proofs.ExportHundred.{hundred-export-asks-nothing, by-key-export-asks-nothing}
+pub use Rattle.examination.proofs.ExportBoard.{board-export-asks-nothing}
 -- "faulty input and no other gets the refusal number and place that document 01 sets ..., and a refused call leaves each lent row exactly as it
 -- found it"
 pub use Rattle.network.proofs.Demands.{read-demand-1, file-gives, file-gives-no-other, rate-demand-1, weighted-demand-1, classes-demand-1, archive-demand-1}
+pub use Rattle.network.proofs.StopBoard.{board-demand-1}
 pub use Rattle.search.proofs.Demands.{search-demand-1}
 pub use Rattle.search.proofs.WantedGap.{wanted-demand-1}
 pub use Rattle.examination.proofs.Demands.{mark-demand-1}
@@ -27,6 +30,7 @@ pub use Rattle.examination.proofs.ExportSearch.{search-export-demand-1,
 pub use Rattle.examination.proofs.ExportWanted.{wanted-export-demand-1}
 pub use Rattle.examination.proofs.HundredMark.{by-key-demand-1}
 pub use Rattle.examination.proofs.ExportHundred.{hundred-export-demand-1, by-key-export-demand-1}
+pub use Rattle.examination.proofs.ExportBoard.{board-export-demand-1}
 -- "(better-of-two answers by its part alone)"
 pub use Rattle.examination.proofs.Demands.{better-file-refused, better-neither-fits, better-only-first-fits, better-only-second-fits}
 pub use Rattle.examination.proofs.Demands.{better-both-fit}
@@ -83,6 +87,7 @@ pub use Rattle.examination.proofs.ExportDemands.{archive-export-writes}
 pub use Rattle.network.proofs.Demands.{equal-archives}
 -- Two files with the same periods and offsets, in either edition, a file and its archive form among them, are answered alike
 pub use Rattle.network.proofs.Demands.{same-network-read-alike, same-network-rated-alike, same-network-weighted-alike, same-network-classified-alike}
+pub use Rattle.network.proofs.StopBoard.{same-network-board-alike}
 pub use Rattle.search.proofs.Demands.{same-network-searched-alike}
 pub use Rattle.search.proofs.WantedGap.{same-network-wanted-alike}
 -- ---- Document 02, A.2
@@ -153,3 +158,19 @@ pub use Rattle.network.proofs.Editions.{archived-edition}
 -- demand 1; the numbers and places of a file's refusals, and files of the request by evaluation
 pub use Rattle.network.proofs.Editions.{retired-is-19, not-first-is-20, unknown-is-21, refusal-names, first-bytes-decide}
 pub use Rattle.network.proofs.Editions.{edition-cases-refused, ride-cases-refused, accepted-cases, before-cases, archived-cases}
+-- ---- Document 02, A.7
+
+-- "Given a sheet, a stop, a first minute in 32 signed bits and a length in 32 bits, list every arrival from that minute until before minute plus length, by
+-- time, then line, then offset. Each arrival stands there as often as calls produce it": the list over all trips, past and future, has one place for each
+-- call of the file at the stop and each of its trips in the window, and no other; only one pair of rows is left
+pub use Rattle.network.proofs.StopBoard.{board-is-board, trips-apart, IsBoard-rows, board-rows-only}
+-- "Two lent rows take times (64 signed bits) and lines (bytes); what lies behind the list stays unchanged, and the answer is its count"
+pub use Rattle.network.proofs.StopBoard.{board-lists, board-rows-length, board-times-in-window, board-lines-stated}
+pub use Rattle.examination.proofs.ExportBoard.{board-export-lists, board-export-room}
+-- "An unserved stop gives an empty list"; at most 32 arrivals for each minute, windows side by side, and starts and window moved together
+pub use Rattle.network.proofs.StopBoard.{board-unserved, board-no-minutes, board-length-le, board-side-by-side, board-moved, board-rows-moved}
+-- "Ground 15 precedes ground 8, which here has place 0. (22: length above 10,080, after 8; 23: a row shorter than the list, after 22; both at place 0.)": with
+-- every other ground under demand 1, in this order (`BoardRefuses` of network/specs/Refusals.antt)
+
+-- The request's boards by evaluation
+pub use Rattle.network.proofs.StopBoard.{two-lines, half-open, one-minute, far-apart}

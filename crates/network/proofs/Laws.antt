@@ -5,6 +5,7 @@ pub mod Permutations
 pub mod Least
 pub mod Tables
 pub mod Sums
+pub mod Once
 pub mod Filled
 pub mod Divisor
 pub mod Integers

@@ -3,13 +3,12 @@
 -- rows hold, windows side by side, and starts moved together. Assumes nothing.
 use Prim.Native.Nat.{ℕ, zero, suc, _+_, _*_, _-_, _<_, _≤_}
 use mathlib.Core.Path.{_≡_, refl, sym, ap, ap₂, subst, _∙_}
-use mathlib.Core.Bool.{Bool, true, false}
-use mathlib.Core.List.{List, [], _∷_, _++_, map, map-map, map-append, append-assoc, append-nil}
-use mathlib.Core.List.{List·Memᴰ, List·Memᴰ·head, List·Memᴰ·tail, List·Memᴰ·not-nil, List·Memᴰ·append-cases}
+use mathlib.Core.Bool.{true, false}
+use mathlib.Core.List.{List, [], _++_, map, map-map, map-append, append-assoc, append-nil}
+use mathlib.Core.List.{List·Memᴰ, List·Memᴰ·not-nil, List·Memᴰ·append-cases}
 use mathlib.Core.List.{Memᴰ·append-left, Memᴰ·append-right, Memᴰ·map, Memᴰ·of-map}
-use mathlib.Core.List.{List·Permᴰ, List·Permᴰ·nil, List·Permᴰ·cons, List·Permᴰ·swap, List·Permᴰ·trans, Permᴰ·refl, Permᴰ·symm, Permᴰ·map}
+use mathlib.Core.List.{List·Permᴰ, Permᴰ·symm, Permᴰ·map}
 use mathlib.Core.Logic.{_⊎_, inl, inr}
-use native.Mathlib.Decide.{decLt}
 use native.Mathlib.Nat.{zero-mod, eq-or-lt-of-le, le-of-suc-le-suc, le-trans, mul-le-mul-left, add-zero, add-suc}
 use native.Mathlib.Omega.{arith}
 use borrow.Author.Tests.{eqb-true, eq-eqb, leb-true, le-leb, leb-false}
@@ -17,7 +16,7 @@ use lib.Dec.{eqb, leb}
 use lib.IntN.{ℤ, pos, natAbs, _+ℤ_, _-ℤ_}
 use lib.ListN.{length, getD, length-append, length-map}
 use Rattle.network.specs.declared.Call.{Call}
-use Rattle.network.specs.Lists.{pick, keep, below}
+use Rattle.network.specs.Lists.{keep, below}
 use Rattle.network.specs.Network.{Net, isServed}
 use Rattle.network.specs.Valid.{Valid}
 use Rattle.network.specs.Gap.{trip, residue}
@@ -26,10 +25,12 @@ use Rattle.network.specs.Tidy.{notAfter, firstBy, byOffset}
 use Rattle.network.specs.Classes.{ordered}
 use Rattle.network.specs.Board.{Window, window, Arrival, callAt, tripAt, InWindow, NotLater, earlier, lower-line, no-higher-offset, noArrival, IsBoard}
 use Rattle.network.specs.Board.{arrives, boardCalls, boardAt, boardFrom, board, times, lines}
-use Rattle.network.proofs.Laws.Lists.{getD-map, map-same-places}
+use Rattle.network.proofs.Laws.Lists.{getD-map, map-same-places, nil-of-length}
 use Rattle.network.proofs.Laws.Members.{All, EveryTwo, place-of-member, member-of-place, of-all, keep-of-member, member-of-keep, length-keep-le}
 use Rattle.network.proofs.Laws.Members.{everyTwo-of-places, everyTwo-both, everyTwo-keep, places-of-everyTwo, everyTwo-of-implied}
+use Rattle.network.proofs.Laws.Members.{everyTwo-append, everyTwo-map, everyTwo-of-map, keep-same, all-map}
 use Rattle.network.proofs.Laws.Permutations.{length-permuted, member-permuted, everyTwo-permuted}
+use Rattle.network.proofs.Laws.Once.{Differ, EachOnce, eachOnce-of-places, places-of-eachOnce, permuted-of-same-members, below-once}
 use Rattle.network.proofs.Laws.Tables.{below-of-member, member-of-below}
 use Rattle.network.proofs.Laws.Integers.{difference, difference-pos, difference-add, difference-sub, difference-add-multiple}
 use Rattle.network.proofs.Laws.Integers.{difference-of-eq, eq-of-difference, natAbs-of-difference}
@@ -40,102 +41,6 @@ use Rattle.network.proofs.Laws.Tidy.{Sorted, firstBy-true, sortBy-is-pe
 use Rattle.network.proofs.Laws.Sorted.{leb-order, eqb-equality}
 use Rattle.network.proofs.Laws.Placed.{served-of-length, ordered-le-maxAtStop}
 use Rattle.network.proofs.Laws.BoardRows.{boardCalls-ordered}
-
--- ---- any list
-
-module _ {A : Type 0} where
-  -- Two elements that differ; a list that has each of its elements once
-  abbrev pub Differ : A → A → Type 0
-  Differ a b = a ≡ b → ⊥
-
-  abbrev pub EachOnce : List A → Type 0
-  EachOnce xs = EveryTwo Differ xs
-
-  eachOnce-of-places : (d : A) (xs : List A)
-      → ((i j : ℕ) → i < length xs → j < length xs → getD xs i d ≡ getD xs j d → i ≡ j) → EachOnce xs
-  eachOnce-of-places d xs once = everyTwo-of-places Differ d xs (λ j k l m e. omega (arith, once j k (omega arith) m e))
-
-  places-of-eachOnce : (d : A) (xs : List A) → EachOnce xs → (i j : ℕ) → i < length xs → j < length xs → getD xs i d ≡ getD xs j d → i ≡ j
-  places-of-eachOnce d xs once i j h k e = go (decLt i j) (decLt j i)
-    where
-      go : Dec (i < j) → Dec (j < i) → i ≡ j
-      go (yes l) q = absurd (places-of-everyTwo Differ d xs once i j l k e)
-      go (no l) (yes q) = absurd (places-of-everyTwo Differ d xs once j i q h (sym e))
-      go (no l) (no q) = omega arith
-
-  -- every two of a list and another behind it
-  everyTwo-append : (R : A → A → Type 0) (xs ys : List A) → EveryTwo R xs → EveryTwo R ys
-      → ((x y : A) → List·Memᴰ x xs → List·Memᴰ y ys → R x y) → EveryTwo R (xs ++ ys)
-  everyTwo-append R [] ys f g h = g
-  everyTwo-append R (x ∷ xs) ys f g h =
-      (λ y m. go y (List·Memᴰ·append-cases xs m), everyTwo-append R xs ys (f .1) g (λ a b m. h a b (List·Memᴰ·tail m)))
-    where
-      go : (y : A) → List·Memᴰ y xs ⊎ List·Memᴰ y ys → R x y
-      go y (inl m) = f .0 y m
-      go y (inr m) = h x y (List·Memᴰ·head refl) m
-
-  nil-of-length : (xs : List A) → length xs ≡ 0 → xs ≡ []
-  nil-of-length [] e = refl
-  nil-of-length (x ∷ xs) e = absurd (omega (arith, e))
-
-  -- two tests that agree on a list's elements
-  keep-same : (p q : A → Bool) (xs : List A) → ((a : A) → List·Memᴰ a xs → p a ≡ q a) → keep p xs ≡ keep q xs
-  unfolding keep
-  keep-same p q [] h = refl
-  keep-same p q (x ∷ xs) h =
-      ap₂ (λ (t : Bool) (l : List A). pick t (x ∷ l) l) (h x (List·Memᴰ·head refl)) (keep-same p q xs (λ a m. h a (List·Memᴰ·tail m)))
-
-  -- Two lists with the same members, each once, are each other's permutation: the one's first is brought to the other's front
-  to-front : {a : A} (xs : List A) → List·Memᴰ a xs → (rest : List A) × List·Permᴰ xs (a ∷ rest)
-  to-front (x ∷ xs) (List·Memᴰ·head e) = (xs, List·Permᴰ·cons (sym e) (Permᴰ·refl xs))
-  to-front (x ∷ xs) (List·Memᴰ·tail m) =
-      let (rest, π) = to-front xs m in (x ∷ rest, List·Permᴰ·trans (List·Permᴰ·cons refl π) (List·Permᴰ·swap refl refl))
-
-  behind-first : {a x : A} {xs : List A} → Differ x a → List·Memᴰ a (x ∷ xs) → List·Memᴰ a xs
-  behind-first d (List·Memᴰ·head e) = absurd (d (sym e))
-  behind-first d (List·Memᴰ·tail m) = m
-
-  permuted-of-same-members : (xs ys : List A) → EachOnce xs → EachOnce ys → ((a : A) → List·Memᴰ a xs → List·Memᴰ a ys)
-      → ((a : A) → List·Memᴰ a ys → List·Memᴰ a xs) → List·Permᴰ xs ys
-  permuted-of-same-members [] [] f g h k = List·Permᴰ·nil
-  permuted-of-same-members [] (y ∷ ys) f g h k = absurd (List·Memᴰ·not-nil (k y (List·Memᴰ·head refl)))
-  permuted-of-same-members (x ∷ xs) ys f g h k =
-      let (rest, π) = to-front ys (h x (List·Memᴰ·head refl)) in
-      let once : EachOnce (x ∷ rest) = everyTwo-permuted Differ (λ a b d e. d (sym e)) π g in
-      List·Permᴰ·trans
-      (List·Permᴰ·cons refl
-      (permuted-of-same-members xs rest (f .1) (once .1)
-      (λ a m. behind-first (f .0 a m) (member-permuted π (h a (List·Memᴰ·tail m))))
-      (λ a m. behind-first (once .0 a m) (k a (member-permuted (Permᴰ·symm π) (List·Memᴰ·tail m))))))
-      (Permᴰ·symm π)
-
-all-map : {A B : Type 0} (f : A → B) (P : B → Type 0) (d : A) (e : B) (xs : List A) → All d (λ a. P (f a)) xs → All e P (map f xs)
-all-map f P d e xs h i l = let m : i < length xs = omega (arith, l, length-map xs f) in rw (getD-map f xs i d e m) (h i m)
-
-module _ {A B : Type 0} (f : A → B) (R : B → B → Type 0) where
-  everyTwo-map : (xs : List A) → EveryTwo (λ a b. R (f a) (f b)) xs → EveryTwo R (map f xs)
-  everyTwo-map [] e = tt
-  everyTwo-map (x ∷ xs) e =
-      (λ y m. let (z, k, is) = Memᴰ·of-map f xs m in subst (R (f x)) is (e .0 z k), everyTwo-map xs (e .1))
-
-  everyTwo-of-map : (xs : List A) → EveryTwo R (map f xs) → EveryTwo (λ a b. R (f a) (f b)) xs
-  everyTwo-of-map [] e = tt
-  everyTwo-of-map (x ∷ xs) e = (λ y m. e .0 (f y) (Memᴰ·map f m), everyTwo-of-map xs (e .1))
-
--- The numbers that pass, each once
-below-once : (p : ℕ → Bool) (n : ℕ) → EachOnce (below p n)
-unfolding below
-below-once p zero = tt
-below-once p (suc n) = everyTwo-append Differ (below p n) (pick (p n) (n ∷ []) []) (below-once p n) (alone (p n)) (λ x y m k e. differ (p n) x y m k e)
-  where
-    alone : (t : Bool) → EachOnce (pick t (n ∷ []) [])
-    alone true = (λ y m. absurd (List·Memᴰ·not-nil m), tt)
-    alone false = tt
-
-    differ : (t : Bool) (x y : ℕ) → List·Memᴰ x (below p n) → List·Memᴰ y (pick t (n ∷ []) []) → x ≡ y → ⊥
-    differ true x y m (List·Memᴰ·head d) e = let r = below-of-member p n m in omega arith
-    differ true x y m (List·Memᴰ·tail k) e = List·Memᴰ·not-nil k
-    differ false x y m k e = List·Memᴰ·not-nil k
 
 -- ---- the minutes at which a call arrives are those of its trips
 

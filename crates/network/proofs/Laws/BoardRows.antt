@@ -1,18 +1,14 @@
 -- The arrivals of a board by the calls at its stop in their order: the calls that a board goes through, by their places in the file, are those, so that a
 -- minute's rows are what the calls that arrive then give. Assumes nothing.
-use Prim.Native.Nat.{ℕ, zero, suc, _+_, _≤_}
+use Prim.Native.Nat.{ℕ, zero, suc, _+_}
 use mathlib.Core.Path.{_≡_, refl, sym, ap, ap₂, _∙_}
-use mathlib.Core.Bool.{Bool, true, false}
-use mathlib.Core.List.{List, [], _∷_, _++_, map, map-map, map-append}
-use native.Mathlib.Nat.{le-refl}
-use native.Mathlib.Numerals.{add-one}
-use native.Mathlib.Omega.{arith}
+use mathlib.Core.Bool.{Bool}
+use mathlib.Core.List.{List, _++_, map, map-map, map-append}
 use lib.Dec.{eqb}
 use lib.IntN.{ℤ, pos, _+ℤ_, _-ℤ_}
-use lib.ListN.{length, getD, take, length-map}
-use lib.Seq.{take-all}
+use lib.ListN.{length, getD, length-map}
 use Rattle.network.specs.declared.Call.{Call}
-use Rattle.network.specs.Lists.{pick, keep, below}
+use Rattle.network.specs.Lists.{keep, below}
 use Rattle.network.specs.Network.{Net}
 use Rattle.network.specs.Valid.{noCall}
 use Rattle.network.specs.Gap.{residue}
@@ -20,40 +16,8 @@ use Rattle.network.specs.Rating.{arrivalOf, periodOf, callsOfStop}
 use Rattle.network.specs.Classes.{ordered}
 use Rattle.network.specs.Tidy.{sortBy, notAfter, tidy}
 use Rattle.network.specs.Board.{Window, Arrival, callAt, arrives, boardCalls, boardAt, boardFrom, board, times, lines}
-use Rattle.network.proofs.Laws.Members.{keep-take-next}
+use Rattle.network.proofs.Laws.Members.{map-keep, map-below-all}
 use Rattle.network.proofs.Laws.Sorted.{eachHas-of-all, map-sortBy}
-
--- ---- any list
-
-module _ {A B : Type 0} where
-  -- those that pass, before or after a map
-  pub map-keep : (f : A → B) (p : B → Bool) (xs : List A) → map f (keep (λ x. p (f x)) xs) ≡ keep p (map f xs)
-  unfolding keep
-  map-keep f p [] = refl
-  map-keep f p (x ∷ xs) = go (p (f x)) (map-keep f p xs)
-    where
-      go : (t : Bool) → map f (keep (λ x. p (f x)) xs) ≡ keep p (map f xs)
-          → map f (pick t (x ∷ keep (λ x. p (f x)) xs) (keep (λ x. p (f x)) xs)) ≡ pick t (f x ∷ keep p (map f xs)) (keep p (map f xs))
-      go true e = ap (λ (l : List B). f x ∷ l) e
-      go false e = e
-
--- What a list keeps, by the places that pass
-module _ {A : Type 0} (d : A) (p : A → Bool) (xs : List A) where
-  map-below-take : (k : ℕ) → k ≤ length xs → map (λ i. getD xs i d) (below (λ i. p (getD xs i d)) k) ≡ keep p (take k xs)
-  unfolding below keep
-  map-below-take zero h = refl
-  map-below-take (suc k) h =
-      map-append (λ i. getD xs i d) (below (λ i. p (getD xs i d)) k) (pick (p (getD xs k d)) (k ∷ []) [])
-      ∙ ap₂ _++_ (map-below-take k (omega arith)) (go (p (getD xs k d)))
-      ∙ sym (keep-take-next p xs k d (p (getD xs k d)) (omega arith) refl)
-      ∙ ap (λ (i : ℕ). keep p (take i xs)) (add-one k)
-    where
-      go : (t : Bool) → map (λ i. getD xs i d) (pick t (k ∷ []) []) ≡ pick t (getD xs k d ∷ []) []
-      go true = refl
-      go false = refl
-
-  pub map-below-all : map (λ i. getD xs i d) (below (λ i. p (getD xs i d)) (length xs)) ≡ keep p xs
-  map-below-all = map-below-take (length xs) (omega arith) ∙ ap (keep p) (take-all (length xs) xs (le-refl _))
 
 -- ---- the calls of a board
 

@@ -20,12 +20,13 @@ use Rattle.network.specs.Classes.{ordered, orderedCall}
 use Rattle.network.specs.Board.{Arrival, callAt, arrives, boardAt, boardFrom, times, lines}
 use Rattle.network.specs.Engine.Due.{dueIn, oneLater, arrivalsIn, WithinPeriods, Ready}
 use Rattle.network.proofs.Laws.Lists.{map-same}
+use Rattle.network.proofs.Laws.Members.{map-below-all}
 use Rattle.network.proofs.Laws.Tables.{below-same, below-of-member, countBelow-length, countBelow-same}
 use Rattle.network.proofs.Laws.Integers.{difference, difference-pos, difference-add, difference-sub, eq-of-difference}
 use Rattle.network.proofs.Laws.Gap.{residue-lt, residue-pos, residue-of-residue, residue-of-add}
 use Rattle.network.proofs.Laws.Alike.{ordered-period-pos, ordered-line-lt}
 use Rattle.network.proofs.Laws.Placed.{ordered-le-maxAtStop}
-use Rattle.network.proofs.Laws.BoardRows.{map-below-all, arriving, boardAt-by, boardAt-lines, boardAt-times}
+use Rattle.network.proofs.Laws.BoardRows.{arriving, boardAt-by, boardAt-lines, boardAt-times}
 
 -- ---- one minute more
 

@@ -102,3 +102,7 @@ module _ {A B C : Type 0} (f : A → C) (g : B → C) where
   map-same-places (x ∷ xs) [] d e m h = absurd (omega (arith, m))
   map-same-places (x ∷ xs) (y ∷ ys) d e m h =
       ap₂ _∷_ (h 0 (zero-lt-suc _)) (map-same-places xs ys d e (omega (arith, m)) (λ i l. h (suc i) (suc-le-suc l)))
+
+pub nil-of-length : {A : Type 0} (xs : List A) → length xs ≡ 0 → xs ≡ []
+nil-of-length [] e = refl
+nil-of-length (x ∷ xs) e = absurd (omega (arith, e))

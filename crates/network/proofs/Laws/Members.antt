@@ -1,18 +1,18 @@
 -- What stands in a list: its members and their places, each view from the other, and what becomes of them where the list is joined, kept by
--- a test or paired. Each is one induction on the list. Assumes nothing.
+-- a test, mapped or paired. Each is one induction on the list. Assumes nothing.
 use Prim.Native.Nat.{ℕ, zero, suc, _+_, _≤_, _<_, min, suc-le-suc}
 use mathlib.Core.Path.{_≡_, refl, sym, ap, ap₂, subst, fun-ext, _∙_}
 use mathlib.Core.Bool.{Bool, true, false, _&&_, _||_, and-comm}
 use mathlib.Core.List.{List, [], _∷_, _++_, map, List·Memᴰ, List·Memᴰ·head, List·Memᴰ·tail, List·Memᴰ·not-nil, List·Memᴰ·cases-cons}
-use mathlib.Core.List.{List·Memᴰ·append-cases, Memᴰ·append-left, Memᴰ·append-right, Memᴰ·map, Memᴰ·of-map}
+use mathlib.Core.List.{map-append, List·Memᴰ·append-cases, Memᴰ·append-left, Memᴰ·append-right, Memᴰ·map, Memᴰ·of-map}
 use mathlib.Core.Logic.{_⊎_, inl, inr}
-use native.Mathlib.Nat.{le-of-suc-le-suc, zero-lt-suc}
+use native.Mathlib.Nat.{le-refl, le-of-suc-le-suc, zero-lt-suc}
 use native.Mathlib.Numerals.{add-one}
 use native.Mathlib.Omega.{arith}
-use lib.ListN.{length, getD, take, length-append, length-take, take-append-drop}
-use lib.Seq.{take-suc, getD-take}
-use Rattle.network.specs.Lists.{pick, any, keep, pairsOf}
-use Rattle.network.proofs.Laws.Lists.{zero-ne-one, or-left, or-right, or-neither, map-same-places}
+use lib.ListN.{length, getD, take, length-append, length-take, length-map, take-append-drop}
+use lib.Seq.{take-suc, take-all, getD-take}
+use Rattle.network.specs.Lists.{pick, any, keep, below, pairsOf}
+use Rattle.network.proofs.Laws.Lists.{zero-ne-one, or-left, or-right, or-neither, map-same-places, getD-map}
 
 -- ---- by places; `d` is what is read behind a list's end
 
@@ -312,3 +312,67 @@ pairsOf-same-places f g (x ∷ xs) (y ∷ ys) d m h =
     let shorter : length xs ≡ length ys = omega (arith, m) in
     ap₂ _++_ (map-same-places (f x) (g y) xs ys d d shorter (λ i l. h 0 (suc i) (zero-lt-suc i) (suc-le-suc l)))
     (pairsOf-same-places f g xs ys d shorter (λ j k l o. h (suc j) (suc k) (suc-le-suc l) (suc-le-suc o)))
+
+-- ---- what is kept, and every two, under another test, with a list behind, and under a map
+
+module _ {A : Type 0} where
+  -- two tests that agree on a list's elements
+  pub keep-same : (p q : A → Bool) (xs : List A) → ((a : A) → List·Memᴰ a xs → p a ≡ q a) → keep p xs ≡ keep q xs
+  unfolding keep
+  keep-same p q [] h = refl
+  keep-same p q (x ∷ xs) h =
+      ap₂ (λ (t : Bool) (l : List A). pick t (x ∷ l) l) (h x (List·Memᴰ·head refl)) (keep-same p q xs (λ a m. h a (List·Memᴰ·tail m)))
+
+  -- every two of a list and another behind it
+  pub everyTwo-append : (R : A → A → Type 0) (xs ys : List A) → EveryTwo R xs → EveryTwo R ys
+      → ((x y : A) → List·Memᴰ x xs → List·Memᴰ y ys → R x y) → EveryTwo R (xs ++ ys)
+  everyTwo-append R [] ys f g h = g
+  everyTwo-append R (x ∷ xs) ys f g h =
+      (λ y m. go y (List·Memᴰ·append-cases xs m), everyTwo-append R xs ys (f .1) g (λ a b m. h a b (List·Memᴰ·tail m)))
+    where
+      go : (y : A) → List·Memᴰ y xs ⊎ List·Memᴰ y ys → R x y
+      go y (inl m) = f .0 y m
+      go y (inr m) = h x y (List·Memᴰ·head refl) m
+
+pub all-map : {A B : Type 0} (f : A → B) (P : B → Type 0) (d : A) (e : B) (xs : List A) → All d (λ a. P (f a)) xs → All e P (map f xs)
+all-map f P d e xs h i l = let m : i < length xs = omega (arith, l, length-map xs f) in rw (getD-map f xs i d e m) (h i m)
+
+module _ {A B : Type 0} (f : A → B) (R : B → B → Type 0) where
+  pub everyTwo-map : (xs : List A) → EveryTwo (λ a b. R (f a) (f b)) xs → EveryTwo R (map f xs)
+  everyTwo-map [] e = tt
+  everyTwo-map (x ∷ xs) e =
+      (λ y m. let (z, k, is) = Memᴰ·of-map f xs m in subst (R (f x)) is (e .0 z k), everyTwo-map xs (e .1))
+
+  pub everyTwo-of-map : (xs : List A) → EveryTwo R (map f xs) → EveryTwo (λ a b. R (f a) (f b)) xs
+  everyTwo-of-map [] e = tt
+  everyTwo-of-map (x ∷ xs) e = (λ y m. e .0 (f y) (Memᴰ·map f m), everyTwo-of-map xs (e .1))
+
+module _ {A B : Type 0} where
+  -- those that pass, before or after a map
+  pub map-keep : (f : A → B) (p : B → Bool) (xs : List A) → map f (keep (λ x. p (f x)) xs) ≡ keep p (map f xs)
+  unfolding keep
+  map-keep f p [] = refl
+  map-keep f p (x ∷ xs) = go (p (f x)) (map-keep f p xs)
+    where
+      go : (t : Bool) → map f (keep (λ x. p (f x)) xs) ≡ keep p (map f xs)
+          → map f (pick t (x ∷ keep (λ x. p (f x)) xs) (keep (λ x. p (f x)) xs)) ≡ pick t (f x ∷ keep p (map f xs)) (keep p (map f xs))
+      go true e = ap (λ (l : List B). f x ∷ l) e
+      go false e = e
+
+-- What a list keeps, by the places that pass
+module _ {A : Type 0} (d : A) (p : A → Bool) (xs : List A) where
+  map-below-take : (k : ℕ) → k ≤ length xs → map (λ i. getD xs i d) (below (λ i. p (getD xs i d)) k) ≡ keep p (take k xs)
+  unfolding below keep
+  map-below-take zero h = refl
+  map-below-take (suc k) h =
+      map-append (λ i. getD xs i d) (below (λ i. p (getD xs i d)) k) (pick (p (getD xs k d)) (k ∷ []) [])
+      ∙ ap₂ _++_ (map-below-take k (omega arith)) (go (p (getD xs k d)))
+      ∙ sym (keep-take-next p xs k d (p (getD xs k d)) (omega arith) refl)
+      ∙ ap (λ (i : ℕ). keep p (take i xs)) (add-one k)
+    where
+      go : (t : Bool) → map (λ i. getD xs i d) (pick t (k ∷ []) []) ≡ pick t (getD xs k d ∷ []) []
+      go true = refl
+      go false = refl
+
+  pub map-below-all : map (λ i. getD xs i d) (below (λ i. p (getD xs i d)) (length xs)) ≡ keep p xs
+  map-below-all = map-below-take (length xs) (omega arith) ∙ ap (keep p) (take-all (length xs) xs (le-refl _))
