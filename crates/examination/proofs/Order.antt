@@ -170,7 +170,7 @@ pub use Rattle.examination.proofs.ExportBoard.{board-export-lists, boar
 -- "An unserved stop gives an empty list"; at most 32 arrivals for each minute, windows side by side, and starts and window moved together
 pub use Rattle.network.proofs.StopBoard.{board-unserved, board-no-minutes, board-length-le, board-side-by-side, board-moved, board-rows-moved}
 -- "Ground 15 precedes ground 8, which here has place 0. (22: length above 10,080, after 8; 23: a row shorter than the list, after 22; both at place 0.)": with
--- every other ground under demand 1, in this order (`BoardRefuses` of network/specs/Refusals.antt)
-
+-- every other ground under demand 1, in this order (`BoardRefuses` of network/specs/Refusals.antt); 8 at place 0 is never a file's own
+pub use Rattle.network.proofs.StopBoard.{board-eight-at-zero}
 -- The request's boards by evaluation
 pub use Rattle.network.proofs.StopBoard.{two-lines, half-open, one-minute, far-apart}

@@ -2,7 +2,8 @@
 -- Laws/Valid.antt) and all integer starts: the computed list is the board over all trips, past and future, and its rows are the only ones. It holds since
 -- minute by minute the calls that arrive are those with a trip then, in their order: Laws/Board.antt; the cases compute. Assumes nothing.
 use Prim.Native.Nat.{ℕ, _+_, _*_, _<_, _≤_}
-use mathlib.Core.Path.{_≡_, refl, sym, _∙_}
+use mathlib.Core.Path.{_≡_, refl, sym, ap₂, _∙_}
+use native.Mathlib.Omega.{arith}
 use mathlib.Core.Bool.{false}
 use mathlib.Core.List.{List, [], _∷_, _++_, map}
 use lib.IntN.{ℤ, pos, negsuc, _+ℤ_}
@@ -19,13 +20,14 @@ use Rattle.network.specs.Gap.{residue}
 use Rattle.network.specs.Rating.{arrivalOf, periodOf, CallsThere}
 use Rattle.network.specs.Archive.{SameOffsets}
 use Rattle.network.specs.Tidy.{insertBy, sortBy, notAfter}
-use Rattle.network.specs.Reading.{Outcome, values, refusal, readFile, accepted}
-use Rattle.network.specs.Refusals.{Fits, BoardRefuses, Demand1}
+use Rattle.network.specs.Reading.{Outcome, values, refusal, readFile, accepted, refused}
+use Rattle.network.specs.Refusals.{Fits, BoardRefuses, of-file, of-sheet, of-stop, of-length, of-row, Demand1}
 use Rattle.network.specs.Board.{Window, window, Arrival, callAt, tripAt, InWindow, IsBoard, arrives, boardCalls, boardAt, boardFrom, board, times, lines}
 use Rattle.network.specs.Board.{maxMinutes, boardAnswer}
 use Rattle.network.proofs.Laws.Board as law
 use Rattle.network.proofs.Laws.BoardCall.{board-refuses, board-refuses-only, board-rows-as-found, board-answers}
 use Rattle.network.proofs.Laws.Gap.{trip-injective}
+use Rattle.network.proofs.Laws.Reading.{no-8-at-0}
 use Rattle.network.proofs.Laws.Valid.{accepted-valid}
 use Rattle.network.proofs.Demands.{alike-of-bytes}
 use Rattle.network.proofs.board.board as board-call
@@ -174,6 +176,18 @@ module _ (κs : Lfts 4) (a : ArgsD board-call.signature κs) (r : ResD board-cal
             let (times-are, lines-are) = board-rows-as-found (file κs a) (sheet κs a) (asked κs a) (timeRow κs a) (lineRow κs a) (sym (kept .0) ∙ e) in
             (kept .1 .0 ∙ times-are, kept .1 .1 .0 ∙ lines-are);
       }
+
+  -- A refusal by 8 at place 0 is by the stop that was asked for: no file is refused so
+  pub board-eight-at-zero : boardAnswer r ≡ refusal 8 0 → maxStop < asked κs a .stop
+  board-eight-at-zero e = go (board-demand-1 .no-other-is-refused 8 0 e) refl refl
+    where
+      go : {number place : ℕ} → BoardRefuses (file κs a) (Fits (sheet κs a)) (sheet κs a) (asked κs a) (timeRow κs a) (lineRow κs a) number place
+          → number ≡ 8 → place ≡ 0 → maxStop < asked κs a .stop
+      go (of-file {number = number} {place = place} reads) is there = absurd (no-8-at-0 (file κs a) (reads ∙ ap₂ refused is there))
+      go (of-sheet reads differ) is there = absurd (omega (arith, is))
+      go (of-stop reads fits high) is there = high
+      go (of-length reads fits low long) is there = absurd (omega (arith, is))
+      go (of-row reads fits low within short) is there = absurd (omega (arith, is))
 
   -- Every arrival in the window, on an accepted file and a sheet that fits, at a stop up to 63 and for up to 10,080 minutes, in rows that are long enough
   pub board-lists : {n : Net} → readFile (file κs a) ≡ accepted n → length (sheet κs a) ≡ length (n .periods) → asked κs a .stop ≤ maxStop → asked κs a .minutes ≤ maxMinutes

@@ -136,27 +136,27 @@ boardAnswer (answer.Listed count) = values (count ∷ [])
 boardAnswer (answer.Refused number place) = refusal number place
 
 -- A refusal, or what stands where no ground applies
-unfoldable pub unless : {A : Type 0} → Check → (ℕ → ℕ → A) → A → A
-unless (Refused number place) refuses a = refuses number place
-unless Passes refuses a = a
+unfoldable pub refusedOr : {A : Type 0} → Check → (ℕ → ℕ → A) → A → A
+refusedOr (Refused number place) refuses a = refuses number place
+refusedOr Passes refuses a = a
 
 -- What the board call has to answer, given how long the rows are: the file's refusal, then its own grounds, then the count
 unfoldable pub boardOutcome : Window → ℕ → ℕ → Reading → List ℤ → Outcome
 boardOutcome w timeRow lineRow (refused number place) starts = refusal number place
 boardOutcome w timeRow lineRow (accepted n) starts =
-    unless (first (boardGrounds n starts w timeRow lineRow)) refusal (values (length (board n starts w) ∷ []))
+    refusedOr (first (boardGrounds n starts w timeRow lineRow)) refusal (values (length (board n starts w) ∷ []))
 
 -- What the lent row of times holds afterwards, given both rows as they were: the board's times and behind them what it held; where the call refuses,
 -- what it held
 unfoldable pub timeRowAfter : Window → List ℤ → List ℕ → Reading → List ℤ → List ℤ
 timeRowAfter w timeRow lineRow (refused number place) starts = timeRow
 timeRowAfter w timeRow lineRow (accepted n) starts =
-    unless (first (boardGrounds n starts w (length timeRow) (length lineRow))) (λ number place. timeRow)
+    refusedOr (first (boardGrounds n starts w (length timeRow) (length lineRow))) (λ number place. timeRow)
     (times (board n starts w) ++ drop (length (board n starts w)) timeRow)
 
 -- The same of the lent row of lines
 unfoldable pub lineRowAfter : Window → List ℤ → List ℕ → Reading → List ℤ → List ℕ
 lineRowAfter w timeRow lineRow (refused number place) starts = lineRow
 lineRowAfter w timeRow lineRow (accepted n) starts =
-    unless (first (boardGrounds n starts w (length timeRow) (length lineRow))) (λ number place. lineRow)
+    refusedOr (first (boardGrounds n starts w (length timeRow) (length lineRow))) (λ number place. lineRow)
     (lines n (board n starts w) ++ drop (length (board n starts w)) lineRow)

@@ -15,7 +15,7 @@ use Rattle.network.specs.Network.{Net, maxStop}
 use Rattle.network.specs.Grounds.{Ground, _at_when_, first}
 use Rattle.network.specs.Reading.{Reading, accepted, refused, Outcome, values, refusal, readFile}
 use Rattle.network.specs.Refusals.{BoardRefuses, Fits, Unfit, of-file, of-sheet, of-stop, of-length, of-row}
-use Rattle.network.specs.Board.{Window, window, Arrival, board, times, lines, maxMinutes, boardGrounds, unless, boardOutcome, timeRowAfter, lineRowAfter}
+use Rattle.network.specs.Board.{Window, window, Arrival, board, times, lines, maxMinutes, boardGrounds, refusedOr, boardOutcome, timeRowAfter, lineRowAfter}
 use Rattle.network.specs.Engine.Due.{askedGrounds, tooShort, listedOutcome, listedTimes, listedLines}
 use Rattle.network.proofs.Laws.Lists.{zero-ne-one, or-left, or-right}
 use Rattle.network.proofs.Laws.Grounds.{first-passes, first-append-hit, first-append-miss}
@@ -51,10 +51,10 @@ asked-pass lines starts stop minutes e =
     (eqb-true starts lines (not-false (eqb starts lines) fits), ltb-false maxStop stop stated, ltb-false maxMinutes minutes within)
 
 -- Where the rows alone decide
-unless-rows : {A : Type 0} (t : Bool) (refuses : ℕ → ℕ → A) (a : A) → unless (first ((23 at 0 when t) ∷ [])) refuses a ≡ pick t (refuses 23 0) a
-unfolding unless first
-unless-rows true refuses a = refl
-unless-rows false refuses a = refl
+refusedOr-rows : {A : Type 0} (t : Bool) (refuses : ℕ → ℕ → A) (a : A) → refusedOr (first ((23 at 0 when t) ∷ [])) refuses a ≡ pick t (refuses 23 0) a
+unfolding refusedOr first
+refusedOr-rows true refuses a = refl
+refusedOr-rows false refuses a = refl
 
 -- ---- the answer and the rows afterwards
 
@@ -73,7 +73,7 @@ module _ (w : Window) (read : Reading) (starts : List ℤ) (timeRow : List ℤ) 
     -- a ground that needs no list applies, such as the sheet's
     pub called-asked : {number place : ℕ} → first (askedGrounds (length (n .periods)) (length starts) (w .stop) (w .minutes)) ≡ Refused number place
         → Called w read starts timeRow lineRow (refusal number place) timeRow lineRow
-    unfolding boardOutcome timeRowAfter lineRowAfter unless
+    unfolding boardOutcome timeRowAfter lineRowAfter refusedOr
     called-asked e = rw (reads, grounds-asked n starts w (length timeRow) (length lineRow) e) (refl, (refl, refl))
 
     pub called-unfit : Unfit starts n → Called w read starts timeRow lineRow (refusal 15 0) timeRow lineRow
@@ -88,7 +88,7 @@ module _ (w : Window) (read : Reading) (starts : List ℤ) (timeRow : List ℤ) 
     unfolding boardOutcome timeRowAfter lineRowAfter listedOutcome listedTimes listedLines
     called-listed e a t l =
         let decides = grounds-rows n starts w (length timeRow) (length lineRow) e in
-        rw (reads, decides) (a ∙ sym (unless-rows short _ _), (t ∙ sym (unless-rows short _ _), l ∙ sym (unless-rows short _ _)))
+        rw (reads, decides) (a ∙ sym (refusedOr-rows short _ _), (t ∙ sym (refusedOr-rows short _ _), l ∙ sym (refusedOr-rows short _ _)))
       where
         short : Bool
         short = tooShort (board n starts w) (length timeRow) (length lineRow)
@@ -140,7 +140,7 @@ module _ (file : List ℕ) (sheet : List ℤ) (w : Window) (timeRow : List ℤ) 
 
   board-refused : {number place : ℕ} (read : Reading) → readFile file ≡ read → boardOutcome w (length timeRow) (length lineRow) read sheet ≡ refusal number place
       → BoardRefuses file (Fits sheet) sheet w timeRow lineRow number place × Untouched read
-  unfolding boardOutcome timeRowAfter lineRowAfter boardGrounds first unless
+  unfolding boardOutcome timeRowAfter lineRowAfter boardGrounds first refusedOr
   board-refused (refused number′ place′) e h = (of-file (e ∙ same-refusal h), (refl, refl))
   board-refused {number} {place} (accepted n) e h =
       go (eqb (length sheet) (length (n .periods))) (ltb maxStop (w .stop)) (ltb maxMinutes (w .minutes)) (ltb (length timeRow) (length list))
@@ -161,10 +161,10 @@ module _ (file : List ℕ) (sheet : List ℤ) (w : Window) (timeRow : List ℤ) 
 
       go : (a b c d f : Bool) → eqb (length sheet) (length (n .periods)) ≡ a → ltb maxStop (w .stop) ≡ b → ltb maxMinutes (w .minutes) ≡ c
           → ltb (length timeRow) (length list) ≡ d → ltb (length lineRow) (length list) ≡ f
-          → unless (first (tried a b c d f)) refusal (values (length list ∷ [])) ≡ refusal number place
+          → refusedOr (first (tried a b c d f)) refusal (values (length list ∷ [])) ≡ refusal number place
           → Refuses number place
-          × ((unless (first (tried a b c d f)) (λ number place. timeRow) (times list ++ drop (length list) timeRow) ≡ timeRow)
-          × (unless (first (tried a b c d f)) (λ number place. lineRow) (lines n list ++ drop (length list) lineRow) ≡ lineRow))
+          × ((refusedOr (first (tried a b c d f)) (λ number place. timeRow) (times list ++ drop (length list) timeRow) ≡ timeRow)
+          × (refusedOr (first (tried a b c d f)) (λ number place. lineRow) (lines n list ++ drop (length list) lineRow) ≡ lineRow))
       go false b c d f ea eb ec ed ef g = (named 15 0 (of-sheet e (eqb-false _ _ ea)) g, (refl, refl))
       go true true c d f ea eb ec ed ef g = (named 8 0 (of-stop e (eqb-true _ _ ea) (ltb-true _ _ eb)) g, (refl, refl))
       go true false true d f ea eb ec ed ef g =
@@ -188,7 +188,7 @@ module _ (file : List ℕ) (sheet : List ℤ) (w : Window) (timeRow : List ℤ) 
       → (answered ≡ values (length (board n sheet w) ∷ []))
       × (timeRowAfter w timeRow lineRow (readFile file) sheet ≡ times (board n sheet w) ++ drop (length (board n sheet w)) timeRow)
       × (lineRowAfter w timeRow lineRow (readFile file) sheet ≡ lines n (board n sheet w) ++ drop (length (board n sheet w)) lineRow)
-  unfolding boardOutcome timeRowAfter lineRowAfter boardGrounds first unless
+  unfolding boardOutcome timeRowAfter lineRowAfter boardGrounds first refusedOr
   board-answers {n} reads fits low within timesFit linesFit =
       let list = length (board n sheet w) in
       rw (

@@ -247,11 +247,11 @@ edition-fits-passes f p behind fits =
 
 -- ---- what a refusal names: a ground of the file, and the command's place or, by ground 14, the next
 
-abbrev AllNamed : (ℕ → ℕ → Type 0) → List Ground → Type 0
+abbrev pub AllNamed : (ℕ → ℕ → Type 0) → List Ground → Type 0
 AllNamed P [] = Unit {0}
 AllNamed P ((number at place when t) ∷ gs) = P number place × AllNamed P gs
 
-first-named : (P : ℕ → ℕ → Type 0) (gs : List Ground) (number place : ℕ) → AllNamed P gs → first gs ≡ Refused number place
+pub first-named : (P : ℕ → ℕ → Type 0) (gs : List Ground) (number place : ℕ) → AllNamed P gs → first gs ≡ Refused number place
     → P number place
 unfolding first
 first-named P [] number place h e = absurd (zero-ne-one (cc))

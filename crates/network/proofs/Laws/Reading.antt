@@ -1,7 +1,7 @@
 -- Laws of reading a file: it is read from one command's place to the next, and each command that passes opens the file or makes the network one line
 -- or one call longer, which bounds the place. Assumes nothing.
 use Prim.Native.Nat.{ℕ, zero, suc, _+_, _*_, _≤_, _<_}
-use mathlib.Core.Path.{_≡_, refl, sym, ap, _∙_, subst}
+use mathlib.Core.Path.{_≡_, refl, sym, ap, ap₂, _∙_, subst}
 use mathlib.Core.Bool.{Bool, true, false}
 use mathlib.Core.List.{List, [], _∷_, _++_}
 use mathlib.Core.Logic.{inl, ⊎-elim}
@@ -14,14 +14,14 @@ use Rattle.network.specs.declared.Call.{Call}
 use Rattle.network.specs.declared.Check.{Check}
 use Rattle.network.specs.declared.Check.the-variants.{Passes, Refused}
 use Rattle.network.specs.Network.{Net, SoFar, nothingRead, Command, statesLine, callsByOffset, callsByRide, ends, statesEdition, unknown}
-use Rattle.network.specs.Network.{maxLines, maxCalls, command, operandBytes, word, lineOperand, stopOperand, editionOperand}
+use Rattle.network.specs.Network.{firstEdition, maxLines, maxCalls, command, operandBytes, word, lineOperand, stopOperand, editionOperand}
 use Rattle.network.specs.Network.{statedOffset, rideOffset, withEdition, withLine, withCall, callOf, withNetwork, extend}
-use Rattle.network.specs.Grounds.{first, grounds, callGrounds, cutOff}
+use Rattle.network.specs.Grounds.{Ground, _at_when_, first, grounds, callGrounds, cutOff}
 use Rattle.network.specs.Reading.{Reading, accepted, refused, proceed, readFrom, readFile}
 use Rattle.network.specs.Gives.{Reached, start, next, Gives, runs-out, refuses, accepts}
 use Rattle.network.specs.Refusals.{OfFile}
 use Rattle.network.proofs.Laws.Lists.{zero-ne-one}
-use Rattle.network.proofs.Laws.Grounds.{line-passes, offset-passes, ride-passes, edition-passes, refused-named}
+use Rattle.network.proofs.Laws.Grounds.{line-passes, offset-passes, ride-passes, edition-passes, AllNamed, first-named, refused-named}
 
 -- The operands of the command before are passed over
 pub readFrom-skip : (f : SoFar) (p k : ℕ) (bs : List ℕ) → k ≤ length bs → readFrom f p k bs ≡ readFrom f (p + k) 0 (drop k bs)
@@ -298,3 +298,52 @@ readFrom-take f p zero (suc m) (b ∷ bs) r h =
 pub first-4096 : (file : List ℕ) → readFile (take 4096 file) ≡ readFile file
 unfolding readFile
 first-4096 file = readFrom-take nothingRead 0 0 4096 file within-nothing (omega arith)
+
+-- ---- ground 8, the stop, never refuses a file at its first byte: no line is stated there, so that 7 comes first
+
+reached-at-start : {file : List ℕ} {f : SoFar} {p : ℕ} {rest : List ℕ} → Reached file f p rest → p ≡ 0 → f ≡ nothingRead
+reached-at-start start e = refl
+reached-at-start (next r passes onward) e = absurd (omega (arith, e))
+
+not-8 : (gs : List Ground) {place : ℕ} → AllNamed (λ number q. number ≡ 8 → ⊥) gs → first gs ≡ Refused 8 place → ⊥
+not-8 gs named e = first-named (λ number q. number ≡ 8 → ⊥) gs 8 _ named e refl
+
+-- .. nor behind 7, where that applies
+not-8-behind : (front gs : List Ground) (t : Bool) {place : ℕ} → AllNamed (λ number q. number ≡ 8 → ⊥) front → t ≡ true
+    → first (front ++ (7 at 0 when t) ∷ gs) ≡ Refused 8 place → ⊥
+unfolding first
+not-8-behind [] gs true named e is = zero-ne-one (cc)
+not-8-behind [] gs false named e is = zero-ne-one (cc)
+not-8-behind ((number at q when true) ∷ front) gs t named e is = let same : number ≡ 8 = cc in named .0 same
+not-8-behind ((number at q when false) ∷ front) gs t named e is = not-8-behind front gs t (named .1) e is
+
+no-stop-at-start : (c : Command) (behind : List ℕ) {place : ℕ} → first (grounds c nothingRead 0 behind) ≡ Refused 8 place → ⊥
+unfolding grounds callGrounds
+no-stop-at-start statesLine behind e =
+    not-8 (grounds statesLine nothingRead 0 behind) (λ q. omega (arith, q), (λ q. omega (arith, q), (λ q. omega (arith, q), (λ q. omega (arith, q), tt)))) e
+no-stop-at-start callsByOffset behind e =
+    not-8-behind ((3 at 0 when cutOff callsByOffset behind) ∷ []) _ (leb 0 (lineOperand behind)) (λ q. omega (arith, q), tt)
+    (le-leb 0 (lineOperand behind) (omega arith)) e
+no-stop-at-start callsByRide behind e =
+    not-8-behind ((3 at 0 when cutOff callsByRide behind) ∷ (19 at 0 when ltb firstEdition firstEdition) ∷ []) _ (leb 0 (lineOperand behind))
+    (λ q. omega (arith, q), (λ q. omega (arith, q), tt)) (le-leb 0 (lineOperand behind) (omega arith)) e
+no-stop-at-start ends behind e = not-8 (grounds ends nothingRead 0 behind) (λ q. omega (arith, q), (λ q. omega (arith, q), tt)) e
+no-stop-at-start statesEdition behind e =
+    not-8 (grounds statesEdition nothingRead 0 behind) (λ q. omega (arith, q), (λ q. omega (arith, q), (λ q. omega (arith, q), tt))) e
+no-stop-at-start unknown behind e = not-8 (grounds unknown nothingRead 0 behind) (λ q. omega (arith, q), tt) e
+
+pub no-8-at-0 : (file : List ℕ) → readFile file ≡ refused 8 0 → ⊥
+no-8-at-0 file e = go (readFile-gives file) e
+  where
+    go : {r : Reading} → Gives file r → r ≡ refused 8 0 → ⊥
+    go (runs-out r) is = zero-ne-one (cc)
+    go (refuses {f = f} {p = p} {b = b} {behind = behind} {number = number} {place = place} r h) is =
+        let number-is : number ≡ 8 = cc in
+        let place-is : place ≡ 0 = cc in
+        let here : p ≡ 0 = omega (arith, place-is, refused-named (command b) f p behind number place h .1) in
+        let first-here : first (grounds (command b) nothingRead 0 behind) ≡ Refused 8 0 =
+        ap₂ (λ (g : SoFar) (q : ℕ). first (grounds (command b) g q behind)) (sym (reached-at-start r here)) (sym here)
+        ∙ h
+        ∙ ap₂ Refused number-is place-is in
+        no-stop-at-start (command b) behind first-here
+    go (accepts r ends-it passes) is = zero-ne-one (cc)

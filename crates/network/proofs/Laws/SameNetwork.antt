@@ -12,7 +12,7 @@ use Rattle.network.specs.declared.Call.{Call}
 use Rattle.network.specs.declared.Check.{Check}
 use Rattle.network.specs.declared.Rating.{Rating}
 use Rattle.network.specs.Archive.{tidied, SameOffsets}
-use Rattle.network.specs.Board.{Window, maxMinutes, boardGrounds, unless, boardOutcome, timeRowAfter, lineRowAfter}
+use Rattle.network.specs.Board.{Window, maxMinutes, boardGrounds, refusedOr, boardOutcome, timeRowAfter, lineRowAfter}
 use Rattle.network.specs.ClassCall.{rowsFit, classOutcome, classRowAfter, weightRowAfter, weightedRating, weightedOutcome}
 use Rattle.network.specs.Classes.{ordered, remainder, sameLine, sameRemainder, isAlike, firstBelow, lowestAlike, isLowest, table, unserved, classRow, weightRow, classCount}
 use Rattle.network.specs.Divisor.{commonCycle}
@@ -173,9 +173,9 @@ board-plain : (n : Net) (w : Window) (timeRow : List ℤ) (lineRow : List ℕ) (
 unfolding boardOutcome timeRowAfter lineRowAfter boardGrounds plain tidied
 board-plain n w timeRow lineRow sheet =
     let (long, times-are, lines-are) = board-rows-same (plain n) n sheet w (periods-plain n) (ordered-plain n (w .stop)) in (
-      ap (λ (k : ℕ). unless (checked k) refusal (values (k ∷ []))) long,
-      ap₂ (λ (k : ℕ) (l : List ℤ). unless (checked k) (λ number place. timeRow) (l ++ drop k timeRow)) long times-are,
-      ap₂ (λ (k : ℕ) (l : List ℕ). unless (checked k) (λ number place. lineRow) (l ++ drop k lineRow)) long lines-are,
+      ap (λ (k : ℕ). refusedOr (checked k) refusal (values (k ∷ []))) long,
+      ap₂ (λ (k : ℕ) (l : List ℤ). refusedOr (checked k) (λ number place. timeRow) (l ++ drop k timeRow)) long times-are,
+      ap₂ (λ (k : ℕ) (l : List ℕ). refusedOr (checked k) (λ number place. lineRow) (l ++ drop k lineRow)) long lines-are,
     )
   where
     checked : ℕ → Check
