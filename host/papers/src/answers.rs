@@ -2,12 +2,15 @@
 //! nobody but the wrapper makes a best.
 
 use crate::sections;
+use crate::sections::board;
 use crate::sections::hundred;
 use crate::sections::network::Network;
 use crate::sections::sheets::Marked;
 use crate::sections::walk::{Answer, Walked};
 use crate::sections::wanted::{self, Sought};
-use engine::{Better, Classes, Counts, Ground, Hundred, Mark, Rating, Refusal, Searched, Wanted};
+use engine::{
+    Arrival, Better, Classes, Counts, Ground, Hundred, Mark, Rating, Refusal, Searched, Wanted,
+};
 
 pub fn refusal(paper: sections::network::Refusal) -> Refusal {
     let number = u32::from(paper.number);
@@ -119,4 +122,9 @@ pub fn marked(paper: Marked) -> Mark {
             tries,
         },
     }
+}
+
+pub fn arrivals(paper: &[board::Arrival]) -> Vec<Arrival> {
+    let arrival = |&board::Arrival { time, line }| Arrival { time, line };
+    paper.iter().map(arrival).collect()
 }

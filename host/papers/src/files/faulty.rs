@@ -13,8 +13,8 @@ use crate::sections::network::{
 pub const GROUNDS: [u8; 17] = [1, 2, 3, 4, 5, 6, 7, 8, 9, 10, 11, 12, 13, 14, 19, 20, 21];
 
 /// The outcomes that a test counts: accepted, at 0, and each ground at its number,
-/// those of sheets and rows too.
-pub const OUTCOMES: usize = 22;
+/// those of sheets, rows and boards too.
+pub const OUTCOMES: usize = 24;
 
 /// A refused file with the place that the papers give it.
 #[derive(Clone, Debug, PartialEq, Eq)]

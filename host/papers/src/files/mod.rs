@@ -13,6 +13,7 @@
 //! | `large.rs`    | full files, files at the limits, very long files        |
 //! | `any.rs`      | files of every kind                                     |
 //! | `sheets.rs`   | sheets, budgets and wanted gaps                         |
+//! | `windows.rs`  | stops, minutes and lengths of boards                    |
 
 mod any;
 mod bytes;
@@ -24,6 +25,7 @@ mod large;
 mod retyped;
 mod sheets;
 mod valid;
+mod windows;
 
 pub use any::any_file;
 pub use bytes::{likely_bytes, random_bytes};
@@ -37,3 +39,4 @@ pub use sheets::{any_budget, any_gap, any_sheet, any_sheet_bytes, any_start, she
 pub use valid::{
     any_size, roomy_file, valid_commands, valid_commands_of, valid_file, Size, CYCLES,
 };
+pub use windows::{any_window, fullest_file, window};

@@ -13,9 +13,12 @@
 //! | `archive.rs`  | document 02, A.1: the archive form; ground 18       |
 //! | `wanted.rs`   | document 02, A.3: a wanted gap; ground 16           |
 //! | `hundred.rs`  | document 02, A.5: marks out of a hundred            |
+//! | `board.rs`    | document 02, A.7: a board for one stop; grounds 8   |
+//! |               | of a stop that is asked for, 22 and 23              |
 
 pub mod archive;
 pub mod best;
+pub mod board;
 pub mod caps;
 pub mod classes;
 pub mod hundred;

@@ -45,7 +45,7 @@ impl Marked {
 }
 
 /// Reads the file, then tests the sheet's length.
-fn read_both(file: &[u8], sheet: &[i32]) -> Result<Network, Refusal> {
+pub(super) fn read_both(file: &[u8], sheet: &[i32]) -> Result<Network, Refusal> {
     let net = read(file)?;
     match sheet.len() == net.lines() {
         true => Ok(net),
@@ -130,7 +130,7 @@ pub fn better_bytes(file: &[u8], first: &[u8], second: &[u8]) -> Better {
 
 /// Reads the file, then takes the byte sheet apart: "a byte count other than
 /// 4×lines is ground 15".
-fn read_both_bytes(file: &[u8], sheet: &[u8]) -> Result<Vec<i32>, Refusal> {
+pub(super) fn read_both_bytes(file: &[u8], sheet: &[u8]) -> Result<Vec<i32>, Refusal> {
     let net = read(file)?;
     match sheet.len() == 4 * net.lines() {
         true => Ok(starts_from_bytes(sheet)),
