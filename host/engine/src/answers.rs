@@ -7,6 +7,22 @@
 /// ```
 pub const STOPS: usize = 64;
 
+/// A board is of so many minutes at most; a longer one is refused.
+///
+/// ```
+/// assert_eq!(engine::LONGEST_BOARD, 10_080);
+/// ```
+pub const LONGEST_BOARD: u32 = 10_080;
+
+/// A stop has so many calls at most: those of 16 lines, twice each. A call arrives once
+/// a minute at most, so that rows of this many places for each minute are long enough
+/// for every board.
+///
+/// ```
+/// assert_eq!(engine::MOST_CALLS_AT_STOP, 32);
+/// ```
+pub const MOST_CALLS_AT_STOP: usize = 32;
+
 /// A timetable's rating. The order is that of ratings: the least gap first,
 /// then the sum.
 ///
@@ -65,6 +81,24 @@ pub struct Classes {
     pub weight_row: [u16; STOPS],
     /// The number of classes, 1 to 64.
     pub count: u32,
+}
+
+/// An arrival on a stop's board. The order is that of the board: by time, then line.
+///
+/// ```
+/// use engine::{Arrival, Sheet};
+///
+/// // Line 0 every 15 minutes, reaching stop 0 after 8.
+/// let network = engine::typed::read(b"4C000F 4300000008 45").unwrap();
+/// let board = engine::board(network.bytes(), &Sheet::of_starts(&[0]), 0, -10, 20).unwrap();
+/// assert_eq!(board, [-7, 8].map(|time| Arrival { time, line: 0 }));
+/// ```
+#[derive(Clone, Copy, Debug, PartialEq, Eq, PartialOrd, Ord)]
+pub struct Arrival {
+    /// The minute, counted as the sheet's starts are.
+    pub time: i64,
+    /// The line, counted from 0.
+    pub line: u8,
 }
 
 /// How a search ended. Only a finished search has a [`Best`].

@@ -2,8 +2,8 @@
 //! here; every number is the engine's.
 
 use crate::answers::{
-    Best, Better, Classes, Counts, Hundred, Mark, Rating, RowSearched, RowWanted, Searched, SoFar,
-    Wanted, STOPS,
+    Arrival, Best, Better, Classes, Counts, Hundred, Mark, Rating, RowSearched, RowWanted,
+    Searched, SoFar, Wanted, LONGEST_BOARD, MOST_CALLS_AT_STOP, STOPS,
 };
 use crate::exports;
 use crate::ground::Ground;
@@ -140,6 +140,84 @@ pub fn classes_into(
     const EXPORT: &str = "examination_classes";
     let mut answer = [0; 1];
     let returned = exports::classes(file, class_row, weight_row, &mut answer);
+    match answered(EXPORT, returned)? {
+        0 => Ok(answer[0]),
+        other => unknown(EXPORT, other),
+    }
+}
+
+/// The board of a stop under a sheet: every arrival from the first minute until before
+/// that many minutes later, by time and then line, each as often as calls produce it. A
+/// call produces the line's start plus its offset, and every whole number of periods
+/// before and behind it. Where no line calls the board is empty.
+///
+/// ```
+/// use engine::{typed, Arrival, Ground, Sheet};
+///
+/// let network = typed::read(b"4C000F 4C0014 4300000008 4301000011 45")?;
+/// let board = |stop, first, length| {
+///     engine::board(network.bytes(), &Sheet::of_starts(&[0, 0]), stop, first, length)
+/// };
+/// let arrivals = [(8, 0), (17, 1), (23, 0)].map(|(time, line)| Arrival { time, line });
+/// assert_eq!(board(0, 0, 24), Ok(arrivals.to_vec()));
+/// // Before minute 0, and at a stop where no line calls.
+/// assert_eq!(board(0, -3, 3), Ok(vec![Arrival { time: -3, line: 1 }]));
+/// assert_eq!(board(63, 0, 10_080), Ok(vec![]));
+///
+/// assert_eq!(board(64, 0, 10_081).unwrap_err().ground, Ground::Stop);
+/// assert_eq!(board(63, 0, 10_081).unwrap_err().ground, Ground::BoardLength);
+/// # Ok::<(), typed::Mistyped>(())
+/// ```
+pub fn board(
+    file: &[u8],
+    sheet: &Sheet,
+    stop: u32,
+    first: i32,
+    length: u32,
+) -> Result<Vec<Arrival>, Refusal> {
+    // A longer one is refused before the rows are looked at.
+    let minutes = if length <= LONGEST_BOARD { length } else { 0 };
+    let most = MOST_CALLS_AT_STOP * minutes as usize;
+    let (mut times, mut lines) = (vec![0; most], vec![0; most]);
+    let count = board_into(file, sheet, stop, first, length, &mut times, &mut lines)?;
+    let arrivals = times[..count as usize].iter().zip(&lines[..count as usize]);
+    Ok(arrivals
+        .map(|(&time, &line)| Arrival { time, line })
+        .collect())
+}
+
+/// As [`board`], to the beginnings of two rows of the caller: the times, and beside them
+/// the lines. What lies behind the list stays as it is, and where the call is refused
+/// both rows do. Returns how many arrivals there are.
+///
+/// ```
+/// use engine::{typed, Ground, Sheet};
+///
+/// let network = typed::read(b"4C000F 4C0014 4300000008 4301000011 45")?;
+/// let sheet = Sheet::of_starts(&[0, 0]);
+/// let (mut times, mut lines) = ([99; 4], [99; 3]);
+/// let mut into = |length| {
+///     engine::board_into(network.bytes(), &sheet, 0, 0, length, &mut times, &mut lines)
+/// };
+/// assert_eq!(into(24), Ok(3));
+/// // A fourth arrival, for which there is a time and no line.
+/// assert_eq!(into(38).unwrap_err().ground, Ground::BoardRowLength);
+/// assert_eq!((times, lines), ([8, 17, 23, 99], [0, 1, 0]));
+/// # Ok::<(), typed::Mistyped>(())
+/// ```
+pub fn board_into(
+    file: &[u8],
+    sheet: &Sheet,
+    stop: u32,
+    first: i32,
+    length: u32,
+    time_row: &mut [i64],
+    line_row: &mut [u8],
+) -> Result<u32, Refusal> {
+    const EXPORT: &str = "examination_board";
+    let mut answer = [0; 1];
+    let asked = (stop, first, length);
+    let returned = exports::board(file, sheet.bytes(), asked, time_row, line_row, &mut answer);
     match answered(EXPORT, returned)? {
         0 => Ok(answer[0]),
         other => unknown(EXPORT, other),

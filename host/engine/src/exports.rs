@@ -89,6 +89,20 @@ extern "C" {
         hundred: *mut [u32; 2],
     ) -> u32;
     fn examination_archive(file: *const u8, file_len: usize, row: *mut u8, row_len: usize) -> u32;
+    fn examination_board(
+        file: *const u8,
+        file_len: usize,
+        sheet: *const u8,
+        sheet_len: usize,
+        stop: u32,
+        first: i32,
+        length: u32,
+        time_row: *mut i64,
+        time_len: usize,
+        line_row: *mut u8,
+        line_len: usize,
+        answer: *mut [u32; 1],
+    ) -> u32;
 }
 
 pub fn read(file: &[u8], answer: &mut [u32; 4]) -> u32 {
@@ -230,4 +244,31 @@ pub fn by_key(file: &[u8], sheet: &[u8], key: &[u8], hundred: &mut [u32; 2]) -> 
 pub fn archive(file: &[u8], row: &mut [u8]) -> u32 {
     // SAFETY: see above.
     unsafe { examination_archive(file.as_ptr(), file.len(), row.as_mut_ptr(), row.len()) }
+}
+
+pub fn board(
+    file: &[u8],
+    sheet: &[u8],
+    (stop, first, length): (u32, i32, u32),
+    time_row: &mut [i64],
+    line_row: &mut [u8],
+    answer: &mut [u32; 1],
+) -> u32 {
+    // SAFETY: see above.
+    unsafe {
+        examination_board(
+            file.as_ptr(),
+            file.len(),
+            sheet.as_ptr(),
+            sheet.len(),
+            stop,
+            first,
+            length,
+            time_row.as_mut_ptr(),
+            time_row.len(),
+            line_row.as_mut_ptr(),
+            line_row.len(),
+            answer,
+        )
+    }
 }

@@ -34,7 +34,8 @@ pub enum Ground {
     Cycle = 6,
     /// 7: the line isn't stated yet.
     LineNotStated = 7,
-    /// 8: the stop is above 63.
+    /// 8: the stop is above 63. Of a board at place 0, and then it is the stop that was
+    /// asked for ([`Refusal::is_of_file`](crate::Refusal::is_of_file)).
     Stop = 8,
     /// 9: the line already calls at this stop twice.
     ThirdCall = 9,
@@ -62,6 +63,10 @@ pub enum Ground {
     EditionNotFirst = 20,
     /// 21: the edition isn't 1 or 2.
     EditionUnknown = 21,
+    /// 22: the board is longer than 10,080 minutes.
+    BoardLength = 22,
+    /// 23: a row is shorter than the board.
+    BoardRowLength = 23,
 }
 
 impl Ground {
@@ -74,7 +79,7 @@ impl Ground {
     ///     assert_eq!(ground.number() as usize, before + 1);
     /// }
     /// ```
-    pub const ALL: [Ground; 21] = [
+    pub const ALL: [Ground; 23] = [
         Ground::NoCommand,
         Ground::UnknownCommand,
         Ground::CutOff,
@@ -96,9 +101,11 @@ impl Ground {
         Ground::RideRetired,
         Ground::EditionNotFirst,
         Ground::EditionUnknown,
+        Ground::BoardLength,
+        Ground::BoardRowLength,
     ];
 
-    /// The number, 1 to 21.
+    /// The number, 1 to 23.
     ///
     /// ```
     /// assert_eq!(engine::Ground::SheetLength.number(), 15);
@@ -135,11 +142,14 @@ impl Ground {
             Ground::RideRetired => "a ride in an edition that has none",
             Ground::EditionNotFirst => "the edition isn't the file's first command",
             Ground::EditionUnknown => "the edition isn't 1 or 2",
+            Ground::BoardLength => "the board is longer than 10,080 minutes",
+            Ground::BoardRowLength => "a row is shorter than the board",
         }
     }
 
-    /// Whether the network file is at fault, and not a sheet or a row that was
-    /// lent: then a refusal's place is a byte of the file.
+    /// Whether a network file can be refused on it, and not only a sheet, a row that was
+    /// lent or what was asked for. Ground 8 can be of the file and of a board's stop; of
+    /// which it is, [`Refusal::is_of_file`](crate::Refusal::is_of_file) says.
     ///
     /// ```
     /// use engine::Ground;
@@ -147,6 +157,7 @@ impl Ground {
     /// assert!(Ground::ByteAfterEnd.is_of_file());
     /// assert!(!Ground::SheetLength.is_of_file());
     /// assert!(Ground::EditionUnknown.is_of_file());
+    /// assert!(!Ground::BoardLength.is_of_file());
     /// ```
     pub fn is_of_file(self) -> bool {
         // Without an arm for others: a ground that is added has to be told apart here.
@@ -171,7 +182,9 @@ impl Ground {
             Ground::SheetLength
             | Ground::StartRowLength
             | Ground::ClassRowLength
-            | Ground::ArchiveRowLength => false,
+            | Ground::ArchiveRowLength
+            | Ground::BoardLength
+            | Ground::BoardRowLength => false,
         }
     }
 }
@@ -194,8 +207,8 @@ impl TryFrom<u32> for Ground {
 /// ```
 /// use engine::{Ground, NoGround};
 ///
-/// assert_eq!(Ground::try_from(22), Err(NoGround(22)));
-/// assert_eq!(NoGround(22).to_string(), "there is no ground 22");
+/// assert_eq!(Ground::try_from(24), Err(NoGround(24)));
+/// assert_eq!(NoGround(24).to_string(), "there is no ground 24");
 /// ```
 #[derive(Clone, Copy, Debug, PartialEq, Eq)]
 pub struct NoGround(pub u32);

@@ -13,6 +13,7 @@
 //! | [`rate`]      | a file, a sheet        | the sheet's [`Rating`]                   |
 //! | [`weighted`]  | a file, a sheet        | the same, by classes of stops            |
 //! | [`classes`]   | a file                 | [`Classes`]: which stops rate alike      |
+//! | [`board`]     | a file, a sheet, a stop, a window | each [`Arrival`] there        |
 //! | [`search`]    | a file, a budget       | [`Searched`]: the best timetable         |
 //! | [`wanted`]    | a file, a gap, a budget | [`Wanted`]: a timetable with that gap   |
 //! | [`better`]    | a file, two sheets     | [`Better`]: which of them                |
@@ -103,12 +104,12 @@ pub const LIBRARY: &str = concat!(
 );
 
 pub use answers::{
-    Best, Better, Classes, Counts, Hundred, Mark, Rating, RowSearched, RowWanted, Searched, SoFar,
-    Wanted, STOPS,
+    Arrival, Best, Better, Classes, Counts, Hundred, Mark, Rating, RowSearched, RowWanted,
+    Searched, SoFar, Wanted, LONGEST_BOARD, MOST_CALLS_AT_STOP, STOPS,
 };
 pub use calls::{
-    archive, archive_into, better, classes, classes_into, mark, mark_by_key, rate, read, search,
-    search_into, wanted, wanted_into, weighted,
+    archive, archive_into, better, board, board_into, classes, classes_into, mark, mark_by_key,
+    rate, read, search, search_into, wanted, wanted_into, weighted,
 };
 pub use contents::{contents, Call, Contents, LATEST_EDITION};
 pub use ground::{Ground, NoGround};
