@@ -87,8 +87,8 @@ fn the_sessions_are_real() {
     let sessions = sessions(&readme());
     assert!(sessions.len() >= 14, "{} commands", sessions.len());
     let verbs = [
-        "read", "show", "rate", "classes", "best", "wanted", "better", "mark", "archive", "same",
-        "plan", "type",
+        "read", "show", "rate", "board", "classes", "best", "wanted", "better", "mark", "archive",
+        "same", "plan", "type",
     ];
     for verb in verbs {
         let word = format!("exam {verb} ");

@@ -5,7 +5,7 @@
 //! |---------------|--------------------------------------------------------|
 //! | `table.rs`    | what a verb, an option and a request are               |
 //! | `options.rs`  | every option, and what a request says by it            |
-//! | `operands.rs` | the networks and sheets of a request, and its number   |
+//! | `operands.rs` | the networks and sheets of a request, its gap or stop  |
 //! | `near.rs`     | near misses of names                                   |
 //! | `help.rs`     | what `--help` prints, by the table                     |
 //! | `man.rs`, `completions.rs` | the manual page and what shells read, by it |

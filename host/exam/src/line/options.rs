@@ -4,6 +4,7 @@ use super::table::{CommandOption, Request, Value};
 use crate::input::form::Form;
 use crate::input::network;
 use engine::text::shown;
+use engine::LONGEST_BOARD;
 use std::ffi::OsStr;
 use std::str::FromStr;
 
@@ -78,6 +79,32 @@ pub const JSON: CommandOption = CommandOption::flag(
 
 pub const RAW: CommandOption = CommandOption::flag("--raw", "write bytes");
 
+/// `exam board`; its first minute.
+pub const FROM: CommandOption = CommandOption {
+    name: "--from",
+    value: Some(Value {
+        placeholder: "M",
+        words: "a minute",
+        check: |word| first_of(word).map(|_| ()),
+    }),
+    help: "begin at minute M, which may be negative (otherwise 0)",
+    excludes: &[],
+    missing: None,
+};
+
+/// `exam board`; how many minutes.
+pub const LENGTH: CommandOption = CommandOption {
+    name: "--length",
+    value: Some(Value {
+        placeholder: "N",
+        words: "a number of minutes",
+        check: |word| length_of(word).map(|_| ()),
+    }),
+    help: "list N minutes, 0 to 10080 (otherwise one common cycle)",
+    excludes: &[],
+    missing: None,
+};
+
 /// How all networks are written; `None` where the names' endings say it.
 pub fn network_form(request: &Request) -> Option<network::Form> {
     let forms = [
@@ -116,6 +143,45 @@ fn budget_of(word: &OsStr) -> Result<u32, String> {
             "the budget '{}' isn't a number of 0 to {}, or max",
             shown(word.as_encoded_bytes()),
             u32::MAX
+        )
+    })
+}
+
+/// The first minute of a board.
+pub fn first(request: &Request) -> i32 {
+    let given = request.value(&FROM).map(first_of);
+    // What isn't a minute was refused when the words were parsed.
+    given.and_then(Result::ok).unwrap_or(0)
+}
+
+/// A minute has a sign as a start on a sheet may.
+fn first_of(word: &OsStr) -> Result<i32, String> {
+    let minute = word.to_str().filter(|text| {
+        let digits = text.strip_prefix(['-', '+']).unwrap_or(text);
+        digits.bytes().all(|byte| byte.is_ascii_digit())
+    });
+    minute.and_then(|text| text.parse().ok()).ok_or_else(|| {
+        format!(
+            "the first minute '{}' isn't a whole number of {} to {}",
+            shown(word.as_encoded_bytes()),
+            i32::MIN,
+            i32::MAX
+        )
+    })
+}
+
+/// How many minutes a board has, where that was said.
+pub fn length(request: &Request) -> Option<u32> {
+    // What isn't a length was refused when the words were parsed.
+    request.value(&LENGTH).and_then(in_digits)
+}
+
+/// What is too long for a board, the engine says.
+fn length_of(word: &OsStr) -> Result<u32, String> {
+    in_digits(word).ok_or_else(|| {
+        format!(
+            "the length '{}' isn't a whole number of 0 to {LONGEST_BOARD}",
+            shown(word.as_encoded_bytes())
         )
     })
 }

@@ -122,7 +122,7 @@ fn told_apart(
     let mut only_operands = false;
     while let Some(word) = words.next() {
         let text = word.to_string_lossy();
-        let number = verb.number.is_some() && is_negative(&text);
+        let number = verb.last.is_some() && is_negative(&text);
         if only_operands || number || text == "-" || !text.starts_with('-') {
             told.operands.push(word);
         } else if text == "--" {
@@ -221,10 +221,11 @@ fn request(verb: &Verb, told: Told) -> Result<Request, Trouble> {
     if !verb.takes(operands.len()) {
         return Err(miscounted(verb, &operands));
     }
-    if let Some(check) = verb.number {
-        let number = operands.remove(verb.networks);
-        check(&number).map_err(|message| usage(&message, Some(verb)))?;
-        request.number = Some(number);
+    if let Some(check) = verb.last {
+        // One is there: there are as many as the verb takes.
+        let last = operands.pop().unwrap_or_default();
+        check(&last).map_err(|message| usage(&message, Some(verb)))?;
+        request.last = Some(last);
     }
     let mut networks: Vec<Source> = operands.into_iter().map(Source::of).collect();
     let from_input = |source: &&Source| **source == Source::Input;

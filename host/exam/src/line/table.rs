@@ -12,10 +12,10 @@ pub struct Verb {
     pub operands: &'static str,
     /// How many networks it takes; they come first.
     pub networks: usize,
-    /// Checks the number behind the networks, if it takes one.
-    pub number: Option<Check>,
     /// How many sheets it takes, behind these.
     pub sheets: Sheets,
+    /// Checks the last operand where that is no file, as a gap or a stop.
+    pub last: Option<Check>,
     /// Its options in the order of its help.
     pub options: &'static [&'static CommandOption],
     /// Its line of the overview.
@@ -64,9 +64,9 @@ pub type Check = fn(&OsStr) -> Result<(), String>;
 #[derive(Default)]
 pub struct Request {
     pub networks: Vec<Source>,
-    /// The number, checked, where the verb takes one.
-    pub number: Option<OsString>,
     pub sheets: Vec<Source>,
+    /// The last operand, checked, where that is no file.
+    pub last: Option<OsString>,
     given: Vec<Given>,
 }
 
@@ -88,7 +88,7 @@ impl Verb {
             Sheets::Exactly(count) => count,
             Sheets::AtLeastOne => 1,
         };
-        self.networks + usize::from(self.number.is_some()) + sheets
+        self.networks + sheets + usize::from(self.last.is_some())
     }
 
     /// Whether it takes so many operands.

@@ -14,7 +14,17 @@ const WIDEST: usize = 5;
 /// A refusal: `refused 5 at 0` and nothing else on standard output, the words
 /// on standard error.
 pub fn refused(refusal: Refusal, network: &Network) -> Result<Status, Trouble> {
-    say(&explained(refusal, network));
+    refused_with(refusal, network, None)
+}
+
+/// The same with a text line more on standard error, for what isn't in the network.
+pub fn refused_with(
+    refusal: Refusal,
+    network: &Network,
+    more: Option<String>,
+) -> Result<Status, Trouble> {
+    let more = more.map_or(String::new(), |more| format!("\n  {more}"));
+    say(&format!("{}{more}", explained(refusal, network)));
     put(format!("{refusal}\n"))?;
     Ok(Status::Refused)
 }
@@ -25,17 +35,15 @@ pub fn refused_sheet(
     network: &Network,
     sheet: &Sheet,
 ) -> Result<Status, Trouble> {
-    let ended = refused(refusal, network)?;
-    if refusal.ground == Ground::SheetLength {
-        say(&format!("  {}", lengths(network, &[sheet])));
-    }
-    Ok(ended)
+    let misfit = refusal.ground == Ground::SheetLength;
+    let more = misfit.then(|| lengths(network, &[sheet]));
+    refused_with(refusal, network, more)
 }
 
 /// The refusal in words, for standard error.
 pub fn explained(refusal: Refusal, network: &Network) -> String {
     let mut text = format!("exam: {refusal}: {}", refusal.words());
-    if !refusal.ground.is_of_file() {
+    if !refusal.is_of_file() {
         return text;
     }
     let mut place = refusal.place as usize;

@@ -12,8 +12,8 @@ pub const VERB: Verb = Verb {
     name: "archive",
     operands: "NETWORK",
     networks: 1,
-    number: None,
     sheets: Sheets::Exactly(0),
+    last: None,
     options: &[&PLAN, &TYPED, &BYTES, &RAW],
     summary: "the one file of a network that is kept",
     about: "\

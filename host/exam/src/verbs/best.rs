@@ -17,8 +17,8 @@ pub const VERB: Verb = Verb {
     name: "best",
     operands: "NETWORK",
     networks: 1,
-    number: None,
     sheets: Sheets::Exactly(0),
+    last: None,
     options: &[&PLAN, &TYPED, &BYTES, &BUDGET, &QUIET, &SHEET],
     summary: "the best timetable",
     about: "\

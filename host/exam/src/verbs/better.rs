@@ -14,8 +14,8 @@ pub const VERB: Verb = Verb {
     name: "better",
     operands: "NETWORK SHEET SHEET",
     networks: 1,
-    number: None,
     sheets: Sheets::Exactly(2),
+    last: None,
     options: &[&PLAN, &TYPED, &BYTES, &SHEET_NUMBERS, &SHEET_BYTES],
     summary: "the better of two sheets",
     about: "\

@@ -15,8 +15,8 @@ pub const VERB: Verb = Verb {
     name: "classes",
     operands: "NETWORK",
     networks: 1,
-    number: None,
     sheets: Sheets::Exactly(0),
+    last: None,
     options: &[&PLAN, &TYPED, &BYTES, &ROWS],
     summary: "which stops always rate alike",
     about: "\

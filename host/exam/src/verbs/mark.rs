@@ -15,8 +15,8 @@ pub const VERB: Verb = Verb {
     name: "mark",
     operands: "NETWORK SHEET-OR-FOLDER..",
     networks: 1,
-    number: None,
     sheets: Sheets::AtLeastOne,
+    last: None,
     options: &[
         &PLAN,
         &TYPED,

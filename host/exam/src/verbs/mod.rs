@@ -3,6 +3,7 @@
 mod archive;
 mod best;
 mod better;
+mod board;
 mod classes;
 mod mark;
 mod plan;
@@ -16,10 +17,11 @@ mod wanted;
 use crate::line::table::Verb;
 
 /// All verbs, in the order of help.
-pub const ALL: [&Verb; 12] = [
+pub const ALL: [&Verb; 13] = [
     &read::VERB,
     &show::VERB,
     &rate::VERB,
+    &board::VERB,
     &classes::VERB,
     &best::VERB,
     &wanted::VERB,
@@ -51,8 +53,8 @@ mod tests {
             assert_eq!(words.len(), verb.operand_count(), "{}", verb.name);
             let networks = words.iter().filter(|word| **word == "NETWORK");
             assert_eq!(networks.count(), verb.networks, "{}", verb.name);
-            let number = words.get(verb.networks) == Some(&"GAP");
-            assert_eq!(number, verb.number.is_some(), "{}", verb.name);
+            let no_file = ["GAP", "STOP"].contains(&words[words.len() - 1]);
+            assert_eq!(no_file, verb.last.is_some(), "{}", verb.name);
         }
     }
 

@@ -12,8 +12,8 @@ pub const VERB: Verb = Verb {
     name: "plan",
     operands: "NETWORK",
     networks: 1,
-    number: None,
     sheets: Sheets::Exactly(0),
+    last: None,
     options: &[&PLAN, &TYPED, &BYTES],
     summary: "a network as a plan, with names and decimal numbers",
     about: "\

@@ -10,8 +10,8 @@ pub const VERB: Verb = Verb {
     name: "rate",
     operands: "NETWORK SHEET-OR-FOLDER..",
     networks: 1,
-    number: None,
     sheets: Sheets::AtLeastOne,
+    last: None,
     options: &[
         &PLAN,
         &TYPED,

@@ -11,8 +11,8 @@ pub const VERB: Verb = Verb {
     name: "read",
     operands: "NETWORK",
     networks: 1,
-    number: None,
     sheets: Sheets::Exactly(0),
+    last: None,
     options: &[&PLAN, &TYPED, &BYTES],
     summary: "lines, stops, calls and common cycle",
     about: "\

@@ -14,8 +14,8 @@ pub const VERB: Verb = Verb {
     name: "same",
     operands: "NETWORK NETWORK",
     networks: 2,
-    number: None,
     sheets: Sheets::Exactly(0),
+    last: None,
     options: &[&PLAN, &TYPED, &BYTES],
     summary: "whether two files are of one network",
     about: "\

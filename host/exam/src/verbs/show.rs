@@ -3,6 +3,7 @@
 use crate::line::operands::networks;
 use crate::line::options::{BYTES, PLAN, TYPED};
 use crate::line::table::{Request, Sheets, Verb};
+use crate::output::columns::{ended, width};
 use crate::output::fault::refused;
 use crate::output::streams::put;
 use crate::status::{Status, Trouble};
@@ -14,8 +15,8 @@ pub const VERB: Verb = Verb {
     name: "show",
     operands: "NETWORK",
     networks: 1,
-    number: None,
     sheets: Sheets::Exactly(0),
+    last: None,
     options: &[&PLAN, &TYPED, &BYTES],
     summary: "what was read, in decimal, for proofreading",
     about: "\
@@ -155,18 +156,4 @@ fn rides(calls: &[Call]) -> Vec<String> {
         format!("+{ride}")
     });
     first.chain(next).collect()
-}
-
-/// The width of the longest number.
-fn width<T: ToString>(numbers: impl Iterator<Item = T>) -> usize {
-    let widths = numbers.map(|number| number.to_string().len());
-    widths.max().unwrap_or(0)
-}
-
-/// A text line with a name at its end, where it needs no column.
-fn ended(text: String, name: Option<&str>) -> String {
-    match name {
-        Some(name) => format!("{text}  {name}\n"),
-        None => format!("{text}\n"),
-    }
 }

@@ -14,8 +14,8 @@ pub const VERB: Verb = Verb {
     name: "type",
     operands: "NETWORK",
     networks: 1,
-    number: None,
     sheets: Sheets::Exactly(0),
+    last: None,
     options: &[&PLAN, &TYPED, &BYTES, &RAW],
     summary: "a plan in hexadecimal, or as bytes",
     about: "\

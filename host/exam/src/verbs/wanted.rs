@@ -17,8 +17,8 @@ pub const VERB: Verb = Verb {
     name: "wanted",
     operands: "NETWORK GAP",
     networks: 1,
-    number: Some(check_gap),
     sheets: Sheets::Exactly(0),
+    last: Some(check_gap),
     options: &[&PLAN, &TYPED, &BYTES, &BUDGET, &QUIET],
     summary: "a timetable with at least this gap, or none",
     about: "\

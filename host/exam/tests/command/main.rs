@@ -7,6 +7,7 @@ mod common;
 mod archive;
 mod best;
 mod better;
+mod board;
 mod classes;
 mod forms;
 mod long;

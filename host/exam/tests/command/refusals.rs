@@ -35,6 +35,10 @@ fn words_for_each_ground_of_the_file() {
         for verb in ["rate", "mark"] {
             exam(&[verb, &network, &sheet]).told(&line, 1, &pieces);
         }
+        // The file comes before the sheet, the stop and the length.
+        exam(&["board", &network, &sheet, "0"]).told(&line, 1, &pieces);
+        let unfit = ["board", &network, &sheet, "64", "--length", "10081"];
+        exam(&unfit).told(&line, 1, &pieces);
         exam(&["archive", "--raw", &network]).told(&line, 1, &pieces);
         exam(&["same", HEX, &network]).told(&line, 1, &pieces);
     }
@@ -72,6 +76,7 @@ fn words_for_a_sheet_of_the_wrong_length() {
         exam(&[verb, HEX, &long]).told("refused 15 at 0\n", 1, &pieces);
         exam(&[verb, HEX, &empty]).told("refused 15 at 0\n", 1, &["sheet: 0 starts"]);
     }
+    exam(&["board", HEX, &long, "0"]).told("refused 15 at 0\n", 1, &pieces);
     let odd = folder.file("odd.bin", [0; 7]);
     exam(&["rate", HEX, &odd]).told("refused 15 at 0\n", 1, &["sheet: 7 bytes"]);
 }

@@ -125,6 +125,15 @@ fn options_that_a_verb_has_not() {
         (&["archive", NET, "--budget=1"], "has no budget"),
         (&["wanted", NET, "3", "--sheet"], "no option '--sheet'"),
         (&["wanted", NET, "3", "--csv"], "no option '--csv'"),
+        (&["rate", NET, "a.sheet", "--from=1"], "no option '--from'"),
+        (
+            &["board", NET, "a.sheet", "0", "--csv"],
+            "no option '--csv'",
+        ),
+        (
+            &["board", NET, "a.sheet", "0", "--budget=1"],
+            "'board' searches nothing and has no budget",
+        ),
     ]);
 }
 
@@ -209,6 +218,82 @@ fn bad_gaps() {
     ]);
 }
 
+/// A stop that is no number of 32 bits and no name, also where it looks like an option,
+/// and before any file is looked for.
+#[test]
+fn bad_stops() {
+    for stop in [
+        "-1",
+        "-63",
+        "4294967296",
+        "+5",
+        "",
+        " 3",
+        "3.5",
+        "５",
+        "-",
+        "'",
+    ] {
+        let words = format!("exam: the stop '{stop}' is neither a number of 0 to 63 nor a name\n");
+        let said = format!("{words}try: exam board --help\n");
+        exam(&["board", "absent.net", "absent.sheet", stop]).said("", 2, &said);
+    }
+}
+
+#[test]
+fn bad_operands_of_a_board() {
+    all_are_told(&[
+        (
+            &["board", NET, "a.sheet"],
+            "'board' wants NETWORK SHEET STOP; STOP is missing",
+        ),
+        (&["board", NET], "NETWORK SHEET STOP; SHEET is missing"),
+        (&["board", NET, "a.sheet", "0", "1"], "'1' is one too many"),
+        (&["board", "-", "-", "0"], "one file only"),
+        (
+            &["board", NET, "a.sheet", "-x"],
+            "'board' has no option '-x'\n",
+        ),
+        (
+            &["board", NET, "a.sheet", "--", "-5"],
+            "the stop '-5' is neither",
+        ),
+    ]);
+}
+
+/// Minutes and lengths that are no whole numbers of 32 bits.
+#[test]
+fn bad_windows() {
+    let board = ["board", "absent.net", "absent.sheet", "0"];
+    let range = "isn't a whole number of -2147483648 to 2147483647\n";
+    for first in [
+        "2147483648",
+        "-2147483649",
+        "",
+        "-",
+        "+-3",
+        "1.5",
+        "x",
+        "５",
+        "\u{2212}5",
+    ] {
+        let message = format!("exam: the first minute '{first}' {range}");
+        exam(&[&board[..], &["--from", first]].concat()).told("", 2, &[&message]);
+    }
+    for length in ["4294967296", "-1", "+5", "", "1.5", "max", "５"] {
+        let message = format!("exam: the length '{length}' isn't a whole number of 0 to 10080\n");
+        exam(&[&board[..], &["--length", length]].concat()).told("", 2, &[&message]);
+    }
+    let told = |more: &[&str], message: &str| {
+        exam(&[&board[..], more].concat()).told("", 2, &[message, "\ntry: exam board --help"]);
+    };
+    told(&["--from"], "--from wants a minute\n");
+    told(&["--length"], "--length wants a number of minutes\n");
+    told(&["--from=1", "--from", "2"], "--from is given twice\n");
+    told(&["--form", "2"], "'--form'; did you mean '--from'?");
+    told(&["--lenght=2"], "'--lenght=2'; did you mean '--length'?");
+}
+
 /// Behind `--` a name may begin with a dash; `-` alone stays standard input.
 #[test]
 fn names_that_begin_with_a_dash() {
@@ -262,8 +347,8 @@ fn help_for_each_verb() {
         exam(words).printed(&overview.out, 0);
     }
     let verbs = [
-        "read", "show", "rate", "classes", "best", "wanted", "better", "mark", "archive", "same",
-        "plan", "type",
+        "read", "show", "rate", "board", "classes", "best", "wanted", "better", "mark", "archive",
+        "same", "plan", "type",
     ];
     for verb in verbs {
         assert!(overview.out.contains(&format!("  exam {verb} NETWORK")));
@@ -273,6 +358,9 @@ fn help_for_each_verb() {
         assert!(help.out.contains("Exit status: 0 done; 1 refused"));
         let searches = ["best", "wanted", "mark"].contains(&verb);
         assert_eq!(help.out.contains("--budget N"), searches);
+        for option in ["  --from M ", "  --length N "] {
+            assert_eq!(help.out.contains(option), verb == "board");
+        }
         let writes_bytes = ["archive", "type"].contains(&verb);
         assert_eq!(help.out.contains("  --raw "), writes_bytes);
         for form in ["--plan", "--typed", "--bytes"] {
@@ -292,6 +380,7 @@ fn help_in_columns() {
   exam read NETWORK                      lines, stops, calls and common cycle
   exam show NETWORK                      what was read, in decimal, for proofreading
   exam rate NETWORK SHEET-OR-FOLDER..    a sheet's rating: least gap, sum of gaps
+  exam board NETWORK SHEET STOP          every arrival at a stop under a sheet
   exam classes NETWORK                   which stops always rate alike
   exam best NETWORK                      the best timetable
   exam wanted NETWORK GAP                a timetable with at least this gap, or none
@@ -335,4 +424,11 @@ Options:
 
 Exit status: ";
     assert!(exam(&["classes", "--help"]).out.contains(options));
+    let options = "
+  --sheet-bytes     a sheet is bytes, whatever its name
+  --from M          begin at minute M, which may be negative (otherwise 0)
+  --length N        list N minutes, 0 to 10080 (otherwise one common cycle)
+
+Exit status: ";
+    assert!(exam(&["board", "--help"]).out.contains(options));
 }
