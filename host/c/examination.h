@@ -21,14 +21,18 @@ extern "C" {
 #endif
 
 /* A return value of at least this is a refusal: this times the ground's number
- * (1 to 21), plus the place (0 to 1,331). Every row is as it was. */
+ * (1 to 23), plus the place (0 to 1,331). Every row is as it was. */
 #define EXAMINATION_REFUSED 65536u
 
-/* Grounds that a call adds to those of the file, which are 1 to 14 and 19 to 21. */
+/* Grounds that a call adds to those of the file, which are 1 to 14 and 19 to 21. A
+ * board adds one of those, too, at place 0: its stop may be above 63. */
+#define EXAMINATION_STOP_ABOVE 8u
 #define EXAMINATION_SHEET_UNFIT 15u
 #define EXAMINATION_START_ROW_UNFIT 16u
 #define EXAMINATION_CLASS_ROWS_UNFIT 17u
 #define EXAMINATION_ARCHIVE_ROW_SHORT 18u
+#define EXAMINATION_BOARD_LONG 22u
+#define EXAMINATION_BOARD_ROW_SHORT 23u
 
 /* Grounds of a file that has an edition. */
 #define EXAMINATION_RIDE_RETIRED 19u
@@ -61,20 +65,25 @@ extern "C" {
 #define EXAMINATION_SEARCH_PLACES 3
 #define EXAMINATION_WANTED_PLACES 1
 #define EXAMINATION_MARK_PLACES 6
+#define EXAMINATION_BOARD_PLACES 1
 
 /* Places of the row for a mark out of a hundred: the mark, the remainder. */
 #define EXAMINATION_HUNDRED_PLACES 2
 
 /* Limits: the latest edition, lines of a network, places of the class row and of the
  * weight row, an unserved stop's entry in the class row, bytes of a start on a sheet,
- * bytes of the longest archive form; and how many of a file's bytes decide: a longer
- * file is answered as its first 4,096 bytes are. */
+ * bytes of the longest archive form, minutes of the longest board and arrivals on the
+ * fullest, calls at one stop, each of which arrives once a minute at most; and how many
+ * of a file's bytes decide: a longer file is answered as its first 4,096 bytes are. */
 #define EXAMINATION_LATEST_EDITION 2
 #define EXAMINATION_MOST_LINES 16
 #define EXAMINATION_STOPS 64
 #define EXAMINATION_UNSERVED 255u
 #define EXAMINATION_START_BYTES 4
 #define EXAMINATION_MOST_ARCHIVE_BYTES 1331
+#define EXAMINATION_LONGEST_BOARD 10080
+#define EXAMINATION_MOST_ARRIVALS 322560
+#define EXAMINATION_MOST_CALLS_AT_STOP 32
 #define EXAMINATION_DECIDING_BYTES 4096
 
 /* Bytes of stack that are enough for every export. */
@@ -183,6 +192,23 @@ uint32_t examination_by_key(const uint8_t *file, size_t file_len,
 uint32_t examination_archive(const uint8_t *file, size_t file_len,
                              uint8_t *row, size_t row_len);
 
+/* The board of a stop: every arrival of the sheet's timetable there from the first
+ * minute until before first minute plus length, by time, then line, then offset, each as
+ * often as calls produce it. The length is at most EXAMINATION_LONGEST_BOARD.
+ * Returns 0, puts the number of arrivals (0 to EXAMINATION_MOST_ARRIVALS) into the
+ * answer, and their times and lines at the beginning of the two rows; what lies behind
+ * stays. A time has 64 bits: first minute plus length may pass 32. An unserved stop has
+ * an empty board. Or a refusal, a ground of the file, or, at place 0 and in this order,
+ * 15; 8 where the stop is above 63; 22 where the length is above 10,080; 23 where a row
+ * is shorter than the list. Rows of EXAMINATION_MOST_CALLS_AT_STOP x length places are
+ * always enough. */
+uint32_t examination_board(const uint8_t *file, size_t file_len,
+                           const uint8_t *sheet, size_t sheet_len, uint32_t stop,
+                           int32_t first, uint32_t length,
+                           int64_t *time_row, size_t time_len,
+                           uint8_t *line_row, size_t line_len,
+                           uint32_t answer[EXAMINATION_BOARD_PLACES]);
+
 /* ---- Of a return value (not that of examination_better, which never refuses) */
 
 static inline int examination_is_refused(uint32_t returned)
@@ -190,7 +216,7 @@ static inline int examination_is_refused(uint32_t returned)
     return returned >= EXAMINATION_REFUSED;
 }
 
-/* The ground's number, 1 to 21, of a refusal. */
+/* The ground's number, 1 to 23, of a refusal. */
 static inline uint32_t examination_ground(uint32_t returned)
 {
     return returned / EXAMINATION_REFUSED;

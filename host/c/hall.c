@@ -20,6 +20,10 @@
 
 #define BUDGET 1000000u
 
+/* A board of this many minutes is shown; its rows are always long enough. */
+#define HOUR 60u
+#define BOARD_ROOM (EXAMINATION_MOST_CALLS_AT_STOP * HOUR)
+
 struct network {
     uint8_t bytes[EXAMINATION_DECIDING_BYTES];
     size_t count;
@@ -278,6 +282,75 @@ static void mark_by_key(const struct network *file, const struct sheet *sheets, 
     printf("\n");
 }
 
+/* What of a board is asked for, and the places of its rows. */
+struct window {
+    uint32_t stop;
+    int32_t first;
+    uint32_t length;
+    size_t room;
+};
+
+/* Whether both rows of a board are as they were from a place on. */
+static int is_untouched(const int64_t *times, const uint8_t *lines, size_t from)
+{
+    for (size_t i = from; i < BOARD_ROOM; i++) {
+        if (times[i] != -1 || lines[i] != 255) {
+            return 0;
+        }
+    }
+    return 1;
+}
+
+/* Says each arrival as its time and its line. */
+static void board_it(const struct network *file, size_t number, const struct sheet *sheet,
+                     struct window asked)
+{
+    int64_t times[BOARD_ROOM];
+    uint8_t lines[BOARD_ROOM];
+    uint32_t answer[EXAMINATION_BOARD_PLACES] = {7};
+    memset(times, 255, sizeof times);
+    memset(lines, 255, sizeof lines);
+    const uint32_t returned =
+        examination_board(file->bytes, file->count, sheet->bytes, sheet->count, asked.stop,
+                          asked.first, asked.length, times, asked.room, lines, asked.room,
+                          answer);
+    printf("board of sheet %zu at stop %" PRIu32 " from %" PRId32 ", %" PRIu32 " minutes: ",
+           number, asked.stop, asked.first, asked.length);
+    if (examination_is_refused(returned)) {
+        const int same = answer[0] == 7 && is_untouched(times, lines, 0);
+        say_refusal(returned);
+        printf("; the rows %s\n", same ? "are as they were" : "have changed");
+        return;
+    }
+    printf("%" PRIu32 " arrivals", answer[0]);
+    for (uint32_t i = 0; i < answer[0]; i++) {
+        printf(" %" PRId64 "/%u", times[i], (unsigned)lines[i]);
+    }
+    printf("; the rows behind %s\n",
+           is_untouched(times, lines, answer[0]) ? "are as they were" : "have changed");
+}
+
+/* Boards of each sheet; of the first one also before minute 0, behind the largest, of
+ * other stops, and those that are refused. */
+static void board_all(const struct network *file, const struct sheet *sheets, size_t count)
+{
+    static const struct window others[] = {
+        {0, -20, 20, BOARD_ROOM},
+        {0, INT32_MAX, HOUR, BOARD_ROOM},
+        {0, 8, 0, 0},
+        {EXAMINATION_STOPS - 1, 0, EXAMINATION_LONGEST_BOARD, 0},
+        {EXAMINATION_STOPS, 0, HOUR, BOARD_ROOM},
+        {0, 0, EXAMINATION_LONGEST_BOARD + 1, BOARD_ROOM},
+        {0, 0, HOUR, 6},
+    };
+    for (size_t i = 0; i < count; i++) {
+        board_it(file, i + 1, &sheets[i], (struct window){0, 0, HOUR, BOARD_ROOM});
+    }
+    for (size_t i = 0; count > 0 && i < sizeof others / sizeof others[0]; i++) {
+        board_it(file, 1, &sheets[0], others[i]);
+    }
+}
+
 static void archive_it(const struct network *file, size_t room)
 {
     uint8_t row[EXAMINATION_MOST_ARCHIVE_BYTES];
@@ -364,6 +437,7 @@ static void run(const struct network *file, const struct sheet *sheets, size_t c
         compare(file, sheets, i, i + 1 < count ? i + 1 : i);
     }
     mark_all(file, sheets, count);
+    board_all(file, sheets, count);
     archive_it(file, 8);
     archive_it(file, EXAMINATION_MOST_ARCHIVE_BYTES);
 

@@ -1,5 +1,5 @@
 /*
- * The eleven exports over the real ones, which .ci/faults has renamed, with the
+ * The twelve exports over the real ones, which .ci/faults has renamed, with the
  * faults of faults.h. The variable EXAMINATION_FAULT has the number of the one that
  * this process is to have; unset or 0 is none. It is linked by the tests of the
  * tests alone.
@@ -24,6 +24,7 @@ extern __typeof__(examination_mark) real_mark;
 extern __typeof__(examination_hundred) real_hundred;
 extern __typeof__(examination_by_key) real_by_key;
 extern __typeof__(examination_archive) real_archive;
+extern __typeof__(examination_board) real_board;
 
 /* Behind the longest file, which is an archive form; and what is refused there. */
 #define LAST_PLACE_OF_ALL EXAMINATION_MOST_ARCHIVE_BYTES
@@ -642,5 +643,166 @@ uint32_t examination_archive(const uint8_t *file, size_t file_len, uint8_t *row,
     fault_calls(row, returned);
     returned = fault_opening(file, file_len, row, row_len, returned);
     if (is(BYTE_BEHIND) && row_len > returned) row[returned] ^= 255;
+    return returns(returned, file_len);
+}
+
+/* What a board is made of. */
+struct asked {
+    const uint8_t *file;
+    size_t file_len;
+    const uint8_t *sheet;
+    size_t sheet_len;
+    uint32_t stop;
+    int32_t first;
+    uint32_t length;
+};
+
+/* The rows that are lent for it. */
+struct rows {
+    int64_t *times;
+    size_t time_len;
+    uint8_t *lines;
+    size_t line_len;
+};
+
+static uint32_t board_of(const struct asked *asked, const struct rows *rows, uint32_t answer[1])
+{
+    return real_board(asked->file, asked->file_len, asked->sheet, asked->sheet_len, asked->stop,
+                      asked->first, asked->length, rows->times, rows->time_len, rows->lines,
+                      rows->line_len, answer);
+}
+
+/* What is taken for the window. */
+static void fault_window(struct asked *asked)
+{
+    if (is(BOARD_END_WITHIN) && asked->length < EXAMINATION_LONGEST_BOARD) asked->length++;
+    if (is(BOARD_FIRST_LEFT_OUT) && asked->length > 0 && asked->first < INT32_MAX &&
+        asked->length <= EXAMINATION_LONGEST_BOARD) {
+        asked->first++;
+        asked->length--;
+    }
+    if (is(BOARD_LONGEST_REFUSED) && asked->length == EXAMINATION_LONGEST_BOARD) asked->length++;
+    if (is(BOARD_LENGTH_OF_16_BITS)) asked->length &= 65535;
+    if (is(BOARD_STOP_OF_8_BITS)) asked->stop &= 255;
+}
+
+/* A whole list, whatever rows are lent. */
+struct list {
+    int64_t times[EXAMINATION_MOST_ARRIVALS];
+    uint8_t lines[EXAMINATION_MOST_ARRIVALS];
+    uint32_t count;
+};
+
+static void fault_list(struct list *list)
+{
+    uint32_t kept = 0;
+    for (uint32_t i = 0; i < list->count; i++) {
+        const int64_t time = is(BOARD_TIMES_OF_32_BITS) ? (int32_t)list->times[i] : list->times[i];
+        const uint8_t line = list->lines[i];
+        const int at_once = kept > 0 && list->times[kept - 1] == time;
+        const uint8_t before = kept > 0 ? list->lines[kept - 1] : line;
+        if (is(BOARD_EQUAL_ONCE) && at_once && before == line) continue;
+        if (is(BOARD_WITHOUT_PAST) && time < 0) continue;
+        const int turned = is(BOARD_LINES_TURNED) && at_once && before < line;
+        if (turned) list->lines[kept - 1] = line;
+        list->times[kept] = time;
+        list->lines[kept++] = turned ? before : line;
+    }
+    list->count = kept;
+}
+
+/* Whether the fault is one of the list, or of the rows that it asks for. */
+static int is_of_list(void)
+{
+    return is(BOARD_TIMES_OF_32_BITS) || is(BOARD_EQUAL_ONCE) || is(BOARD_WITHOUT_PAST) ||
+           is(BOARD_LINES_TURNED) || is(BOARD_TIME_ROW_UNTESTED) || is(BOARD_LINE_ROW_UNTESTED);
+}
+
+/* A faulty list in the lent rows, as far as they go. */
+static uint32_t board_by_list(const struct asked *asked, const struct rows *rows,
+                              uint32_t answer[1])
+{
+    struct list *list = malloc(sizeof *list);
+    if (list == NULL) abort();
+    const struct rows whole = {list->times, EXAMINATION_MOST_ARRIVALS, list->lines,
+                               EXAMINATION_MOST_ARRIVALS};
+    uint32_t returned = board_of(asked, &whole, &list->count);
+    if (returned == 0) {
+        fault_list(list);
+        const size_t count = list->count;
+        const size_t times = rows->time_len < count ? rows->time_len : count;
+        const size_t lines = rows->line_len < count ? rows->line_len : count;
+        if ((times < count && !is(BOARD_TIME_ROW_UNTESTED)) ||
+            (lines < count && !is(BOARD_LINE_ROW_UNTESTED))) {
+            returned = EXAMINATION_BOARD_ROW_SHORT * EXAMINATION_REFUSED;
+        } else {
+            memcpy(rows->times, list->times, times * sizeof list->times[0]);
+            memcpy(rows->lines, list->lines, lines);
+            answer[0] = list->count;
+        }
+    }
+    free(list);
+    return returned;
+}
+
+/* What a board returns in place of a ground of its own. */
+static uint32_t fault_ground(uint32_t returned, const struct asked *asked, const struct rows *rows,
+                             uint32_t answer[1])
+{
+    const struct rows none = {rows->times, 0, rows->lines, 0};
+    const uint32_t ground = examination_ground(returned);
+    if (!examination_is_refused(returned) || examination_place(returned) > 0) return returned;
+    if (is(BOARD_STOP_FIRST) && ground == EXAMINATION_SHEET_UNFIT &&
+        asked->stop >= EXAMINATION_STOPS)
+        return EXAMINATION_STOP_ABOVE * EXAMINATION_REFUSED;
+    if (is(BOARD_LENGTH_FIRST) && ground == EXAMINATION_STOP_ABOVE &&
+        asked->length > EXAMINATION_LONGEST_BOARD)
+        return EXAMINATION_BOARD_LONG * EXAMINATION_REFUSED;
+    if (ground != EXAMINATION_BOARD_LONG) return returned;
+    if (is(BOARD_ROWS_FIRST) && rows->time_len < EXAMINATION_MOST_CALLS_AT_STOP)
+        return EXAMINATION_BOARD_ROW_SHORT * EXAMINATION_REFUSED;
+    /* A stop without an arrival in so many minutes, the longest period, is unserved. */
+    struct asked day = *asked;
+    day.length = 1440;
+    return is(BOARD_UNSERVED_UNTESTED) && board_of(&day, &none, answer) == 0 ? 0 : returned;
+}
+
+/* What stands in the rows behind a board. */
+static void fault_board(uint32_t returned, const struct asked *asked, const struct rows *rows,
+                        uint32_t answer[1])
+{
+    static atomic_uint calls;
+    const size_t count = answer[0];
+    if (examination_is_refused(returned)) {
+        if (is(BOARD_TIME_ON_REFUSAL) && rows->time_len > 0) rows->times[0] = 0;
+        if (is(BOARD_LINE_ON_REFUSAL) && rows->line_len > 0) rows->lines[0] = 0;
+        if (is(BOARD_CLEARED_ON_REFUSAL)) answer[0] = 0;
+        return;
+    }
+    if (is(BOARD_TIME_BEHIND) && rows->time_len > count) rows->times[count] ^= 1;
+    if (is(BOARD_LINE_BEHIND) && rows->line_len > count) rows->lines[count] ^= 1;
+    if (is(BOARD_COUNT_OF_16_BITS)) answer[0] &= 65535;
+    if (count == 0) return;
+    if (is(EVERY_3000TH_BOARD) && is_3000th(&calls)) rows->times[count - 1]++;
+    if (is(BOARD_BY_EDITION) && is_opened(asked->file, asked->file_len, 2)) rows->lines[0] ^= 1;
+}
+
+uint32_t examination_board(const uint8_t *file, size_t file_len, const uint8_t *sheet,
+                           size_t sheet_len, uint32_t stop, int32_t first, uint32_t length,
+                           int64_t *time_row, size_t time_len, uint8_t *line_row, size_t line_len,
+                           uint32_t answer[1])
+{
+    if (is(BOARD_BEFORE_FILE) && length > EXAMINATION_LONGEST_BOARD)
+        return EXAMINATION_BOARD_LONG * EXAMINATION_REFUSED;
+    const size_t taken = taken_length(LONG_SHEET_BOARD, file, file_len, sheet_len);
+    struct asked asked = {file, file_len, sheet, taken, stop, first, length};
+    const struct rows rows = {time_row, is(BOARD_ROW_OF_16_BITS) ? time_len & 65535 : time_len,
+                              line_row, line_len};
+    fault_window(&asked);
+    uint32_t returned = is_of_list() ? board_by_list(&asked, &rows, answer)
+                                     : board_of(&asked, &rows, answer);
+    returned = fault_ground(returned, &asked, &rows, answer);
+    fault_board(returned, &asked, &rows, answer);
+    if (is(LAST_PLACE_OF_BOARD) && returned == LAST_REFUSAL) return returned - 1;
     return returns(returned, file_len);
 }

@@ -141,7 +141,7 @@ fn the_first_edition_says_what_a_file_without_it_says() {
         let opened = read_opened(1, &file, &mut met);
         assert_eq!(opened, behind(1, read(&file)), "file {number}");
     }
-    println!("accepted, then refusals 1 to 21: {met:?}");
+    println!("accepted, then refusals 1 to 23: {met:?}");
     assert!(met[0] > 3_000 && met[1..15].iter().all(|&count| count > 20) && met[20] > 20);
 }
 

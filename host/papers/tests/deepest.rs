@@ -1,11 +1,11 @@
-//! The deepest search and the longest archive form on a small stack: 16 lines of
-//! the longest period, 256 calls, in a thread with 512 KB.
+//! The deepest search, the longest archive form and the fullest board on a small stack:
+//! 16 lines of the longest period, 256 calls, in a thread with 512 KB.
 
 mod raw;
 
-use engine::{Hundred, Mark, Searched, Sheet};
+use engine::{Arrival, Hundred, Mark, Searched, Sheet};
 use papers::answers::sought;
-use papers::files::{bytes_of, retyped, Command, Dice, Stated};
+use papers::files::{bytes_of, fullest_file, retyped, Command, Dice, Stated};
 use papers::sections::network::read;
 use papers::sections::walk::{walk, Answer};
 use papers::sections::wanted::{seek, Wanted};
@@ -155,4 +155,28 @@ fn the_longest_archive_form_on_512_kilobytes() {
     assert_ne!(typed, tidy);
     let form = on_small_stack(|| engine::archive(&bytes_of(&typed)));
     assert_eq!(form, Ok(bytes_of(&tidy)));
+}
+
+/// 16 lines that call twice at a stop, every minute of a week: 322,560 arrivals.
+#[test]
+fn the_fullest_board_on_512_kilobytes() {
+    let sheet = Sheet::of_starts(&[i32::MAX; 16]);
+    let board = on_small_stack(|| engine::board(&fullest_file(), &sheet, 63, i32::MAX, 10_080));
+    let board = board.expect("an accepted file");
+    assert_eq!(board.len(), 322_560);
+    for (number, arrival) in board.into_iter().enumerate() {
+        let (time, line) = (i64::from(i32::MAX) + number as i64 / 32, number % 32 / 2);
+        let line = line as u8;
+        assert_eq!(arrival, Arrival { time, line });
+    }
+}
+
+/// The network at which a search goes deepest, by the week.
+#[test]
+fn a_board_of_the_deepest_network() {
+    let file = bytes_of(&deepest(scattered));
+    let sheet = Sheet::of_starts(&[i32::MIN; 16]);
+    let board = on_small_stack(|| engine::board(&file, &sheet, 15, i32::MAX, 10_080));
+    // 16 lines, and 7 days of 1,440 minutes.
+    assert_eq!(board.map(|board| board.len()), Ok(7 * 16));
 }

@@ -1,5 +1,5 @@
-//! A hall's day: 200,000 calls each of rate, both marks, mark by a key and wanted in
-//! one process. Memory stays flat, each answer is the papers' own, and the calls per
+//! A hall's day: 200,000 calls each of rate, both marks, mark by a key, wanted and board
+//! in one process. Memory stays flat, each answer is the papers' own, and the calls per
 //! second are printed (`cargo test --release --offline --test load -- --show-output`). No
 //! other test may stand in this file: it would run beside this one and add to the memory.
 
@@ -7,7 +7,8 @@ mod raw;
 
 use engine::{Hundred, Mark, Rating, Refusal, Sheet};
 use papers::answers::{marked, out_of_hundred, rating_or_refusal, refusal, sought};
-use papers::files::{any_file, any_gap, any_sheet_bytes, Dice};
+use papers::files::{any_file, any_gap, any_sheet_bytes, any_window, Dice};
+use papers::sections::board::{board_bytes, Window};
 use papers::sections::hundred::by_key_bytes;
 use papers::sections::network::read;
 use papers::sections::sheets::{mark_bytes, rate_bytes};
@@ -20,35 +21,64 @@ const BUDGET: u32 = 100;
 /// For 200,000 calls; none was measured. Calls that kept a byte each would take
 /// 195 KB.
 const GROWTH: usize = 64 * 1_024;
+/// The rows of a board have so many; one with more arrivals is refused.
+const PLACES: usize = 512;
 
-/// A file, a sheet, a key and a wanted gap with the papers' answers.
+/// What a board answers, and both rows behind it.
+#[derive(PartialEq)]
+struct Board {
+    answer: Result<u32, Refusal>,
+    times: [i64; PLACES],
+    lines: [u8; PLACES],
+}
+
+impl Board {
+    fn by(call: impl FnOnce(&mut [i64], &mut [u8]) -> Result<u32, Refusal>) -> Board {
+        let (mut times, mut lines) = ([7; PLACES], [7; PLACES]);
+        Board {
+            answer: call(&mut times, &mut lines),
+            times,
+            lines,
+        }
+    }
+}
+
+/// A file, a sheet, a key, a wanted gap and a board's window with the papers' answers.
 struct Paper {
     file: Vec<u8>,
     sheet: Sheet,
     key: Sheet,
     gap: u16,
+    window: Window,
     rating: Result<Rating, Refusal>,
     mark: Result<Mark, Refusal>,
     by_key: Result<Hundred, Refusal>,
     sought: Result<Sought, Refusal>,
+    board: Board,
 }
 
 fn paper(dice: &mut Dice) -> Paper {
     let file = any_file(dice);
     let lines = read(&file).map_or(3, |net| net.lines());
     let [sheet, key] = [0, 1].map(|_| any_sheet_bytes(dice, lines));
-    let gap = any_gap(dice, &file);
+    let (gap, window) = (any_gap(dice, &file), any_window(dice, &file));
     let mark = mark_bytes(&file, &sheet, BUDGET);
     let by_key = by_key_bytes(&file, &sheet, &key);
     let sought = read(&file).map(|net| seek(&net, gap, BUDGET));
+    let board = Board::by(|times, lines| {
+        let listed = board_bytes(&file, &sheet, window, times, lines);
+        listed.map(|count| count as u32).map_err(refusal)
+    });
     Paper {
         rating: rating_or_refusal(rate_bytes(&file, &sheet)),
         mark: mark.map(marked).map_err(refusal),
         by_key: by_key.map(out_of_hundred).map_err(refusal),
         sought: sought.map_err(refusal),
+        board,
         sheet: Sheet::of_bytes(sheet),
         key: Sheet::of_bytes(key),
         gap,
+        window,
         file,
     }
 }
@@ -99,6 +129,17 @@ fn in_six_places(mark: &Result<Mark, Refusal>) -> (u32, [u32; 6]) {
     }
 }
 
+/// A board in rows of the caller, so that nothing is allocated.
+fn board(paper: &Paper) -> Board {
+    let (file, sheet) = (&paper.file, &paper.sheet);
+    let Window {
+        stop,
+        first,
+        length,
+    } = paper.window;
+    Board::by(|times, lines| engine::board_into(file, sheet, stop, first, length, times, lines))
+}
+
 #[test]
 fn two_hundred_thousand_calls() {
     let mut dice = Dice::new(81);
@@ -122,5 +163,10 @@ fn two_hundred_thousand_calls() {
     calls("wanted", &papers, |paper| {
         let found = engine::wanted(&paper.file, paper.gap, BUDGET).map(sought);
         assert_eq!(found, paper.sought);
+    });
+    let listed = papers.iter().filter(|paper| paper.board.answer.is_ok());
+    assert!(listed.count() > FILES / 6);
+    calls("board", &papers, |paper| {
+        assert!(board(paper) == paper.board, "{:?}", paper.window);
     });
 }

@@ -32,7 +32,7 @@ fn reads_as_the_papers_do() {
         assert_eq!(plain::read(&file), expected, "case {case}");
         outcomes[expected.map_or_else(|why| usize::from(why.number), |_| 0)] += 1;
     }
-    println!("counts, then refusals 1 to 21: {outcomes:?}");
+    println!("counts, then refusals 1 to 23: {outcomes:?}");
     assert!(outcomes[0] > 5_000, "{outcomes:?}");
     assert!(each_ground_in(&outcomes), "{outcomes:?}");
 }
@@ -88,7 +88,7 @@ fn marks_as_the_papers_do() {
             Err(why) => grounds[usize::from(why.number)] += 1,
         }
     }
-    println!("below, equal, undecided: {kinds:?}; refusals 1 to 21: {grounds:?}");
+    println!("below, equal, undecided: {kinds:?}; refusals 1 to 23: {grounds:?}");
     assert!(kinds.iter().all(|&count| count > 500), "{kinds:?}");
     assert!(each_ground_in(&grounds) && grounds[15] > 20, "{grounds:?}");
 }
@@ -121,7 +121,7 @@ fn rates_as_the_papers_do() {
         assert_eq!(plain::rate(&file, &bytes), expected, "case {case}");
         outcomes[expected.map_or_else(|why| usize::from(why.number), |_| 0)] += 1;
     }
-    println!("ratings, then refusals 1 to 21: {outcomes:?}");
+    println!("ratings, then refusals 1 to 23: {outcomes:?}");
     assert!(outcomes[0] > 5_000, "{outcomes:?}");
     assert!(
         each_ground_in(&outcomes) && outcomes[15] > 20,

@@ -5,9 +5,11 @@ use engine::Sheet;
 use papers::answers;
 use papers::files::{longest_file, openings, sheet_bytes, Dice};
 use papers::sections::archive::archive;
+use papers::sections::board::{by_minutes, Window};
 use papers::sections::classes::classes as classes_of;
 use papers::sections::hundred;
 use papers::sections::network::{read, read_counts, Counts, Refusal};
+use papers::sections::rating::whole;
 use papers::sections::sheets::{better_bytes, mark, rate, weighted_rate};
 use papers::sections::walk::walk;
 use papers::sections::wanted::seek;
@@ -208,6 +210,21 @@ fn compare_sheets(file: &[u8], starts: &[i32]) -> impl PartialEq + Debug {
     (rating, weighted, marked, by_key, better)
 }
 
+/// The board of stop 0 about minute 0, beside the papers.
+fn compare_board(file: &[u8], starts: &[i32]) -> impl PartialEq + Debug {
+    let (first, length) = (-30, 90);
+    let board = engine::board(file, &Sheet::of_starts(starts), 0, first, length);
+    let window = Window {
+        stop: 0,
+        first,
+        length,
+    };
+    let net = read(file).expect("an accepted file");
+    let paper = by_minutes(&net, &whole(starts), window);
+    assert_eq!(board, Ok(answers::arrivals(&paper)));
+    board
+}
+
 /// What it answers without a sheet: searches and classes.
 fn compare_searches(file: &[u8]) -> impl PartialEq + Debug {
     let net = read(file).expect("an accepted file");
@@ -229,10 +246,12 @@ fn either_edition_is_answered_alike() {
         let starts = &[0, -17, 5][..lines];
         let of_sheets = compare_sheets(&typed, starts);
         let of_searches = compare_searches(&typed);
+        let of_board = compare_board(&typed, starts);
         for edition in [1, 2] {
             let opened = [&[0x56, edition], &typed[..]].concat();
             assert_eq!(compare_sheets(&opened, starts), of_sheets);
             assert_eq!(compare_searches(&opened), of_searches);
+            assert_eq!(compare_board(&opened, starts), of_board);
         }
     }
 }

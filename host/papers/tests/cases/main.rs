@@ -3,6 +3,7 @@
 
 mod archive;
 mod best;
+mod board;
 mod cycle;
 mod editions;
 mod given;

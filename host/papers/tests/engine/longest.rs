@@ -40,6 +40,10 @@ fn refused_by_all(longer: &[u8], refusal: Refusal) {
     let by_key = engine::mark_by_key(longer, &sheet, &sheet);
     assert_eq!(by_key.map(drop), refusal);
     assert_eq!(engine::archive(longer).map(drop), refusal);
+    assert_eq!(engine::board(longer, &sheet, 0, 0, 60).map(drop), refusal);
+    let (times, lines) = (&mut [7; 60], &mut [7; 60]);
+    let board = engine::board_into(longer, &sheet, 0, 0, 60, times, lines);
+    assert_eq!(board.map(drop), refusal);
     let better = engine::better(longer, &sheet, &sheet);
     assert_eq!(better, Better::Neither);
 }

@@ -1,7 +1,7 @@
 //! Refusals: their words, and the rows of a refused call.
 
-use engine::{Ground, NoGround, Refusal};
-use papers::files::GROUNDS;
+use engine::{Arrival, Ground, NoGround, Refusal, Sheet};
+use papers::files::{faulty_file, Dice, GROUNDS};
 
 /// Each ground has words of its own, and the README has the same ones.
 #[test]
@@ -19,9 +19,9 @@ fn words_for_each_ground() {
         let row = format!("| {number} | {words}");
         assert!(readme.contains(&row), "the README has no '{row}'");
     }
-    let numbers: Vec<u32> = (1..=21).collect();
+    let numbers: Vec<u32> = (1..=23).collect();
     assert_eq!(Ground::ALL.map(Ground::number), numbers[..]);
-    for number in [0, 22, u32::MAX] {
+    for number in [0, 24, u32::MAX] {
         assert_eq!(Ground::try_from(number), Err(NoGround(number)));
     }
 }
@@ -35,32 +35,72 @@ fn grounds_of_the_file() {
     }
 }
 
-/// The refusal of a row.
-fn of_row(ground: Ground) -> Refusal {
+/// A refusal of the file is told from those of a sheet, of a row and of what is asked
+/// for.
+#[test]
+fn refusals_of_the_file() {
+    let mut dice = Dice::new(117);
+    for ground in GROUNDS {
+        for _ in 0..50 {
+            let faulty = faulty_file(&mut dice, ground).bytes;
+            let refusal = engine::read(&faulty).expect_err("a faulty file");
+            assert!(refusal.is_of_file(), "{refusal}");
+        }
+    }
+}
+
+/// The refusal of a row, or of what is asked for.
+fn at_place_0(ground: Ground) -> Refusal {
     Refusal { ground, place: 0 }
 }
 
 /// Rows of the caller: grounds 16 to 18 come through the wrapper, and the rows
-/// stay as they were.
+/// stay as they were. Those of a board stand below.
 #[test]
 fn rows_of_the_caller() {
     let file = [0x4C, 0, 15, 0x43, 0, 0, 0, 8, 0x45];
     let mut starts = [7, 8];
     let refused = engine::search_into(&file, &mut starts, 100);
-    assert_eq!(refused.map(drop), Err(of_row(Ground::StartRowLength)));
+    assert_eq!(refused.map(drop), Err(at_place_0(Ground::StartRowLength)));
     assert_eq!(starts, [7, 8]);
     let refused = engine::wanted_into(&file, &mut starts, 0, 100);
-    assert_eq!(refused.map(drop), Err(of_row(Ground::StartRowLength)));
+    assert_eq!(refused.map(drop), Err(at_place_0(Ground::StartRowLength)));
     assert_eq!(starts, [7, 8]);
     let (mut class_row, mut weight_row) = ([9; 64], [9; 63]);
     let refused = engine::classes_into(&file, &mut class_row, &mut weight_row);
-    assert_eq!(refused.map(drop), Err(of_row(Ground::ClassRowLength)));
+    assert_eq!(refused.map(drop), Err(at_place_0(Ground::ClassRowLength)));
     assert_eq!((class_row, weight_row), ([9; 64], [9; 63]));
     let mut row = [9; 8];
     let refused = engine::archive_into(&file, &mut row);
-    assert_eq!(refused.map(drop), Err(of_row(Ground::ArchiveRowLength)));
+    assert_eq!(refused.map(drop), Err(at_place_0(Ground::ArchiveRowLength)));
     assert_eq!(row, [9; 8]);
     let mut row = [9; 10];
     assert_eq!(engine::archive_into(&file, &mut row), Ok(9));
     assert_eq!((&row[..9], row[9]), (&file[..], 9));
+}
+
+/// The rows of a board: grounds 8, 22 and 23, each before the next.
+#[test]
+fn rows_of_a_board() {
+    let file = [0x4C, 0, 15, 0x43, 0, 0, 0, 8, 0x45];
+    let sheet = Sheet::of_starts(&[0]);
+    let (mut times, mut lines) = ([9; 3], [9; 2]);
+    for (stop, length, ground) in [
+        (64, 10_081, Ground::Stop),
+        (u32::MAX, 60, Ground::Stop),
+        (0, 10_081, Ground::BoardLength),
+        (1, u32::MAX, Ground::BoardLength),
+        (0, 60, Ground::BoardRowLength),
+    ] {
+        let refused = engine::board_into(&file, &sheet, stop, 0, length, &mut times, &mut lines);
+        assert_eq!(refused, Err(at_place_0(ground)));
+        assert!(!at_place_0(ground).is_of_file());
+        assert_eq!((times, lines), ([9; 3], [9; 2]));
+    }
+    let listed = engine::board_into(&file, &sheet, 0, 0, 30, &mut times, &mut lines);
+    assert_eq!((listed, times, lines), (Ok(2), [8, 23, 9], [0, 0]));
+    let unfit = engine::board(&file, &Sheet::of_starts(&[]), 64, 0, 10_081);
+    assert_eq!(unfit, Err(at_place_0(Ground::SheetLength)));
+    let arrival = Arrival { time: 8, line: 0 };
+    assert_eq!(engine::board(&file, &sheet, 0, 0, 10), Ok(vec![arrival]));
 }

@@ -2,14 +2,15 @@
 
 use engine::{Hundred, Mark, Refusal, Sheet};
 use papers::answers::{
-    classed, counts, marked, out_of_hundred, rating_or_refusal, refusal, sought, walked,
+    arrivals, classed, counts, marked, out_of_hundred, rating_or_refusal, refusal, sought, walked,
 };
 use papers::files::{
-    any_budget, any_file, any_gap, any_sheet_bytes, random_bytes, roomy_file, sheet_bytes, Dice,
-    GROUNDS,
+    any_budget, any_file, any_gap, any_sheet_bytes, any_window, random_bytes, roomy_file,
+    sheet_bytes, Dice, GROUNDS,
 };
 use papers::sections;
 use papers::sections::archive::archive_form;
+use papers::sections::board::{board_bytes, Arrival, Window, MAX_LENGTH};
 use papers::sections::hundred::by_key_bytes;
 use papers::sections::network::{read, Network, LATEST_EDITION};
 use papers::sections::sheets::{better_bytes, mark_bytes, rate_bytes, weighted_bytes, Better};
@@ -46,6 +47,8 @@ struct Kind {
     hundred: Option<usize>,
     /// The mark beside another sheet is above 100.
     above_key: bool,
+    /// Empty, with arrivals, refused by its stop, its length, its rows.
+    board: Option<usize>,
     empty: bool,
     very_long: bool,
     /// Fewer classes than served stops.
@@ -83,6 +86,7 @@ fn case(number: usize) -> Kind {
         compare_roomy_mark(&mut dice, &mut kind);
     }
     compare_archive(&mut dice, &file, &net, &sheets, &mut kind);
+    compare_board(&mut dice, &file, &sheets[0], &mut kind);
     kind
 }
 
@@ -202,6 +206,58 @@ fn compare_mark(file: &[u8], sheet: &[u8], budget: u32, kind: &mut Kind) {
     }
 }
 
+/// The board beside the papers', in the wrapper's rows, which are long enough, and in the
+/// caller's.
+fn compare_board(dice: &mut Dice, file: &[u8], sheet: &[u8], kind: &mut Kind) {
+    let window = any_window(dice, file);
+    let most = 32 * window.length.min(MAX_LENGTH) as usize;
+    let (mut times, mut lines) = (vec![0; most], vec![0; most]);
+    let paper = board_bytes(file, sheet, window, &mut times, &mut lines);
+    let list = paper.map(|count| {
+        let listed = times[..count].iter().zip(&lines);
+        let listed = listed.map(|(&time, &line)| Arrival { time, line });
+        arrivals(&listed.collect::<Vec<Arrival>>())
+    });
+    let handed = Sheet::of_bytes(sheet.to_vec());
+    let found = engine::board(file, &handed, window.stop, window.first, window.length);
+    assert_eq!(found, list.map_err(refusal), "{window:?}");
+    // A place too few, just enough, or some more.
+    let [times, lines] = [0, 1].map(|_| (paper.unwrap_or(3) + dice.below(6)).saturating_sub(1));
+    compare_board_rows(file, sheet, window, (times, lines), kind);
+}
+
+fn compare_board_rows(
+    file: &[u8],
+    sheet: &[u8],
+    window: Window,
+    (times, lines): (usize, usize),
+    kind: &mut Kind,
+) {
+    let (mut time_row, mut line_row) = (vec![-1; times], vec![99; lines]);
+    let (mut times, mut lines) = (time_row.clone(), line_row.clone());
+    let paper = board_bytes(file, sheet, window, &mut times, &mut lines);
+    let found = engine::board_into(
+        file,
+        &Sheet::of_bytes(sheet.to_vec()),
+        window.stop,
+        window.first,
+        window.length,
+        &mut time_row,
+        &mut line_row,
+    );
+    let expected = paper.map(|count| count as u32).map_err(refusal);
+    assert_eq!(found, expected, "{window:?}");
+    assert!((time_row, line_row) == (times, lines), "{window:?}");
+    kind.board = match paper {
+        Ok(0) => Some(0),
+        Ok(_) => Some(1),
+        Err(why) if why.number == 8 && why.place == 0 => Some(2),
+        Err(why) if why.number == 22 => Some(3),
+        Err(why) if why.number == 23 => Some(4),
+        Err(_) => None,
+    };
+}
+
 /// The archive form beside the papers', in a row that is longer by some bytes;
 /// and every call answers the same on the file and on its archive form.
 fn compare_archive(
@@ -247,6 +303,7 @@ fn answers(
         engine::mark(file, first, budget),
         engine::mark_by_key(file, first, second),
         engine::archive(file),
+        engine::board(file, first, 0, -60, 120),
     )
 }
 
@@ -272,6 +329,23 @@ fn all_kinds(cases: usize) -> Vec<Kind> {
     })
 }
 
+/// How many files were in each edition.
+fn editions(kinds: &[Kind]) -> [usize; LATEST_EDITION as usize] {
+    let editions = from_fn(|before| {
+        let in_it = |kind: &&Kind| usize::from(kind.edition) == before + 1;
+        kinds.iter().filter(in_it).count()
+    });
+    println!("each edition, from 1: {editions:?}");
+    editions
+}
+
+/// How many boards were of each kind.
+fn boards(kinds: &[Kind]) -> [usize; 5] {
+    let boards = from_fn(|at| kinds.iter().filter(|kind| kind.board == Some(at)).count());
+    println!("boards empty, with arrivals, refused by 8, 22, 23: {boards:?}");
+    boards
+}
+
 #[test]
 fn seeded_files_and_sheets() {
     let cases = cases();
@@ -288,10 +362,7 @@ fn seeded_files_and_sheets() {
     let above_key = count(&|kind| kind.above_key);
     let [long, empty] = [count(&|kind| kind.very_long), count(&|kind| kind.empty)];
     let [alike, untidy] = [count(&|kind| kind.alike), count(&|kind| kind.untidy)];
-    let editions: [usize; LATEST_EDITION as usize] =
-        from_fn(|before| count(&|kind| usize::from(kind.edition) == before + 1));
     println!("{cases} cases; rated {rated}, refused by 15 {unfit}, by the file {grounds:?}");
-    println!("each edition, from 1: {editions:?}");
     println!("searches finished, stopped, stopped with none: {searches:?}");
     println!("wanted gaps found, none, stopped: {wanted:?}");
     println!("better first, second, neither: {betters:?}");
@@ -307,7 +378,8 @@ fn seeded_files_and_sheets() {
         &betters,
         &marks,
         &hundreds,
-        &editions,
+        &editions(&kinds),
+        &boards(&kinds),
         &[rated, unfit, long, empty, alike, untidy, above_key],
     ]
     .concat();

@@ -1,6 +1,8 @@
-//! The three exports that mark, over slices and over rows that the caller has.
+//! The three exports that mark, and the board, over slices and over rows that the
+//! caller has.
 
-use crate::{examination_by_key, examination_hundred, examination_mark};
+use crate::{examination_board, examination_by_key, examination_hundred, examination_mark};
+use papers::sections::board::Window;
 
 /// A row of so many places; it is valid for them.
 pub type Row<const PLACES: usize> = *mut [u32; PLACES];
@@ -22,4 +24,29 @@ pub fn by_key(file: &[u8], sheet: &[u8], key: &[u8], hundred: Row<2>) -> u32 {
     let (sheet, sheet_len) = (sheet.as_ptr(), sheet.len());
     let (key, key_len) = (key.as_ptr(), key.len());
     unsafe { examination_by_key(file, file_len, sheet, sheet_len, key, key_len, hundred) }
+}
+
+pub fn board(
+    file: &[u8],
+    sheet: &[u8],
+    window: Window,
+    (time_row, line_row): (&mut [i64], &mut [u8]),
+    answer: Row<1>,
+) -> u32 {
+    unsafe {
+        examination_board(
+            file.as_ptr(),
+            file.len(),
+            sheet.as_ptr(),
+            sheet.len(),
+            window.stop,
+            window.first,
+            window.length,
+            time_row.as_mut_ptr(),
+            time_row.len(),
+            line_row.as_mut_ptr(),
+            line_row.len(),
+            answer,
+        )
+    }
 }

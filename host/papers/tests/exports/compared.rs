@@ -6,8 +6,11 @@ use crate::{
     examination_archive, examination_better, examination_classes, examination_rate,
     examination_read, examination_search, examination_wanted, examination_weighted,
 };
-use papers::files::{any_budget, any_gap, any_sheet_bytes, bytes_of, Command, Dice, OUTCOMES};
+use papers::files::{
+    any_budget, any_gap, any_sheet_bytes, any_window, bytes_of, Command, Dice, OUTCOMES,
+};
 use papers::sections::archive::{archive, archive_form};
+use papers::sections::board::{board_bytes, Window, MAX_LENGTH};
 use papers::sections::classes::class_call;
 use papers::sections::hundred::by_key_bytes;
 use papers::sections::network::{read, read_counts, Refusal};
@@ -305,6 +308,40 @@ pub fn compare_archive(dice: &mut Dice, file: &[u8], length: usize, seen: &mut S
     seen.add(if found < 65_536 { 0 } else { found });
 }
 
+/// How many arrivals a window has; any number if the call is refused.
+pub fn board_length(dice: &mut Dice, file: &[u8], sheet: &[u8], window: Window) -> usize {
+    let most = 32 * window.length.min(MAX_LENGTH) as usize;
+    let (mut times, mut lines) = (vec![0; most], vec![0; most]);
+    let listed = board_bytes(file, sheet, window, &mut times, &mut lines);
+    listed.unwrap_or_else(|_| dice.below(40))
+}
+
+/// The rows of times and of lines have these lengths. They can be long: where they
+/// differ, they aren't shown.
+pub fn compare_board(
+    dice: &mut Dice,
+    (file, sheet): (&[u8], &[u8]),
+    window: Window,
+    (times, lines): (usize, usize),
+    seen: &mut Seen,
+) {
+    let mut time_row = Lent::of(times, || dice.bits() as i64);
+    let mut line_row = Lent::of(lines, || dice.byte());
+    let mut answer = answer_row::<1>(dice);
+    let (mut times_after, mut lines_after) = (time_row.clone(), line_row.clone());
+    let paper = board_bytes(file, sheet, window, times_after.row(), lines_after.row());
+    let (returned, answer_after) = match paper {
+        Err(refusal) => (refused(refusal), answer.clone()),
+        Ok(count) => (0, answer.holding(&[count as u32])),
+    };
+    let rows = (time_row.row(), line_row.row());
+    let found = called::board(file, sheet, window, rows, answer.pointer().cast());
+    assert_eq!((found, answer), (returned, answer_after), "{window:?}");
+    assert!(time_row == times_after, "other times, {window:?}");
+    assert!(line_row == lines_after, "other lines, {window:?}");
+    seen.add(found);
+}
+
 /// What was seen of each export.
 #[derive(Debug, Default)]
 pub struct AllSeen {
@@ -319,11 +356,12 @@ pub struct AllSeen {
     pub hundred: Seen,
     pub by_key: Seen,
     pub archive: Seen,
+    pub board: Seen,
 }
 
 impl AllSeen {
     /// The exports that can refuse.
-    pub fn refusing(&self) -> [&Seen; 10] {
+    pub fn refusing(&self) -> [&Seen; 11] {
         [
             &self.read,
             &self.rate,
@@ -335,6 +373,7 @@ impl AllSeen {
             &self.hundred,
             &self.by_key,
             &self.archive,
+            &self.board,
         ]
     }
 }
@@ -364,6 +403,10 @@ pub fn compare_all(dice: &mut Dice, file: &[u8], seen: &mut AllSeen) {
     let right = archive_length(dice, file);
     let length = row_length(dice, right);
     compare_archive(dice, file, length, &mut seen.archive);
+    let window = any_window(dice, file);
+    let right = board_length(dice, file, &first, window);
+    let rows = (row_length(dice, right), row_length(dice, right));
+    compare_board(dice, (file, &first), window, rows, &mut seen.board);
     assert_eq!((file, first, second), (&before.0[..], before.1, before.2));
 }
 

@@ -7,6 +7,7 @@ use crate::{called, examination_classes, examination_rate, examination_read, exa
 use papers::files::{
     any_file, bytes_of, retyped, sheet, sheet_bytes, valid_commands, Dice, Stated,
 };
+use papers::sections::board::Window;
 use papers::sections::network::{EDITION, LATEST_EDITION};
 
 const UNKNOWN: u32 = 21 * 65_536;
@@ -69,9 +70,10 @@ struct Answers {
     searched: (u32, [u32; 3], Vec<i32>),
     marked: (u32, [u32; 6]),
     classes: (u32, [u32; 1], [u8; 64], [u16; 64]),
+    board: (u32, [u32; 1], Vec<i64>, Vec<u8>),
 }
 
-fn answers(file: &[u8], sheet: &[u8], lines: usize) -> Answers {
+fn answers(file: &[u8], sheet: &[u8], lines: usize, stop: u8) -> Answers {
     let (bytes, length) = (file.as_ptr(), file.len());
     let mut rating = [7; 2];
     let rated =
@@ -89,7 +91,21 @@ fn answers(file: &[u8], sheet: &[u8], lines: usize) -> Answers {
         searched: (searched, best, starts),
         marked: (marked, mark),
         classes: (classed, count, classes, weights),
+        board: two_hours(file, sheet, stop),
     }
+}
+
+/// The board of a stop, where a line of period 1 may call twice and others, too.
+fn two_hours(file: &[u8], sheet: &[u8], stop: u8) -> (u32, [u32; 1], Vec<i64>, Vec<u8>) {
+    let window = Window {
+        stop: u32::from(stop),
+        first: -60,
+        length: 120,
+    };
+    let (mut times, mut lines, mut count) = (vec![7; 32 * 120], vec![7; 32 * 120], [7]);
+    let rows = (&mut times[..], &mut lines[..]);
+    let listed = called::board(file, sheet, window, rows, &mut count);
+    (listed, count, times, lines)
 }
 
 /// A network is the same to these in edition 1, typed with rides, and in edition 2.
@@ -100,15 +116,17 @@ fn editions_are_answered_alike() {
         let stated = Stated::by(&valid_commands(&mut dice));
         let lines = stated.periods.len();
         let sheet = sheet_bytes(&sheet(&mut dice, lines));
+        let (_, stop, _) = dice.pick(&stated.calls);
         let [first, second] = [1, 2].map(|edition| {
             let stated = Stated {
                 edition,
                 ..stated.clone()
             };
             let file = bytes_of(&retyped(&mut dice, &stated));
-            answers(&file, &sheet, lines)
+            answers(&file, &sheet, lines, stop)
         });
         assert_eq!((first.rated.0, first.classes.0), (0, 0), "{number}");
+        assert_eq!(first.board.0, 0, "{number}");
         assert_eq!(first, second, "{number}");
     }
 }

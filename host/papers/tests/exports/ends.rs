@@ -2,11 +2,12 @@
 //! the largest numbers.
 
 use crate::compared::{
-    compare_archive, compare_better, compare_by_key, compare_classes, compare_hundred,
-    compare_mark, compare_rate, compare_read, compare_search, compare_wanted, AllSeen, Rates,
+    board_length, compare_archive, compare_better, compare_board, compare_by_key, compare_classes,
+    compare_hundred, compare_mark, compare_rate, compare_read, compare_search, compare_wanted,
+    AllSeen, Rates,
 };
 use crate::{examination_rate, examination_wanted, examination_weighted};
-use papers::files::{bytes_of, longest_file, openings, sheet, sheet_bytes, Command, Dice};
+use papers::files::{bytes_of, longest_file, openings, sheet, sheet_bytes, window, Command, Dice};
 use papers::sections::sheets::{rate_bytes, weighted_bytes};
 
 /// Every export on a file, with rows and sheets that are right for so many lines.
@@ -31,6 +32,9 @@ fn compare_with_right_rows(dice: &mut Dice, file: &[u8], lines: usize) -> AllSee
     compare_hundred(dice, file, &one, 3_000, &mut seen.hundred);
     compare_by_key(dice, file, &one, &other, &mut seen.by_key);
     compare_archive(dice, file, 1_331, &mut seen.archive);
+    let window = window(dice, file);
+    let right = board_length(dice, file, &one, window);
+    compare_board(dice, (file, &one), window, (right, right), &mut seen.board);
     seen
 }
 

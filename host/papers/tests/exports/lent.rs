@@ -51,7 +51,7 @@ pub fn answer_row<const PLACES: usize>(dice: &mut Dice) -> Lent<u32> {
 pub fn row_length(dice: &mut Dice, right: usize) -> usize {
     match dice.below(12) {
         0 => 0,
-        1 => right - 1,
+        1 => right.saturating_sub(1),
         2 => right + 1,
         3 => dice.below(200),
         _ => right,

@@ -1,6 +1,7 @@
 //! The exports of the static library, declared as docs/ABI.md has them, beside
 //! the independent implementation: return values, answer rows and lent rows.
 
+mod boards;
 mod budgets;
 mod called;
 mod compared;
@@ -91,4 +92,18 @@ extern "C" {
         hundred: *mut [u32; 2],
     ) -> u32;
     fn examination_archive(file: *const u8, file_len: usize, row: *mut u8, row_len: usize) -> u32;
+    fn examination_board(
+        file: *const u8,
+        file_len: usize,
+        sheet: *const u8,
+        sheet_len: usize,
+        stop: u32,
+        first: i32,
+        length: u32,
+        time_row: *mut i64,
+        time_len: usize,
+        line_row: *mut u8,
+        line_len: usize,
+        answer: *mut [u32; 1],
+    ) -> u32;
 }

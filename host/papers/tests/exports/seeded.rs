@@ -1,13 +1,15 @@
 //! Every export on seeded files and sheets, and on empty parts.
 
 use crate::compared::{
-    compare_all, compare_archive, compare_better, compare_by_key, compare_hundred, compare_mark,
-    compare_rate, compare_search, compare_wanted, small_budget, three_lines, AllSeen, Rates, Seen,
+    compare_all, compare_archive, compare_better, compare_board, compare_by_key, compare_hundred,
+    compare_mark, compare_rate, compare_search, compare_wanted, small_budget, three_lines, AllSeen,
+    Rates, Seen,
 };
 use crate::{examination_rate, examination_weighted};
 use papers::files::{
     any_file, faulty_file, sheet, sheet_bytes, valid_file, Dice, GROUNDS, OUTCOMES,
 };
+use papers::sections::board::Window;
 use papers::sections::sheets::{rate_bytes, weighted_bytes};
 
 const CASES: usize = 6_000;
@@ -30,6 +32,21 @@ fn exports_beside_the_papers() {
     }
     println!("{CASES} files, refused by grounds 1 to 14, the sheet's 15, and 19 to 21:");
     println!("{:?}", &seen.rate.grounds[1..]);
+    println!("boards, then refusals 1 to 23:");
+    println!("{} {:?}", seen.board.answers[0], &seen.board.grounds[1..]);
+    assert_grounds(&seen);
+    assert!(seen.search.answers.iter().all(|&count| count >= 100));
+    assert!(seen.wanted.answers.iter().all(|&count| count >= 100));
+    assert!(seen.better.answers.iter().all(|&count| count >= 100));
+    assert!(seen.mark.answers[..2].iter().all(|&count| count >= 100));
+    assert_eq!(seen.hundred.answers, seen.mark.answers);
+    assert!(seen.by_key.answers[0] >= 100);
+    assert!(seen.archive.answers[0] >= 100);
+    assert!(seen.board.answers[0] >= 100);
+}
+
+/// Each export has refused by the file's grounds and by its own, and by no other.
+fn assert_grounds(seen: &AllSeen) {
     let of_file = GROUNDS.map(usize::from);
     let with = |ground: usize| [&of_file[..], &[ground]].concat();
     assert!(seen.read.has_exactly(&of_file));
@@ -42,14 +59,8 @@ fn exports_beside_the_papers() {
     assert!(seen.hundred.has_exactly(&with(15)));
     assert!(seen.by_key.has_exactly(&with(15)));
     assert!(seen.archive.has_exactly(&with(18)));
+    assert!(seen.board.has_exactly(&[&with(15)[..], &[22, 23]].concat()));
     assert!(seen.better.has_exactly(&[]));
-    assert!(seen.search.answers.iter().all(|&count| count >= 100));
-    assert!(seen.wanted.answers.iter().all(|&count| count >= 100));
-    assert!(seen.better.answers.iter().all(|&count| count >= 100));
-    assert!(seen.mark.answers[..2].iter().all(|&count| count >= 100));
-    assert_eq!(seen.hundred.answers, seen.mark.answers);
-    assert!(seen.by_key.answers[0] >= 100);
-    assert!(seen.archive.answers[0] >= 100);
 }
 
 /// Starts at both ends of 32 bits, in every mix, against periods that divide
@@ -100,7 +111,18 @@ fn empty_parts() {
     compare_search(&mut dice, &file, 0, 100, &mut one);
     compare_wanted(&mut dice, &file, 0, (1, 100), &mut one);
     compare_wanted(&mut dice, &[], 0, (1, 100), &mut one);
-    assert_eq!(one.answers, [1, 0, 1]);
-    let grounds = [1, 15, 16, 18].map(|ground| one.grounds[ground]);
-    assert_eq!(grounds, [3, 4, 2, 1]);
+    for (file, sheet) in [(&file[..], &right[..]), (&file, &[]), (&[], &[])] {
+        // Stop 1 is unserved.
+        for stop in [0, 1] {
+            let window = Window {
+                stop,
+                first: 0,
+                length: 60,
+            };
+            compare_board(&mut dice, (file, sheet), window, (0, 0), &mut one);
+        }
+    }
+    assert_eq!(one.answers, [2, 0, 1]);
+    let grounds = [1, 15, 16, 18, 23].map(|ground| one.grounds[ground]);
+    assert_eq!(grounds, [5, 6, 2, 1, 1]);
 }

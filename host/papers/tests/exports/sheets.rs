@@ -2,16 +2,24 @@
 //! grounds.
 
 use crate::compared::{
-    compare_better, compare_by_key, compare_hundred, compare_mark, compare_rate, three_lines,
-    Rates, Seen,
+    compare_better, compare_board, compare_by_key, compare_hundred, compare_mark, compare_rate,
+    three_lines, Rates, Seen,
 };
 use crate::{examination_rate, examination_weighted};
 use papers::files::{bytes_of, faulty_file, longest_file, random_bytes, Command, Dice, GROUNDS};
+use papers::sections::board::Window;
 use papers::sections::sheets::{rate_bytes, weighted_bytes};
 use std::collections::BTreeSet;
 
 /// 64 KB, and a sheet that fits above it.
 const MOST: usize = 65_536 + 64;
+
+/// An hour of stop 0, where none of the files has a hundred arrivals.
+const HOUR: Window = Window {
+    stop: 0,
+    first: 0,
+    length: 60,
+};
 
 /// All counts up to 200, those about powers of two, alone and above the right
 /// one, and whole numbers of starts all the way.
@@ -26,14 +34,15 @@ fn counts(right: usize) -> BTreeSet<usize> {
 /// The calls that take a sheet, on one of so many bytes; of better-of-two it is
 /// the first one, the second one and both, and beside a key the sheet, the key and
 /// both.
-fn compare_sheet(dice: &mut Dice, file: &[u8], sheet: &[u8], right: &[u8], seen: &mut [Seen; 6]) {
-    let [rate_seen, weighted_seen, mark, hundred, better, by_key] = seen;
+fn compare_sheet(dice: &mut Dice, file: &[u8], sheet: &[u8], right: &[u8], seen: &mut [Seen; 7]) {
+    let [rate_seen, weighted_seen, mark, hundred, board, better, by_key] = seen;
     let rate: (Rates, _) = (examination_rate, rate_bytes(file, sheet));
     compare_rate(dice, rate, file, sheet, rate_seen);
     let weighted: (Rates, _) = (examination_weighted, weighted_bytes(file, sheet));
     compare_rate(dice, weighted, file, sheet, weighted_seen);
     compare_mark(dice, file, sheet, 10, mark);
     compare_hundred(dice, file, sheet, 10, hundred);
+    compare_board(dice, (file, sheet), HOUR, (100, 100), board);
     for (first, second) in [(sheet, right), (right, sheet), (sheet, sheet)] {
         compare_better(file, first, second, better);
         compare_by_key(dice, file, first, second, by_key);
@@ -55,7 +64,7 @@ fn sheets_of_every_byte_count() {
         let counts = counts(right);
         assert!(counts.contains(&right) && counts.len() > 700);
         let others = counts.len() - 1;
-        let mut seen = <[Seen; 6]>::default();
+        let mut seen = <[Seen; 7]>::default();
         for count in counts {
             compare_sheet(
                 &mut dice,
@@ -65,7 +74,7 @@ fn sheets_of_every_byte_count() {
                 &mut seen,
             );
         }
-        for one in &seen[..4] {
+        for one in &seen[..5] {
             assert_eq!(
                 (one.grounds[15], one.answers.iter().sum()),
                 (others, 1usize)
@@ -73,9 +82,9 @@ fn sheets_of_every_byte_count() {
         }
         // Beside one that fits, a sheet of another length loses; with the fitting
         // one on both sides the first is taken.
-        assert_eq!(seen[4].answers, [others, others + 3, others]);
+        assert_eq!(seen[5].answers, [others, others + 3, others]);
         // A key of another length is refused as a sheet is.
-        assert_eq!((seen[5].grounds[15], seen[5].answers[0]), (3 * others, 3));
+        assert_eq!((seen[6].grounds[15], seen[6].answers[0]), (3 * others, 3));
     }
 }
 
@@ -95,15 +104,15 @@ fn the_files_ground_comes_before_the_sheet() {
     for ground in GROUNDS {
         let file = faulty_file(&mut dice, ground).bytes;
         let counts = [0, 1, 3, 4, 8, 63, 64, 65, 68, 4_095, 4_096, 4_100, MOST];
-        let mut seen = <[Seen; 6]>::default();
+        let mut seen = <[Seen; 7]>::default();
         for count in counts {
             compare_sheet(&mut dice, &file, &bytes[..count], &bytes[..4], &mut seen);
         }
         let ground = usize::from(ground);
-        for one in &seen[..4] {
+        for one in &seen[..5] {
             assert_eq!(one.grounds[ground], counts.len());
         }
-        assert_eq!(seen[4].answers, [3 * counts.len(), 0, 0]);
-        assert_eq!(seen[5].grounds[ground], 3 * counts.len());
+        assert_eq!(seen[5].answers, [3 * counts.len(), 0, 0]);
+        assert_eq!(seen[6].grounds[ground], 3 * counts.len());
     }
 }

@@ -2,6 +2,7 @@
 //! demands 1 to 3), and that the generator makes what it says.
 
 mod archive;
+mod board;
 mod classes;
 mod files;
 mod hundred;
