@@ -1,6 +1,7 @@
 -- What document 02, A.7, asks of the board of a stop, of every network within the limits (`Valid`: those of all accepted files, by `accepted-valid` of
 -- Laws/Valid.antt) and all integer starts: the computed list is the board over all trips, past and future, and its rows are the only ones. It holds since
--- minute by minute the calls that arrive are those with a trip then, in their order: Laws/Board.antt; the cases compute. Assumes nothing.
+-- minute by minute the calls that arrive are those with a trip then, in their order: Laws/Board.antt; the cases compute. And what the order demands of the
+-- board call, of every one that has returned, where it keeps the contract in src/, which every call does. Assumes nothing.
 use Prim.Native.Nat.{ℕ, _+_, _*_, _<_, _≤_}
 use mathlib.Core.Path.{_≡_, refl, sym, ap₂, _∙_}
 use native.Mathlib.Omega.{arith}

@@ -3,12 +3,13 @@
 use Prim.Native.Nat.{ℕ, zero, suc, _+_, _*_, _-_, _^_, _<_, _≤_}
 use native.Mathlib.Nat.{lt-of-le-of-lt}
 use native.Mathlib.Omega.{arith}
-use mathlib.Core.Path.{_≡_, ap}
+use mathlib.Core.Path.{_≡_, ap, ap₂, _∙_}
 use mathlib.Core.Bool.{Bool, true, false, not, cond}
 use lib.Dec.{T, ltb, ltb→lt, nltb→le}
 use lib.Signed.{mag}
-use mir.Syntax.{Width}
-use mir.Val.{hbits, SFits}
+use mir.Syntax.{Width, w32, w64}
+use mir.Val.{hbits, SFits, toZ, ofZ}
+use mir.Facts.{toZ-ofZ, toZ-pos, sfits-widen}
 use lib.IntN.{ℤ, pos, negsuc, natAbs, negℤ, subℕ, _+ℤ_, _-ℤ_, _*ℤ_}
 
 -- How far an integer lies above 0, and how far below
@@ -115,3 +116,19 @@ sfits-of-natAbs x h = record { sfits = lt-of-le-of-lt (mag-le-natAbs x) h }
 
 pub minus-one-sub : (k : ℕ) → negsuc 0 -ℤ negsuc k ≡ pos k
 minus-one-sub k = eq-of-difference (difference-sub (difference (negsuc 0)) (difference (negsuc k))) (difference-pos k) (omega arith)
+
+-- ---- a number of 32 signed bits in 64: the machine reads it as it is, and a sum with a number below 2^32 is far from the ends
+
+module _ {x : ℤ} (fits : SFits w32 x) where
+  pub widened : toZ w64 (ofZ w64 (toZ w32 (ofZ w32 x))) ≡ x
+  widened = ap (λ (z : ℤ). toZ w64 (ofZ w64 z)) (toZ-ofZ fits) ∙ toZ-ofZ (sfits-widen tt fits)
+
+  pub widens : SFits w64 (toZ w32 (ofZ w32 x))
+  widens = rw (toZ-ofZ {w = w32} fits) (sfits-widen tt fits)
+
+  module _ (k : ℕ) (low : k < 2 ^ 32) where
+    pub widened-sum : toZ w64 (ofZ w64 (toZ w32 (ofZ w32 x))) +ℤ toZ w64 k ≡ x +ℤ pos k
+    widened-sum = ap₂ _+ℤ_ widened (toZ-pos w64 (omega (arith, low)))
+
+    pub sum-fits : SFits w64 (x +ℤ pos k)
+    sum-fits = sfits-of-natAbs (x +ℤ pos k) (omega (arith, natAbs-add-le x (pos k), natAbs-le-mag x, fits .sfits, low))

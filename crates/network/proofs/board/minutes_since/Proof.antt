@@ -5,9 +5,9 @@ use native.Mathlib.Omega.{arith}
 use lib.IntN.{ℤ, pos, natAbs, _+ℤ_, _-ℤ_}
 use mir.Syntax.{w32, w64}
 use mir.Val.{SFits, toZ, ofZ}
-use mir.Facts.{toZ-ofZ, sfits-widen}
+use mir.Facts.{toZ-ofZ}
 use Rattle.network.specs.Gap as gaps
-use Rattle.network.proofs.Laws.Integers.{natAbs-sub-le, natAbs-le-mag, sfits-of-natAbs}
+use Rattle.network.proofs.Laws.Integers.{natAbs-sub-le, natAbs-le-mag, sfits-of-natAbs, widened, widens}
 use borrow.Author.Needs.{needs}
 use Rattle.network.proofs.board.minutes_since.Statement.{statement}
 use Rattle.network.proofs.board.minutes_since.Tie as tie
@@ -24,10 +24,10 @@ module _ (s : tie.Start) where
   fits = sfits-of-natAbs before (omega (arith, small))
 
   read : toZ w64 (ofZ w64 (toZ w32 (ofZ w32 (s .args .from)))) -ℤ pos 1 ≡ before
-  read = ap (λ (z : ℤ). z -ℤ pos 1) (ap (λ (z : ℤ). toZ w64 (ofZ w64 z)) (toZ-ofZ (s .fits .from)) ∙ toZ-ofZ (sfits-widen tt (s .fits .from)))
+  read = ap (λ (z : ℤ). z -ℤ pos 1) (widened (s .fits .from))
 
 cast-before : tie.Need-cast-before
-cast-before c = rw (toZ-ofZ {w = w32} (c .fits .from)) (sfits-widen tt (c .fits .from))
+cast-before c = widens (c .fits .from)
 
 sub-before : tie.Need-sub-before
 sub-before c = rw (read c) (fits c)
