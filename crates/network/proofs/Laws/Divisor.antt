@@ -1,14 +1,20 @@
 -- The laws of divisibility, the greatest common divisor, the least common multiple and the common cycle: by one induction along the
--- repeated remainder, each step of which keeps a common divisor that is a combination of the two numbers. Assumes nothing.
+-- repeated remainder, each step of which keeps a common divisor that is a combination of the two numbers; and how quotient and remainder go
+-- on from a number to the next. Assumes nothing.
 use Prim.Native.Nat.{ℕ, zero, suc, _+_, _*_, _/_, _%_, _≤_, _<_, _∣_, suc-le-suc}
 use native.Mathlib.Nat.{dvd-trans, dvd-mul-left, dvd-add, dvd-add-iff-right, dvd-antisymm, dvd-of-mul-dvd-mul-right, mul-dvd-mul-left}
 use native.Mathlib.Nat.{div-mul-cancel, le-of-dvd, pos-of-dvd-of-pos, eq-zero-or-pos, div-add-mod', mod-lt, mul-pos, mul-comm, mul-one}
 use native.Mathlib.Nat.{le-div-iff-mul-le, zero-lt-suc, le-refl, le-of-suc-le-suc, not-suc-le-zero}
+use native.Mathlib.Nat.{mod-eq-of-lt, mod-self, add-mul-mod-self-right, add-mul-div-right, div-eq-of-lt}
 use native.Mathlib.Omega.{arith}
 use mathlib.Core.Path.{_≡_, refl, sym, ap, subst, _∙_}
+use mathlib.Core.Bool.{Bool, true, false}
 use mathlib.Core.Logic.{_⊎_, inl, inr}
 use mathlib.Core.List.{List, [], _∷_, _++_}
+use borrow.Author.Tests.{eqb-true, eqb-false}
+use lib.Dec.{eqb}
 use lib.ListN.{length, getD, length-append, List·getD-append}
+use Rattle.network.specs.Lists.{pick}
 use Rattle.network.specs.Divisor.{Divides, gcdWithin, gcd, lcm, cycleFrom, commonCycle, IsLeastCommonMultiple}
 
 -- ---- divisibility. The library's is truncated; the quotient is its witness
@@ -279,3 +285,46 @@ commonCycle-prefix-le ps qs all e positive =
     subst (λ (t : ℕ). Divides t (commonCycle all)) (ap (λ (l : List ℕ). getD l i 0) (sym e) ∙ List·getD-append ps qs 0 i h)
     (period-divides-commonCycle all i (omega (arith, h, ap length e, length-append ps qs)))))
     (commonCycle-pos all positive)
+
+-- ---- a number and one more, divided by a number
+
+module _ (m t : ℕ) (positive : 0 < t) where
+  abbrev q : ℕ
+  q = m / t
+
+  abbrev r : ℕ
+  r = m % t
+
+  low : r < t
+  low = mod-lt m positive
+
+  whole : m ≡ q * t + r
+  whole = sym (div-add-mod' m t)
+
+  -- the remainder of one more by a number
+  pub mod-next : (m + 1) % t ≡ pick (eqb (m % t + 1) t) 0 (m % t + 1)
+  mod-next = go (eqb (r + 1) t) refl
+    where
+      go : (b : Bool) → eqb (r + 1) t ≡ b → (m + 1) % t ≡ pick b 0 (r + 1)
+      go true e =
+          let all : r + 1 ≡ t = eqb-true (r + 1) t e in
+          let more : m + 1 ≡ t + q * t = omega (arith, whole, all) in
+          ap (λ (k : ℕ). k % t) more ∙ add-mul-mod-self-right t q t ∙ mod-self t
+      go false e =
+          let more : m + 1 ≡ r + 1 + q * t = omega (arith, whole) in
+          let within : r + 1 < t = omega (arith, low, eqb-false (r + 1) t e) in
+          ap (λ (k : ℕ). k % t) more ∙ add-mul-mod-self-right (r + 1) q t ∙ mod-eq-of-lt within
+
+  -- .. and how often that fits
+  pub div-next : (m + 1) / t ≡ m / t + pick (eqb (m % t + 1) t) 1 0
+  div-next = go (eqb (r + 1) t) refl
+    where
+      go : (b : Bool) → eqb (r + 1) t ≡ b → (m + 1) / t ≡ q + pick b 1 0
+      go true e =
+          let all : r + 1 ≡ t = eqb-true (r + 1) t e in
+          let more : m + 1 ≡ 0 + (q + 1) * t = omega (arith, whole, all) in
+          ap (λ (k : ℕ). k / t) more ∙ add-mul-div-right 0 (q + 1) positive ∙ omega (arith, div-eq-of-lt positive)
+      go false e =
+          let more : m + 1 ≡ r + 1 + q * t = omega (arith, whole) in
+          let within : r + 1 < t = omega (arith, low, eqb-false (r + 1) t e) in
+          ap (λ (k : ℕ). k / t) more ∙ add-mul-div-right (r + 1) q positive ∙ omega (arith, div-eq-of-lt within)

@@ -1,12 +1,11 @@
 -- The rows by which the engine lists a board are right from minute to minute: the minutes since a call's latest arrival are a residue by its period, which
 -- grows by one each minute and is 0 where the call arrives; and how often a period fits counts these arrivals. Assumes nothing.
-use Prim.Native.Nat.{ℕ, zero, suc, _+_, _*_, _/_, _%_, _<_, _≤_}
+use Prim.Native.Nat.{ℕ, zero, suc, _+_, _/_, _%_, _<_, _≤_}
 use mathlib.Core.Path.{_≡_, refl, sym, ap, ap₂, subst, _∙_}
-use mathlib.Core.Bool.{Bool, true, false}
+use mathlib.Core.Bool.{Bool}
 use mathlib.Core.List.{List, map, map-map}
-use native.Mathlib.Nat.{mod-lt, mod-eq-of-lt, div-add-mod', add-mul-mod-self-right, add-mul-div-right, div-eq-of-lt, mod-self}
+use native.Mathlib.Nat.{div-eq-of-lt}
 use native.Mathlib.Omega.{arith}
-use borrow.Author.Tests.{eq-eqb, ne-eqb, eqb-true, eqb-false}
 use lib.Dec.{eqb}
 use lib.IntN.{ℤ, pos, _+ℤ_, _-ℤ_}
 use lib.ListN.{length, getD, length-append, length-map}
@@ -23,72 +22,13 @@ use Rattle.network.proofs.Laws.Lists.{map-same}
 use Rattle.network.proofs.Laws.Members.{map-below-all}
 use Rattle.network.proofs.Laws.Tables.{below-same, below-of-member, countBelow-length, countBelow-same}
 use Rattle.network.proofs.Laws.Integers.{difference, difference-pos, difference-add, difference-sub, eq-of-difference}
-use Rattle.network.proofs.Laws.Gap.{residue-lt, residue-pos, residue-of-residue, residue-of-add}
+use Rattle.network.proofs.Laws.Divisor.{div-next}
+use Rattle.network.proofs.Laws.Gap.{residue-lt, residue-later, residue-next, residue-next-zero}
 use Rattle.network.proofs.Laws.Alike.{ordered-period-pos, ordered-line-lt}
 use Rattle.network.proofs.Laws.Placed.{ordered-le-maxAtStop}
 use Rattle.network.proofs.Laws.BoardRows.{arriving, boardAt-by, boardAt-lines, boardAt-times}
 
--- ---- one minute more
-
-module _ (m t : ℕ) (positive : 0 < t) where
-  abbrev q : ℕ
-  q = m / t
-
-  abbrev r : ℕ
-  r = m % t
-
-  low : r < t
-  low = mod-lt m positive
-
-  whole : m ≡ q * t + r
-  whole = sym (div-add-mod' m t)
-
-  -- the remainder of one more by a number
-  pub mod-next : (m + 1) % t ≡ pick (eqb (m % t + 1) t) 0 (m % t + 1)
-  mod-next = go (eqb (r + 1) t) refl
-    where
-      go : (b : Bool) → eqb (r + 1) t ≡ b → (m + 1) % t ≡ pick b 0 (r + 1)
-      go true e =
-          let all : r + 1 ≡ t = eqb-true (r + 1) t e in
-          let more : m + 1 ≡ t + q * t = omega (arith, whole, all) in
-          ap (λ (k : ℕ). k % t) more ∙ add-mul-mod-self-right t q t ∙ mod-self t
-      go false e =
-          let more : m + 1 ≡ r + 1 + q * t = omega (arith, whole) in
-          let within : r + 1 < t = omega (arith, low, eqb-false (r + 1) t e) in
-          ap (λ (k : ℕ). k % t) more ∙ add-mul-mod-self-right (r + 1) q t ∙ mod-eq-of-lt within
-
-  -- .. and how often that fits
-  pub div-next : (m + 1) / t ≡ m / t + pick (eqb (m % t + 1) t) 1 0
-  div-next = go (eqb (r + 1) t) refl
-    where
-      go : (b : Bool) → eqb (r + 1) t ≡ b → (m + 1) / t ≡ q + pick b 1 0
-      go true e =
-          let all : r + 1 ≡ t = eqb-true (r + 1) t e in
-          let more : m + 1 ≡ 0 + (q + 1) * t = omega (arith, whole, all) in
-          ap (λ (k : ℕ). k / t) more ∙ add-mul-div-right 0 (q + 1) positive ∙ omega (arith, div-eq-of-lt positive)
-      go false e =
-          let more : m + 1 ≡ r + 1 + q * t = omega (arith, whole) in
-          let within : r + 1 < t = omega (arith, low, eqb-false (r + 1) t e) in
-          ap (λ (k : ℕ). k / t) more ∙ add-mul-div-right (r + 1) q positive ∙ omega (arith, div-eq-of-lt within)
-
--- A residue some minutes later, and one minute later
-pub residue-later : (x : ℤ) (k t : ℕ) → 0 < t → residue (x +ℤ pos k) t ≡ (residue x t + k) % t
-residue-later x k t positive =
-    residue-of-add x (pos (residue x t)) (pos k) t positive (residue-of-residue x t positive) ∙ residue-pos (residue x t + k) t
-
-pub residue-next : (x : ℤ) (t : ℕ) → 0 < t → residue (x +ℤ pos 1) t ≡ pick (eqb (residue x t + 1) t) 0 (residue x t + 1)
-residue-next x t positive =
-    residue-later x 1 t positive
-    ∙ mod-next (residue x t) t positive
-    ∙ ap (λ (k : ℕ). pick (eqb (k + 1) t) 0 (k + 1)) (mod-eq-of-lt (residue-lt x t positive))
-
--- It is 0 exactly where its period has passed
-pub residue-next-zero : (x : ℤ) (t : ℕ) → 0 < t → eqb (residue (x +ℤ pos 1) t) 0 ≡ eqb (residue x t + 1) t
-residue-next-zero x t positive = ap (λ (k : ℕ). eqb k 0) (residue-next x t positive) ∙ go (eqb (residue x t + 1) t)
-  where
-    go : (b : Bool) → eqb (pick b 0 (residue x t + 1)) 0 ≡ b
-    go true = eq-eqb 0 0 refl
-    go false = ne-eqb (residue x t + 1) 0 (λ e. omega (arith, e))
+-- ---- minutes before and after
 
 minute-before : (time a : ℤ) → time -ℤ a ≡ time -ℤ pos 1 -ℤ a +ℤ pos 1
 minute-before time a =

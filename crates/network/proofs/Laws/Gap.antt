@@ -5,11 +5,16 @@ use native.Mathlib.Nat.{mod-lt, mod-le, mod-eq-of-lt, div-add-mod', add-mul-mod-
 use native.Mathlib.Nat.{eq-zero-or-pos, le-antisymm, le-mul-of-pos-right, eq-of-mul-eq-mul-right}
 use native.Mathlib.Omega.{arith, min-cases}
 use mathlib.Core.Path.{_≡_, refl, sym, ap, subst, _∙_}
+use mathlib.Core.Bool.{Bool, true, false}
 use mathlib.Core.Logic.{_⊎_, inl, inr}
+use borrow.Author.Tests.{eq-eqb, ne-eqb}
+use lib.Dec.{eqb}
 use lib.IntN.{ℤ, pos, negsuc, natAbs, subℕ, _+ℤ_, _-ℤ_, _*ℤ_, zero-*ℤ, +ℤ-idr}
+use Rattle.network.specs.Lists.{pick}
 use Rattle.network.specs.Divisor.{gcd}
 use Rattle.network.specs.Gap.{trip, distance, IsGap, IsGapFromZero, residue, fold, gapOf}
 use Rattle.network.proofs.Laws.Divisor.{div-mul-of-divides, gcd-divides-left, gcd-divides-right, gcd-combination, gcd-pos-left}
+use Rattle.network.proofs.Laws.Divisor.{mod-next}
 use Rattle.network.proofs.Laws.Integers.{up, dn, IsDifference, difference, difference-pos, difference-subℕ, difference-add}
 use Rattle.network.proofs.Laws.Integers.{difference-sub, difference-add-multiple, difference-of-eq, eq-of-difference}
 use Rattle.network.proofs.Laws.Integers.{natAbs-of-difference}
@@ -66,6 +71,25 @@ residue-of-add x y z g h e =
     let l = difference-add (difference-add-multiple (difference y) (difference k) g) (difference z) in
     let r = difference-add-multiple (difference-add (difference y) (difference z)) (difference k) g in
     residue-eq-of-multiple (x +ℤ z) (y +ℤ z) k g (ap (λ (w : ℤ). w +ℤ z) f ∙ eq-of-difference l r (omega arith))
+
+-- The residue of a number so much higher, and of the next
+pub residue-later : (x : ℤ) (k t : ℕ) → 0 < t → residue (x +ℤ pos k) t ≡ (residue x t + k) % t
+residue-later x k t positive =
+    residue-of-add x (pos (residue x t)) (pos k) t positive (residue-of-residue x t positive) ∙ residue-pos (residue x t + k) t
+
+pub residue-next : (x : ℤ) (t : ℕ) → 0 < t → residue (x +ℤ pos 1) t ≡ pick (eqb (residue x t + 1) t) 0 (residue x t + 1)
+residue-next x t positive =
+    residue-later x 1 t positive
+    ∙ mod-next (residue x t) t positive
+    ∙ ap (λ (k : ℕ). pick (eqb (k + 1) t) 0 (k + 1)) (mod-eq-of-lt (residue-lt x t positive))
+
+-- .. which is 0 exactly where the modulus is reached
+pub residue-next-zero : (x : ℤ) (t : ℕ) → 0 < t → eqb (residue (x +ℤ pos 1) t) 0 ≡ eqb (residue x t + 1) t
+residue-next-zero x t positive = ap (λ (k : ℕ). eqb k 0) (residue-next x t positive) ∙ go (eqb (residue x t + 1) t)
+  where
+    go : (b : Bool) → eqb (pick b 0 (residue x t + 1)) 0 ≡ b
+    go true = eq-eqb 0 0 refl
+    go false = ne-eqb (residue x t + 1) 0 (λ e. omega (arith, e))
 
 pub gapOf-residue : (a b c d : ℤ) (t u : ℕ) → residue (a -ℤ b) (gcd t u) ≡ residue (c -ℤ d) (gcd t u) → gapOf a t b u ≡ gapOf c t d u
 unfolding gapOf
