@@ -35,6 +35,7 @@ pub mod Trips
 pub mod Tidy
 pub mod Scan
 pub mod Rate
+pub mod GapRow
 pub mod Joined
 pub mod Sorted
 pub mod Archive

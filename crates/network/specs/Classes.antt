@@ -3,12 +3,12 @@
 use Prim.Native.Nat.{ℕ, zero, suc, _<_}
 use mathlib.Core.Path.{_≡_}
 use mathlib.Core.Bool.{Bool, true, _&&_}
-use mathlib.Core.List.{List, [], _∷_, _++_, map}
+use mathlib.Core.List.{List, map}
 use lib.Dec.{eqb}
 use lib.IntN.{pos, _-ℤ_}
 use lib.ListN.{length, getD}
 use Rattle.network.specs.declared.Call.{Call}
-use Rattle.network.specs.Lists.{pick, allBelow, countBelow, below}
+use Rattle.network.specs.Lists.{pick, allBelow, countBelow, below, table}
 use Rattle.network.specs.Divisor.{gcd}
 use Rattle.network.specs.Network.{Net, maxStop, isServed}
 use Rattle.network.specs.Valid.{noCall}
@@ -70,11 +70,6 @@ lowestAlike n s = firstBelow (λ t. isAlike n t s) (suc maxStop)
 -- A stop that is the lowest of its class
 unfoldable pub isLowest : Net → ℕ → Bool
 isLowest n s = isServed s (n .calls) && eqb (lowestAlike n s) s
-
--- One number for each number below a bound
-unfoldable pub table : (ℕ → ℕ) → ℕ → List ℕ
-table f zero = []
-table f (suc n) = table f n ++ (f n ∷ [])
 
 -- What the class row holds for an unserved stop
 abbrev pub unserved : ℕ

@@ -15,6 +15,7 @@ pub mod Loops
 pub mod ByLines
 pub mod Classes
 pub mod Rate
+pub mod GapRow
 pub mod ClassCall
 pub mod Board
 pub mod Engine

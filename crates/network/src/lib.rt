@@ -4,6 +4,7 @@ pub mod archive;
 pub mod board;
 pub mod classes;
 pub mod divisor;
+pub mod gap_row;
 pub mod gaps;
 mod places;
 pub mod rate;
@@ -99,6 +100,9 @@ impl Network {
 
     // In the class row: the stop is unserved.
     pub const UNSERVED: u8 = 255;
+
+    // In the gap row: the stop is unserved.
+    pub const NO_GAP: u16 = 65535;
 
     // The longest board of a stop.
     pub const MAX_MINUTES: u32 = 10080;

@@ -5,7 +5,7 @@ use mathlib.Core.Path.{_≡_, refl}
 use mathlib.Core.List.{List, [], _∷_}
 use lib.IntN.{ℤ, pos, negsuc}
 use lib.ListN.{take, replicate, length}
-use Rattle.network.specs.Lists.{any, keep, allBelow, countBelow, below, sumOf, leastOf, pairsOf, leastFrom}
+use Rattle.network.specs.Lists.{any, keep, allBelow, countBelow, below, table, sumOf, leastOf, pairsOf, leastFrom}
 use Rattle.network.specs.Divisor.{gcd, gcdWithin, lcm, commonCycle, cycleFrom}
 use Rattle.network.specs.Network.{cycle, callsAt, howOftenAt, callsAnywhere, isServed, servedStops, latestOffset, word, command, operandBytes, lineOperand}
 use Rattle.network.specs.Network.{stopOperand, statedOffset, rideOffset, withLine, withCall, callOf, extend}
@@ -15,7 +15,7 @@ use Rattle.network.specs.Gap.{residue, fold, gapOf}
 use Rattle.network.specs.Rating.{arrivalOf, periodOf, gapOfCalls, pairGaps, gapOfStop, callsOfStop, stopGap, eachOnce, servedList, counted, ratingBy, ratingOver, rating, isAbove}
 use Rattle.network.specs.Rate.{ratingValues, onSheet, rateOutcome}
 use Rattle.network.specs.Tidy.{insertBy, sortBy, notAfter, tidy}
-use Rattle.network.specs.Classes.{ordered, remainder, sameLine, sameRemainder, isAlike, firstBelow, lowestAlike, isLowest, table, classRow, weightRow, classCount}
+use Rattle.network.specs.Classes.{ordered, remainder, sameLine, sameRemainder, isAlike, firstBelow, lowestAlike, isLowest, classRow, weightRow, classCount}
 use Rattle.network.specs.Loops.{ownGap}
 use Rattle.search.specs.Caps.{halfOf, pairCap, pairCaps, evenSpacing, capOfCalls, cap, placedCalls, upperValue, upperRating}
 use Rattle.search.specs.Walk.{isOver, tryMade, stop, becomesBest, unless, stopIf, oneTry, eachStart, walk, mostTries}

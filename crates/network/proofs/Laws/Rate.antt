@@ -9,7 +9,7 @@ use native.Mathlib.Omega.{arith}
 use borrow.Author.Tests.{ltb-true}
 use lib.Dec.{eqb, ltb}
 use lib.IntN.{ℤ}
-use lib.ListN.{length, getD}
+use lib.ListN.{length, getD, take, replicate, getD-replicate}
 use Rattle.network.specs.declared.Call.{Call}
 use Rattle.network.specs.Lists.{below, leastOf, keep}
 use Rattle.network.specs.Network.{Net, maxStop, maxPeriod, isServed}
@@ -25,8 +25,10 @@ use Rattle.network.specs.Rating.{
   counted,
   ratingBy,
   ratingOver,
+  rating,
 }
-use Rattle.network.specs.Engine.Scan.{countedStops}
+use Rattle.network.specs.Engine.Scan.{countedStops, Lent}
+use Rattle.network.specs.Engine.Stored.{netOf, callsIn}
 use Rattle.network.proofs.Laws.Lists.{map-same}
 use Rattle.network.proofs.Laws.Members.{keep-all}
 use Rattle.network.proofs.Laws.Tables.{below-of-member, below-same}
@@ -89,3 +91,26 @@ unfolding stopGap callsOfStop periodOf
 stopGap-le-maxPeriod {n} v starts stop =
     gapOfStop-le-maxPeriod n starts (keep (λ (c : Call). eqb (c .stop) stop) (n .calls))
     (keep-all noCall (λ (c : Call). eqb (c .stop) stop) (InRange n) (n .calls) (λ k h e. (v .period-pos _ (v .call-line k h), v .period _ (v .call-line k h))))
+
+-- ---- rows of a network that is lent: which stops its calls serve, and their gaps
+
+-- A row in which every place is 1
+pub ones-are : (stop : ℕ) → stop < 64 → _≡_ {A = ℕ} (getD (replicate 64 1) stop 0) 1
+ones-are stop h = getD-replicate 64 stop 1 0 h
+
+module _ {periods list : List ℕ} {lines calls : ℕ} (h : Lent periods list lines calls) (counts : List ℕ)
+    (flags : (stop : ℕ) → stop < 64 → ltb 0 (getD counts stop 0) ≡ isServed stop (take calls (callsIn list))) where
+  pub lent-served : (stop : ℕ) → stop < 64 → ltb 0 (getD counts stop 0) ≡ isServed stop (netOf (h .network) .calls)
+  unfolding netOf
+  lent-served stop low =
+      flags stop low ∙ ap₂ (λ (k : ℕ) (l : List ℕ). isServed stop (take k (callsIn l))) (h .calls-are) (h .list-is)
+
+  -- the rating of each served stop once is the network's
+  pub lent-rating :
+      (starts : List ℤ) (gaps : List ℕ)
+      → ((stop : ℕ) → stop < 64 → 0 < getD counts stop 0 → getD gaps stop 0 ≡ stopGap (netOf (h .network)) starts stop)
+      → ratingBy (λ s. getD gaps s 0) (countedStops counts (replicate 64 1)) ≡ rating (netOf (h .network)) starts
+  unfolding rating
+  lent-rating starts gaps are =
+      rating-of-rows (netOf (h .network)) starts gaps counts (replicate 64 1) are
+      ∙ ap (ratingOver (netOf (h .network)) starts) (counted-served (netOf (h .network)) counts (replicate 64 1) lent-served ones-are)

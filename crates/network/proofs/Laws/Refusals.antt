@@ -58,12 +58,23 @@ pub record TellsApart {A : Type 0} (answers : Net → List ℤ → A) (refuses :
   pub no-refusal : (n : Net) → readFile file ≡ accepted n → length sheet ≡ length (n .periods) → (number place : ℕ) → answers n sheet ≡ refuses number place → ⊥
   pub same-number : (number place number′ place′ : ℕ) → refuses number place ≡ refuses number′ place′ → (number ≡ number′) × (place ≡ place′)
 
+-- On a network it answers where the sheet fits ..
+pub on-sheet-fits : {A : Type 0} (answers : Net → List ℤ → A) (refuses : ℕ → ℕ → A) (n : Net) (sheet : List ℤ) → length sheet ≡ length (n .periods)
+    → onSheet answers refuses (accepted n) sheet ≡ answers n sheet
+unfolding onSheet
+on-sheet-fits answers refuses n sheet fits = ap (λ (b : Bool). pick b (answers n sheet) (refuses 15 0)) (eq-eqb _ _ fits)
+
+-- .. and refuses by 15 where it doesn't
+pub on-sheet-unfit : {A : Type 0} (answers : Net → List ℤ → A) (refuses : ℕ → ℕ → A) (n : Net) (sheet : List ℤ) → (length sheet ≡ length (n .periods) → ⊥)
+    → onSheet answers refuses (accepted n) sheet ≡ refuses 15 0
+unfolding onSheet
+on-sheet-unfit answers refuses n sheet differ = picked-unfit _ (answers n sheet) (refuses 15 0) (ne-eqb _ _ differ)
+
 module _ {A : Type 0} (answers : Net → List ℤ → A) (refuses : ℕ → ℕ → A) (file : List ℕ) (sheet : List ℤ) where
   pub on-sheet-refuses : {number place : ℕ} → Refuses file 15 (Unfit sheet) number place → onSheet answers refuses (readFile file) sheet ≡ refuses number place
   unfolding onSheet
   on-sheet-refuses (by-file e) = ap (λ (k : Reading). onSheet answers refuses k sheet) e
-  on-sheet-refuses (after-file {n = n} e differ) =
-      ap (λ (k : Reading). onSheet answers refuses k sheet) e ∙ picked-unfit _ (answers n sheet) (refuses 15 0) (ne-eqb _ _ differ)
+  on-sheet-refuses (after-file {n = n} e differ) = ap (λ (k : Reading). onSheet answers refuses k sheet) e ∙ on-sheet-unfit answers refuses n sheet differ
 
   pub on-sheet-refuses-only : TellsApart answers refuses file sheet → {number place : ℕ} → onSheet answers refuses (readFile file) sheet ≡ refuses number place
       → Refuses file 15 (Unfit sheet) number place
@@ -87,9 +98,7 @@ module _ {A : Type 0} (answers : Net → List ℤ → A) (refuses : ℕ → ℕ 
   -- .. and otherwise it answers
   pub on-sheet-answers : {n : Net} → readFile file ≡ accepted n → length sheet ≡ length (n .periods)
       → onSheet answers refuses (readFile file) sheet ≡ answers n sheet
-  unfolding onSheet
-  on-sheet-answers {n} e fits =
-      ap (λ (k : Reading). onSheet answers refuses k sheet) e ∙ ap (λ (b : Bool). pick b (answers n sheet) (refuses 15 0)) (eq-eqb _ _ fits)
+  on-sheet-answers {n} e fits = ap (λ (k : Reading). onSheet answers refuses k sheet) e ∙ on-sheet-fits answers refuses n sheet fits
 
 -- ---- a call that rates a sheet
 

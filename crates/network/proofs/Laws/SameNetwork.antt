@@ -14,13 +14,14 @@ use Rattle.network.specs.declared.Rating.{Rating}
 use Rattle.network.specs.Archive.{tidied, SameOffsets}
 use Rattle.network.specs.Board.{Window, maxMinutes, boardGrounds, refusedOr, boardOutcome, timeRowAfter, lineRowAfter}
 use Rattle.network.specs.ClassCall.{rowsFit, classOutcome, classRowAfter, weightRowAfter, weightedRating, weightedOutcome}
-use Rattle.network.specs.Classes.{ordered, remainder, sameLine, sameRemainder, isAlike, firstBelow, lowestAlike, isLowest, table, unserved, classRow, weightRow, classCount}
+use Rattle.network.specs.Classes.{ordered, remainder, sameLine, sameRemainder, isAlike, firstBelow, lowestAlike, isLowest, unserved, classRow, weightRow, classCount}
 use Rattle.network.specs.Divisor.{commonCycle}
+use Rattle.network.specs.GapRow.{noGap, gapRow, gapRowAfter}
 use Rattle.network.specs.Grounds.{_at_when_, first}
-use Rattle.network.specs.Lists.{pick, allBelow, countBelow}
+use Rattle.network.specs.Lists.{pick, allBelow, countBelow, table}
 use Rattle.network.specs.Network.{Net, netWith, withEdition, firstEdition, maxStop, cycle, isServed, servedStops}
 use Rattle.network.specs.Rate.{ratingValues, onSheet, ratedOnSheet, rateOutcome}
-use Rattle.network.specs.Rating.{periodOf, gapOfCalls, pairGaps, callsOfStop, counted, rating}
+use Rattle.network.specs.Rating.{periodOf, gapOfCalls, pairGaps, callsOfStop, stopGap, counted, rating}
 use Rattle.network.specs.Reading.{Reading, accepted, values, refusal, readOutcome}
 use Rattle.network.specs.Tidy.{tidy}
 use Rattle.network.specs.Valid.{Valid, noCall}
@@ -28,7 +29,7 @@ use Rattle.network.proofs.Laws.Archive.{tidied-valid}
 use Rattle.network.proofs.Laws.BoardRows.{board-rows-same}
 use Rattle.network.proofs.Laws.Classes.{lowest-rating}
 use Rattle.network.proofs.Laws.Permutations.{any-permuted, keep-permuted}
-use Rattle.network.proofs.Laws.Permuted.{counted-permuted, rating-permuted}
+use Rattle.network.proofs.Laws.Permuted.{counted-permuted, stopGap-permuted, rating-permuted}
 use Rattle.network.proofs.Laws.Tidy.{length-tidy, tidy-is-permutation, tidy-tidy, tidy-of-howOften, keep-tidy}
 
 -- The network with its calls in order, in the first edition: one for all files with these periods and offsets
@@ -163,6 +164,18 @@ classCount-plain : (n : Net) → classCount (plain n) ≡ classCount n
 unfolding classCount
 classCount-plain n = ap (λ (p : ℕ → Bool). countBelow p (suc maxStop)) (fun-ext (isLowest-plain n))
 
+-- ---- the gap row
+
+stopGap-plain : {n : Net} → Valid n → (starts : List ℤ) (stop : ℕ) → stopGap (plain n) starts stop ≡ stopGap n starts stop
+unfolding plain tidied
+stopGap-plain {n} v starts stop = sym (stopGap-permuted n (plain n) v refl (Permᴰ·symm (tidy-is-permutation (n .calls))) starts stop)
+
+gap-row-plain : {n : Net} → Valid n → (row : List ℕ) (sheet : List ℤ) → gapRowAfter row (accepted (plain n)) sheet ≡ gapRowAfter row (accepted n) sheet
+unfolding gapRowAfter onSheet gapRow plain tidied
+gap-row-plain {n} v row sheet =
+    ap (λ (f : ℕ → ℕ). pick (eqb (length sheet) (length (n .periods))) (table f (suc maxStop)) row)
+    (fun-ext (λ stop. ap₂ (λ (t : Bool) (gap : ℕ). pick t gap noGap) (isServed-plain n stop) (stopGap-plain v sheet stop)))
+
 -- ---- boards
 
 -- What the board call answers and leaves in the rows, by the lengths, the times and the lines of its list
@@ -198,6 +211,7 @@ pub record AnswersAlike (one other : Reading) : Type 0 where
   pub classes-alike : (classes weights : ℕ) → classOutcome one classes weights ≡ classOutcome other classes weights
   pub class-row-alike : (classes weights : List ℕ) → classRowAfter one classes weights ≡ classRowAfter other classes weights
   pub weight-row-alike : (classes weights : List ℕ) → weightRowAfter one classes weights ≡ weightRowAfter other classes weights
+  pub gap-row-alike : (row : List ℕ) (sheet : List ℤ) → gapRowAfter row one sheet ≡ gapRowAfter row other sheet
   pub board-alike :
       (w : Window) (timeRow : List ℤ) (lineRow : List ℕ) (sheet : List ℤ)
       → (boardOutcome w (length timeRow) (length lineRow) one sheet ≡ boardOutcome w (length timeRow) (length lineRow) other sheet)
@@ -214,6 +228,7 @@ plain-answers-alike {n} v =
       classes-alike = λ classes weights. ap (λ (k : ℕ). pick (rowsFit classes weights) (values (k ∷ [])) (refusal 17 0)) (classCount-plain n);
       class-row-alike = λ classes weights. ap (λ (l : List ℕ). pick (rowsFit (length classes) (length weights)) l classes) (classRow-plain n);
       weight-row-alike = λ classes weights. ap (λ (l : List ℕ). pick (rowsFit (length classes) (length weights)) l weights) (weightRow-plain n);
+      gap-row-alike = gap-row-plain v;
       board-alike = board-plain n;
     }
 
@@ -229,6 +244,7 @@ same-answers-alike {m} {n} v w same =
       classes-alike = λ classes weights. sym (a .classes-alike classes weights) ∙ b .classes-alike classes weights;
       class-row-alike = λ classes weights. sym (a .class-row-alike classes weights) ∙ b .class-row-alike classes weights;
       weight-row-alike = λ classes weights. sym (a .weight-row-alike classes weights) ∙ b .weight-row-alike classes weights;
+      gap-row-alike = λ row sheet. sym (a .gap-row-alike row sheet) ∙ b .gap-row-alike row sheet;
       board-alike = λ w timeRow lineRow sheet.
           let (one, times-are, lines-are) = a .board-alike w timeRow lineRow sheet in
           let (other, times-there, lines-there) = b .board-alike w timeRow lineRow sheet in

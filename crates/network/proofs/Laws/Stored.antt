@@ -243,6 +243,19 @@ lentRows n s v =
       calls-are = refl;
     }
 
+-- .. the number of lines being told by another that is the same
+abbrev pub lent-fits : {periods list : List ℕ} {lines other calls : ℕ} → other ≡ lines → Lent periods list lines calls → Lent periods list other calls
+lent-fits e h =
+    record {
+      network = h .network;
+      sound = h .sound;
+      valid = h .valid;
+      periods-are = h .periods-are;
+      list-is = h .list-is;
+      lines-are = e ∙ h .lines-are;
+      calls-are = h .calls-are;
+    }
+
 -- without its calls
 abbrev pub callsDropped : Network → Network
 callsDropped n = record { edition = n .edition; lines = n .lines; periods = n .periods; count = 0; list = n .list; cycle = n .cycle }

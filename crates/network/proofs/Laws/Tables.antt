@@ -4,7 +4,7 @@ use Prim.Native.Nat.{ℕ, zero, suc, _+_, _*_, _%_, _<_, _≤_, min}
 use mathlib.Core.Path.{_≡_, refl, sym, ap, ap₂, fun-ext, _∙_}
 use mathlib.Core.Bool.{Bool, true, false, _&&_}
 use mathlib.Core.List.{List, [], _∷_, _++_, List·Memᴰ, List·Memᴰ·head, List·Memᴰ·not-nil, List·Memᴰ·eq-of-singleton}
-use mathlib.Core.List.{List·Memᴰ·append-cases, Memᴰ·append-left, Memᴰ·append-right}
+use mathlib.Core.List.{map, map-append, List·Memᴰ·append-cases, Memᴰ·append-left, Memᴰ·append-right}
 use mathlib.Core.Logic.{_⊎_, inl, inr}
 use native.Mathlib.Nat.{le-refl, le-of-suc-le-suc, eq-or-lt-of-le, add-zero, add-suc, add-comm, zero-add, zero-mul, mod-eq-of-lt}
 use native.Mathlib.Numerals.{add-one}
@@ -13,9 +13,10 @@ use lib.Dec.{eqb, ltb}
 use lib.ListN.{length, getD, length-append, List·getD-append}
 use lib.Seq.{getD-at}
 use borrow.Author.Tests.{eqb-true, eqb-false, ltb-true, ltb-false}
-use Rattle.network.specs.Lists.{pick, allBelow, countBelow, below}
-use Rattle.network.specs.Classes.{firstBelow, table}
+use Rattle.network.specs.Lists.{pick, keep, allBelow, countBelow, below, table}
+use Rattle.network.specs.Classes.{firstBelow}
 use Rattle.network.proofs.Laws.Lists.{zero-ne-one, and-both, and-not-left, and-not-right}
+use Rattle.network.proofs.Laws.Members.{keep-append}
 
 pub allBelow-of-each : (p : ℕ → Bool) (n : ℕ) → ((i : ℕ) → i < n → p i ≡ true) → allBelow p n ≡ true
 unfolding allBelow
@@ -167,6 +168,12 @@ getD-table f (suc n) i d h = go (getD-table f n i d) (eq-or-lt-of-le (le-of-suc-
     go ih (inl k) = getD-at (table f n) (f n) [] d i (length-table f n ∙ sym k) ∙ ap f (sym k)
     go ih (inr l) = List·getD-append (table f n) (f n ∷ []) d i (rw length-table l) ∙ ih l
 
+pub table-same : (f g : ℕ → ℕ) (n : ℕ) → ((i : ℕ) → i < n → f i ≡ g i) → table f n ≡ table g n
+unfolding table
+table-same f g zero h = refl
+table-same f g (suc n) h =
+    ap₂ (λ (l : List ℕ) (v : ℕ). l ++ (v ∷ [])) (table-same f g n (λ i l. h i (omega arith))) (h n (le-refl _))
+
 -- ---- the list of those that pass
 
 pub below-of-member : (p : ℕ → Bool) (n : ℕ) {i : ℕ} → List·Memᴰ i (below p n) → (i < n) × (p i ≡ true)
@@ -196,6 +203,16 @@ unfolding below
 below-same p q zero h = refl
 below-same p q (suc n) h =
     ap₂ (λ (l : List ℕ) (t : Bool). l ++ pick t (n ∷ []) []) (below-same p q n (λ i l. h i (omega arith))) (h n (le-refl _))
+
+-- A table of which a test keeps what stands at the numbers that pass another
+pub keep-table : (q : ℕ → Bool) (f g : ℕ → ℕ) (p : ℕ → Bool) (n : ℕ) → ((i : ℕ) → keep q (f i ∷ []) ≡ map g (pick (p i) (i ∷ []) []))
+    → keep q (table f n) ≡ map g (below p n)
+unfolding keep table below
+keep-table q f g p zero h = refl
+keep-table q f g p (suc n) h =
+    keep-append q (table f n) (f n ∷ [])
+    ∙ ap₂ _++_ (keep-table q f g p n h) (h n)
+    ∙ sym (map-append g (below p n) (pick (p n) (n ∷ []) []))
 
 pub countBelow-length : (p : ℕ → Bool) (n : ℕ) → countBelow p n ≡ length (below p n)
 unfolding countBelow below
