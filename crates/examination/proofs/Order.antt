@@ -6,6 +6,7 @@
 -- "Every file, sheet and row lent to a call may hold any content and have any length: the call returns"
 pub use Rattle.network.proofs.Demands.{read-asks-nothing, rate-asks-nothing, weighted-asks-nothing, classes-asks-nothing, archive-asks-nothing}
 pub use Rattle.network.proofs.StopBoard.{board-asks-nothing}
+pub use Rattle.network.proofs.StopGaps.{gaps-asks-nothing}
 pub use Rattle.search.proofs.Demands.{search-asks-nothing}
 pub use Rattle.search.proofs.WantedGap.{wanted-asks-nothing}
 pub use Rattle.examination.proofs.Demands.{better-asks-nothing, mark-asks-nothing}
@@ -17,10 +18,12 @@ pub use Rattle.examination.proofs.ExportBetter.{better-export-asks-noth
 pub use Rattle.examination.proofs.HundredMark.{by-key-asks-nothing}
 pub use Rattle.examination.proofs.ExportHundred.{hundred-export-asks-nothing, by-key-export-asks-nothing}
 pub use Rattle.examination.proofs.ExportBoard.{board-export-asks-nothing}
+pub use Rattle.examination.proofs.ExportGaps.{gaps-export-asks-nothing}
 -- "faulty input and no other gets the refusal number and place that document 01 sets ..., and a refused call leaves each lent row exactly as it
 -- found it"
 pub use Rattle.network.proofs.Demands.{read-demand-1, file-gives, file-gives-no-other, rate-demand-1, weighted-demand-1, classes-demand-1, archive-demand-1}
 pub use Rattle.network.proofs.StopBoard.{board-demand-1}
+pub use Rattle.network.proofs.StopGaps.{gaps-demand-1}
 pub use Rattle.search.proofs.Demands.{search-demand-1}
 pub use Rattle.search.proofs.WantedGap.{wanted-demand-1}
 pub use Rattle.examination.proofs.Demands.{mark-demand-1}
@@ -31,6 +34,7 @@ pub use Rattle.examination.proofs.ExportWanted.{wanted-export-demand-1}
 pub use Rattle.examination.proofs.HundredMark.{by-key-demand-1}
 pub use Rattle.examination.proofs.ExportHundred.{hundred-export-demand-1, by-key-export-demand-1}
 pub use Rattle.examination.proofs.ExportBoard.{board-export-demand-1}
+pub use Rattle.examination.proofs.ExportGaps.{gaps-export-demand-1}
 -- "(better-of-two answers by its part alone)"
 pub use Rattle.examination.proofs.Demands.{better-file-refused, better-neither-fits, better-only-first-fits, better-only-second-fits}
 pub use Rattle.examination.proofs.Demands.{better-both-fit}
@@ -46,6 +50,9 @@ pub use Rattle.examination.proofs.ExportDemands.{read-export-answers}
 -- and every sheet of whole-number start times"
 pub use Rattle.network.proofs.Demands.{rate-demand-2}
 pub use Rattle.examination.proofs.ExportDemands.{rate-export-demand-2, weighted-export-demand-2}
+-- .. and stop by stop: the gap row has each served stop's gap over all trips, no other row has, and rate's least gap and sum are those of the row
+pub use Rattle.network.proofs.StopGaps.{gap-row-is-gap-row, gap-row-only, rating-of-gap-row, gaps-fills, gaps-answers-as-rate, rate-of-gap-row, gap-rows}
+pub use Rattle.examination.proofs.ExportGaps.{gaps-export-fills, gaps-export-as-rate, rate-export-of-gap-row}
 -- "the search's answer, starts and number of tries are those of the walk in document 01"
 pub use Rattle.search.proofs.Demands.{search-demand-2, search-answers}
 pub use Rattle.search.proofs.Cases.{P1-to-P9}
@@ -88,6 +95,7 @@ pub use Rattle.network.proofs.Demands.{equal-archives}
 -- Two files with the same periods and offsets, in either edition, a file and its archive form among them, are answered alike
 pub use Rattle.network.proofs.Demands.{same-network-read-alike, same-network-rated-alike, same-network-weighted-alike, same-network-classified-alike}
 pub use Rattle.network.proofs.StopBoard.{same-network-board-alike}
+pub use Rattle.network.proofs.StopGaps.{same-network-gaps-alike}
 pub use Rattle.search.proofs.Demands.{same-network-searched-alike}
 pub use Rattle.search.proofs.WantedGap.{same-network-wanted-alike}
 -- ---- Document 02, A.2

@@ -12,6 +12,7 @@ use Rattle.network.specs.Lists.{pick}
 use Rattle.network.specs.Network.{Net}
 use Rattle.network.specs.Rating.{rating}
 use Rattle.network.specs.Reading.{Reading, accepted, refused, Outcome, refusal}
+use Rattle.network.specs.GapRow.{gapRowAfter}
 use Rattle.network.specs.Board.{Window, boardOutcome, timeRowAfter, lineRowAfter}
 use Rattle.examination.specs.ByKey.{besideKey}
 use Rattle.examination.specs.Sheets.{Better, neither, betterBy, MarkOutcome, markOutcome}
@@ -64,6 +65,10 @@ keyBytes (accepted n) sheet key =
 -- 15: there aren't 4 bytes for each line, of the sheet or of the key
 abbrev pub EitherBytesUnfit : List ℕ → List ℕ → Net → Type 0
 EitherBytesUnfit sheet key n = BytesUnfit sheet n ⊎ BytesUnfit key n
+
+-- The gaps call, the sheet being handed over as bytes: what the row holds afterwards. It answers as rate does
+abbrev pub gapRowBytes : List ℕ → Reading → List ℕ → List ℕ
+gapRowBytes row = byBytes (gapRowAfter row) (λ (number place : ℕ). row)
 
 -- The board of a stop (document 02, A.7), the sheet being handed over as bytes: the answer, and what both rows hold afterwards
 abbrev pub boardBytes : Window → ℕ → ℕ → Reading → List ℕ → Outcome

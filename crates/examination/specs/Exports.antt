@@ -23,8 +23,8 @@ refusalCode number place = placeLimit * number + place
 abbrev pub TellsRefusal : ℕ → ℕ → ℕ → Type 0
 TellsRefusal returned number place = (placeLimit ≤ returned) × (returned / placeLimit ≡ number) × (returned % placeLimit ≡ place)
 
--- Read, rate, the weighted rating, the class call, the board and the mark by a key: 0, and the answer's values in the row; a refusal leaves the row as
--- it was
+-- Read, rate, the weighted rating, the gaps call, the class call, the board and the mark by a key: 0, and the answer's values in the row; a refusal leaves
+-- the row as it was
 unfoldable pub status : Outcome → ℕ
 status (values vs) = 0
 status (refusal number place) = refusalCode number place

@@ -9,12 +9,14 @@ use crate::marking::mark;
 use network::ArchiveAnswer;
 use network::BoardAnswer;
 use network::ClassAnswer;
+use network::Network;
 use network::RateAnswer;
 use network::ReadAnswer;
 use network::archive::archive;
 use network::board::board;
 use network::classes::classes;
 use network::classes::weighted;
+use network::gap_row::gaps;
 use network::rate::rate;
 use network::reader::read;
 use search::SearchAnswer;
@@ -116,6 +118,26 @@ pub extern "C" fn examination_weighted(file: &[u8], sheet: &[u8], answer: &mut [
     let starts = taken.starts;
     let count = taken.count;
     let told = weighted(file, &starts[..count]);
+    put_rating(told, answer)
+}
+
+// The gap of each stop, the sheet as bytes.
+#[no_mangle]
+pub extern "C" fn examination_gaps(
+    file: &[u8],
+    sheet: &[u8],
+    gap_row: &mut [u16; Network::STOPS],
+    answer: &mut [u32; 2],
+) -> u32
+    ensures returned { λ r. ⌜ r ≡ export.status (bytes.byBytes rateOutcome refusal (readFile (now (file .entry))) (now (sheet .entry))) ⌝ }
+    ensures row { λ _. ⌜ now (answer .exit) ≡ export.rowAfter (bytes.byBytes rateOutcome refusal (readFile (now (file .entry))) (now (sheet .entry))) (now (answer .entry)) ⌝ }
+    ensures gaps { λ _. ⌜ now («gap_row» .exit) ≡ bytes.gapRowBytes (now («gap_row» .entry)) (readFile (now (file .entry))) (now (sheet .entry)) ⌝ }
+    ensures bytes { λ _. ⌜ IsBytes (now (file .entry)) ⌝ }
+{
+    let taken = sheet_of(sheet);
+    let starts = taken.starts;
+    let count = taken.count;
+    let told = gaps(file, &starts[..count], gap_row);
     put_rating(told, answer)
 }
 

@@ -14,10 +14,11 @@ use Rattle.network.specs.Network.{Net, word}
 use Rattle.network.specs.Rating.{rating}
 use Rattle.network.specs.declared.Rating.{Rating}
 use Rattle.network.specs.Rate.{onSheet, ratedOnSheet}
+use Rattle.network.specs.GapRow.{gapRow, gapRowAfter}
 use Rattle.network.specs.Reading.{Reading, accepted, refused, refusal, readFile}
 use Rattle.network.specs.Valid.{IsBytes}
 use Rattle.network.proofs.Laws.Gaps.{accepted-valid}
-use Rattle.examination.specs.Bytes.{signed, starts, bytesFit, byBytes, markBytes, betterBytes, keyBytes}
+use Rattle.examination.specs.Bytes.{signed, starts, bytesFit, byBytes, markBytes, betterBytes, keyBytes, gapRowBytes}
 use Rattle.examination.specs.ByKey.{besideKey, keyOutcome}
 use Rattle.examination.specs.Sheets.{fits, betterBy, betterOf, markOutcome}
 use Rattle.examination.specs.Sheets as sheets
@@ -128,6 +129,12 @@ onSheet-on-bytes answers refuses =
 pub rated-on-bytes : (rates : Net → List ℤ → Rating) (file : List ℕ) → IsBytes file → (bytes : List ℕ)
     → ratedOnSheet rates (readFile file) (sheetOf bytes) ≡ byBytes (ratedOnSheet rates) refusal (readFile file) bytes
 rated-on-bytes rates = onSheet-on-bytes _ refusal
+
+-- .. and what the gaps call leaves in its row goes by the sheet as an answer does
+pub gap-row-on-bytes : (row : List ℕ) (file : List ℕ) → IsBytes file → (bytes : List ℕ)
+    → gapRowAfter row (readFile file) (sheetOf bytes) ≡ gapRowBytes row (readFile file) bytes
+unfolding gapRowAfter
+gap-row-on-bytes row = onSheet-on-bytes gapRow (λ (number place : ℕ). row)
 
 pub mark-on-bytes : (budget : ℕ) (file : List ℕ) → IsBytes file → (bytes : List ℕ)
     → markOutcome (readFile file) (sheetOf bytes) budget ≡ markBytes budget (readFile file) bytes

@@ -17,6 +17,7 @@ use Rattle.network.specs.ClassCall.{classOutcome}
 use Rattle.network.specs.Network.{Net}
 use Rattle.network.specs.Lists.{pick}
 use Rattle.network.specs.Rate.{onSheet, ratedOnSheet}
+use Rattle.network.specs.GapRow.{gapRow, gapRowAfter}
 use Rattle.network.specs.Reading.{Reading, accepted, refused, refusal, readFile, readOutcome}
 use Rattle.network.specs.Refusals.{Refuses, by-file, after-file, Fits, Unfit}
 use Rattle.network.specs.Valid.{IsBytes}
@@ -31,13 +32,13 @@ use Rattle.search.specs.Wanted.{wantedOutcome}
 use Rattle.search.specs.Wanted as wanted
 use Rattle.search.proofs.Demands.{Searches, demand-1}
 use Rattle.search.proofs.WantedGap as asked
-use Rattle.examination.specs.Bytes.{starts, bytesFit, byBytes, markBytes, keyBytes, BytesFit, BytesUnfit, EitherBytesUnfit}
+use Rattle.examination.specs.Bytes.{starts, bytesFit, byBytes, markBytes, keyBytes, gapRowBytes, BytesFit, BytesUnfit, EitherBytesUnfit}
 use Rattle.examination.specs.Exports.{placeLimit}
 use Rattle.examination.specs.ByKey.{besideKey, keyOutcome, EitherUnfit}
 use Rattle.examination.specs.Sheets.{fits, marked, markOutcome}
 use Rattle.examination.specs.Sheets as sheets
 use Rattle.examination.specs.Engine.Taken.{sheetOf}
-use Rattle.examination.proofs.Laws.Bytes.{sheetOf-fits, rated-on-bytes, mark-on-bytes, key-on-bytes}
+use Rattle.examination.proofs.Laws.Bytes.{sheetOf-fits, rated-on-bytes, gap-row-on-bytes, mark-on-bytes, key-on-bytes}
 
 -- ---- the numbers and places of refusals
 
@@ -196,6 +197,12 @@ module _ (file : List ℕ) (is-bytes : IsBytes file) (bytes : List ℕ) where
     pub sheet-bytes-refuse-only : byBytes (ratedOnSheet rates) refusal (readFile file) bytes ≡ refusal number place
         → Refuses file 15 (BytesUnfit bytes) number place
     sheet-bytes-refuse-only e = to-bytes (sheet-refuses-only rates file (sheetOf bytes) (rated-on-bytes rates file is-bytes bytes ∙ e))
+
+  -- The gaps call then leaves its row
+  pub gap-row-bytes-as-found : (row : List ℕ) {number place : ℕ} → Refuses file 15 (BytesUnfit bytes) number place → gapRowBytes row (readFile file) bytes ≡ row
+  unfolding gapRowAfter
+  gap-row-bytes-as-found row f =
+      sym (gap-row-on-bytes row file is-bytes bytes) ∙ on-sheet-refuses gapRow (λ (number place : ℕ). row) file (sheetOf bytes) (of-bytes f)
 
   module _ (budget : ℕ) {number place : ℕ} where
     pub mark-bytes-refuse : Refuses file 15 (BytesUnfit bytes) number place → markBytes budget (readFile file) bytes ≡ sheets.refusal number place
