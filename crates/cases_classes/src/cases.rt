@@ -4,7 +4,9 @@ use cases_typed::name_length;
 use cases_typed::put_hex;
 use cases_typed::show::show_name;
 use cases_typed::show::show_number;
+use cases_typed::show::show_numbers;
 use cases_typed::show::show_refusal;
+use cases_typed::show::sum_of;
 use libc::STDOUT_FILENO;
 use network::ClassAnswer;
 ghost use Prim.Native.Nat.{_<_, _≤_};
@@ -51,7 +53,7 @@ fn show(name: &[u8], file: &[u8], shown: usize)
     io::write_all(STDOUT_FILENO, b"; row");
     show_classes(&classes[..shown]);
     io::write_all(STDOUT_FILENO, b"; weights");
-    show_weights(&weights[..shown]);
+    show_numbers(&weights[..shown]);
     show_sums(&classes, &weights);
 }
 
@@ -74,7 +76,7 @@ pub fn show_sums(classes: &[u8], weights: &[u16])
 {
     io::write_all(STDOUT_FILENO, b"; sums");
     show_number(class_sum(classes));
-    show_number(weight_sum(weights));
+    show_number(sum_of(weights));
     io::write_all(STDOUT_FILENO, b"\n");
 }
 
@@ -84,23 +86,7 @@ fn show_classes(row: &[u8]) {
     }
 }
 
-fn show_weights(row: &[u16]) {
-    for i in 0..row.len() {
-        show_number(row[i] as u64);
-    }
-}
-
 fn class_sum(row: &[u8]) -> u64
-    requires { ⌜ length (now row) ≤ 4096 ⌝ }
-{
-    let mut sum: u64 = 0;
-    for i in 0..row.len() {
-        sum += row[i] as u64;
-    }
-    sum
-}
-
-fn weight_sum(row: &[u16]) -> u64
     requires { ⌜ length (now row) ≤ 4096 ⌝ }
 {
     let mut sum: u64 = 0;

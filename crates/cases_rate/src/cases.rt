@@ -28,6 +28,12 @@ pub fn large_case(name: &[u8], lines: usize, period: u16, calls: usize, sheet: &
 fn show(name: &[u8], file: &[u8], sheet: &[i32]) {
     show_name(name);
     let answer = network::rate::rate(file, sheet);
+    show_answer(answer);
+    io::write_all(STDOUT_FILENO, b"\n");
+}
+
+// The rating, or the refusal.
+pub fn show_answer(answer: RateAnswer) {
     match answer {
         RateAnswer::Rated { least, sum } => {
             io::write_all(STDOUT_FILENO, b" rated");
@@ -37,5 +43,4 @@ fn show(name: &[u8], file: &[u8], sheet: &[i32]) {
             show_refusal(number, place);
         }
     }
-    io::write_all(STDOUT_FILENO, b"\n");
 }

@@ -1,5 +1,7 @@
 // Names, numbers and starts on standard output: a case's name first, and what follows each behind a space.
 use libc::STDOUT_FILENO;
+ghost use Prim.Native.Nat.{_≤_};
+ghost use lib.ListN.{length};
 
 // The name of a case.
 pub fn show_name(name: &[u8]) {
@@ -17,6 +19,24 @@ pub fn show_number(number: u64) {
 pub fn show_rating(least: u32, sum: u32) {
     show_number(least as u64);
     show_number(sum as u64);
+}
+
+// The numbers of a row.
+pub fn show_numbers(row: &[u16]) {
+    for i in 0..row.len() {
+        show_number(row[i] as u64);
+    }
+}
+
+// The sum of a row, by which a change anywhere shows.
+pub fn sum_of(row: &[u16]) -> u64
+    requires { ⌜ length (now row) ≤ 4096 ⌝ }
+{
+    let mut sum: u64 = 0;
+    for i in 0..row.len() {
+        sum += row[i] as u64;
+    }
+    sum
 }
 
 // The starts of a row.

@@ -8,13 +8,15 @@ use native.Mathlib.Omega.{arith}
 use borrow.Author.Tests.{ltb-true, eq-eqb, ne-eqb}
 use lib.Dec.{eqb, ltb}
 use lib.IntN.{ℤ}
-use lib.ListN.{getD}
+use lib.ListN.{length, getD}
 use lib.Seq.{ext-getD}
 use Rattle.network.specs.Lists.{pick, keep, table, sumOf, leastOf}
-use Rattle.network.specs.Network.{Net, maxStop, maxPeriod, isServed}
+use Rattle.network.specs.Network.{Net, maxStop, stopCount, maxPeriod, isServed}
 use Rattle.network.specs.Valid.{Valid}
 use Rattle.network.specs.Rating.{IsStopGap, stopGap, servedList, rating}
-use Rattle.network.specs.GapRow.{noGap, IsGapRow, gapsIn, gapRow}
+use Rattle.network.specs.GapRow.{noGap, IsGapRow, gapsIn, gapRow, gapRowAfter}
+use Rattle.network.specs.Rate.{onSheet}
+use Rattle.network.specs.Reading.{Reading, accepted, refused}
 use Rattle.network.proofs.Laws.Tables.{length-table, getD-table, table-same, keep-table}
 use Rattle.network.proofs.Laws.Sums.{sumOf-map}
 use Rattle.network.proofs.Laws.StopGap.{stopGap-is-stop-gap, IsStopGap-unique}
@@ -74,6 +76,18 @@ pub gap-in-row : {n : Net} {starts : List ℤ} {row : List ℕ} → Valid n → 
     → isServed stop (n .calls) ≡ true → getD row stop 0 ≤ maxPeriod
 gap-in-row {n} {starts} valid is stop low e =
     rw (IsStopGap-unique valid (is .served stop low e)) (stopGap-le-maxPeriod valid starts stop)
+
+-- ---- the lent row
+
+-- It stays as long as it was
+pub length-gapRowAfter : (row : List ℕ) (read : Reading) (sheet : List ℤ) → length row ≡ stopCount → length (gapRowAfter row read sheet) ≡ stopCount
+unfolding gapRowAfter onSheet gapRow
+length-gapRowAfter row (refused number place) sheet e = e
+length-gapRowAfter row (accepted n) sheet e = go (eqb (length sheet) (length (n .periods)))
+  where
+    go : (b : Bool) → length (pick b (gapRow n sheet) row) ≡ stopCount
+    go true = length-table _ (suc maxStop)
+    go false = e
 
 -- ---- the rating of the row
 

@@ -47,13 +47,13 @@ write-all-requires-2 c κs = search needs
 array-share-prefix-weights : tie.Need-array-share-prefix-weights
 array-share-prefix-weights c = search needs
 
-slice-aggregate-show-weights : tie.Need-slice-aggregate-show-weights
-slice-aggregate-show-weights c =
+slice-aggregate-show-numbers : tie.Need-slice-aggregate-show-numbers
+slice-aggregate-show-numbers c =
     let k = c .before .before .before .before .before .before .before .before .before .before in
     sym (length-take-le _ _ (omega (arith, k .classes2 .kept .1 .1 .0, k .before .before .before .before .before .before .pre)))
 
-show-weights-requires : tie.Need-show-weights-requires
-show-weights-requires c κs = search needs
+show-numbers-requires : tie.Need-show-numbers-requires
+show-numbers-requires c κs = search needs
 
 slice-aggregate-show-sums : tie.Need-slice-aggregate-show-sums
 slice-aggregate-show-sums c = search needs
@@ -84,8 +84,8 @@ show-spec =
     slice-aggregate-write-all-2
     write-all-requires-2
     array-share-prefix-weights
-    slice-aggregate-show-weights
-    show-weights-requires
+    slice-aggregate-show-numbers
+    show-numbers-requires
     slice-aggregate-show-sums
     slice-aggregate-show-sums-2
     show-sums-requires

@@ -1,12 +1,12 @@
--- `cases_classes::cases::weight_sum` meets its contract: the sum of at most 4,096 numbers of 16 bits fits. The loop's invariant: the sum is at most 65,535 for each place
+-- `cases_typed::show::sum_of` meets its contract: the sum of at most 4,096 numbers of 16 bits fits. The loop's invariant: the sum is at most 65,535 for each place
 -- passed. Assumes nothing.
 use Prim.Native.Nat.{_≤_, _*_, _-_}
 use mathlib.Core.Path.{_≡_}
 use native.Mathlib.Omega.{arith}
 use borrow.Author.Needs.{needs}
 use lib.ListN.{length}
-use Rattle.cases_classes.proofs.cases.weight_sum.Statement.{statement}
-use Rattle.cases_classes.proofs.cases.weight_sum.Tie as tie
+use Rattle.cases_typed.proofs.show.sum_of.Statement.{statement}
+use Rattle.cases_typed.proofs.show.sum_of.Tie as tie
 
 abbrev Inv-loop : tie.InvT-loop
 Inv-loop row sum₀ i₀ i-end sum i = (i-end ≡ length row) × (i ≤ i-end) × (sum ≤ 65535 * i)
@@ -41,8 +41,8 @@ loop-again c = omega (arith, c .shared-slice-known .given (c .before .before .lo
 returns : tie.Need-returns Inv-loop μ-loop
 returns c = search needs
 
-pub weight-sum-spec : {M : Type 1} → statement M
-weight-sum-spec =
+pub sum-of-spec : {M : Type 1} → statement M
+sum-of-spec =
     tie.close
     (tie.spec
     Inv-loop

@@ -1,11 +1,11 @@
--- `cases_classes::cases::show_weights` meets its contract. The loop's invariant: `i` is within the row. Assumes nothing.
+-- `cases_typed::show::show_numbers` meets its contract. The loop's invariant: `i` is within the row. Assumes nothing.
 use Prim.Native.Nat.{_≤_, _-_}
 use mathlib.Core.Path.{_≡_}
 use native.Mathlib.Omega.{arith}
 use borrow.Author.Needs.{needs}
 use lib.ListN.{length}
-use Rattle.cases_classes.proofs.cases.show_weights.Statement.{statement}
-use Rattle.cases_classes.proofs.cases.show_weights.Tie as tie
+use Rattle.cases_typed.proofs.show.show_numbers.Statement.{statement}
+use Rattle.cases_typed.proofs.show.show_numbers.Tie as tie
 
 abbrev Inv-loop : tie.InvT-loop
 Inv-loop row i₀ i-end i = (i-end ≡ length row) × (i ≤ i-end)
@@ -40,8 +40,8 @@ loop-again c = search needs
 returns : tie.Need-returns Inv-loop μ-loop
 returns c = search needs
 
-pub show-weights-spec : {M : Type 1} → statement M
-show-weights-spec =
+pub show-numbers-spec : {M : Type 1} → statement M
+show-numbers-spec =
     tie.close
     (tie.spec
     Inv-loop
