@@ -23,6 +23,13 @@ pub const LONGEST_BOARD: u32 = 10_080;
 /// ```
 pub const MOST_CALLS_AT_STOP: usize = 32;
 
+/// In a row of gaps: no line calls at the stop.
+///
+/// ```
+/// assert_eq!(engine::NO_GAP, 65_535);
+/// ```
+pub const NO_GAP: u16 = u16::MAX;
+
 /// A timetable's rating. The order is that of ratings: the least gap first,
 /// then the sum.
 ///
@@ -81,6 +88,43 @@ pub struct Classes {
     pub weight_row: [u16; STOPS],
     /// The number of classes, 1 to 64.
     pub count: u32,
+}
+
+/// The gap of each stop under a sheet, and the sheet's rating, which is the least of
+/// these gaps and their sum.
+///
+/// ```
+/// use engine::{Rating, Sheet};
+///
+/// // Lines of 15 and 20 minutes that meet at stop 0; the first alone at stop 1.
+/// let network = engine::typed::read(b"4C000F 4C0014 4300000008 4300010009 4301000011 45").unwrap();
+/// let gaps = engine::gaps(network.bytes(), &Sheet::of_starts(&[0, 0])).unwrap();
+/// assert_eq!((gaps.at(0), gaps.at(1), gaps.at(2)), (Some(1), Some(15), None));
+/// assert_eq!(gaps.rating, Rating { least: 1, sum: 16 });
+/// ```
+#[derive(Clone, Debug, PartialEq, Eq)]
+pub struct Gaps {
+    /// For each stop its gap in minutes, 0 to 1,440; [`NO_GAP`] if unserved.
+    pub gap_row: [u16; STOPS],
+    /// What [`crate::rate`] answers.
+    pub rating: Rating,
+}
+
+impl Gaps {
+    /// The gap of a stop, if a line calls there.
+    ///
+    /// ```
+    /// use engine::Sheet;
+    ///
+    /// // Line 0 every 15 minutes, at stop 63 alone.
+    /// let network = engine::typed::read(b"4C000F 43003F0008 45").unwrap();
+    /// let gaps = engine::gaps(network.bytes(), &Sheet::of_starts(&[0])).unwrap();
+    /// assert_eq!((gaps.at(63), gaps.at(62), gaps.at(64)), (Some(15), None, None));
+    /// ```
+    pub fn at(&self, stop: u8) -> Option<u16> {
+        let gap = self.gap_row.get(usize::from(stop)).copied();
+        gap.filter(|gap| *gap != NO_GAP)
+    }
 }
 
 /// An arrival on a stop's board. The order is that of the board: by time, then line.

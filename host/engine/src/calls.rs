@@ -2,8 +2,8 @@
 //! here; every number is the engine's.
 
 use crate::answers::{
-    Arrival, Best, Better, Classes, Counts, Hundred, Mark, Rating, RowSearched, RowWanted,
-    Searched, SoFar, Wanted, LONGEST_BOARD, MOST_CALLS_AT_STOP, STOPS,
+    Arrival, Best, Better, Classes, Counts, Gaps, Hundred, Mark, Rating, RowSearched, RowWanted,
+    Searched, SoFar, Wanted, LONGEST_BOARD, MOST_CALLS_AT_STOP, NO_GAP, STOPS,
 };
 use crate::exports;
 use crate::ground::Ground;
@@ -89,6 +89,58 @@ pub fn weighted(file: &[u8], sheet: &Sheet) -> Result<Rating, Refusal> {
     const EXPORT: &str = "examination_weighted";
     let mut answer = [0; 2];
     match answered(EXPORT, exports::weighted(file, sheet.bytes(), &mut answer))? {
+        0 => Ok(rating(answer[0], answer[1])),
+        other => unknown(EXPORT, other),
+    }
+}
+
+/// The gap of each stop under a sheet, and the rating that they make: why a sheet has the
+/// rating it has. Refuses as [`rate`] does.
+///
+/// ```
+/// use engine::{typed, Ground, Sheet};
+///
+/// let network = typed::read(b"4C000F 4C0014 4300000008 4301000011 45")?;
+/// let sheet = Sheet::of_starts(&[0, 0]);
+/// let gaps = engine::gaps(network.bytes(), &sheet).expect("a sheet that fits");
+/// assert_eq!((gaps.at(0), gaps.at(1)), (Some(1), None));
+/// assert_eq!(Ok(gaps.rating), engine::rate(network.bytes(), &sheet));
+///
+/// let refusal = engine::gaps(network.bytes(), &Sheet::of_starts(&[0])).unwrap_err();
+/// assert_eq!(refusal.ground, Ground::SheetLength);
+/// # Ok::<(), typed::Mistyped>(())
+/// ```
+pub fn gaps(file: &[u8], sheet: &Sheet) -> Result<Gaps, Refusal> {
+    let mut gap_row = [NO_GAP; STOPS];
+    let rating = gaps_into(file, sheet, &mut gap_row)?;
+    Ok(Gaps { gap_row, rating })
+}
+
+/// As [`gaps`], into a row of the caller: the gap of each stop, [`NO_GAP`] if unserved.
+/// It stays as it is where the call is refused. Returns the rating.
+///
+/// ```
+/// use engine::{typed, Rating, Sheet, NO_GAP};
+///
+/// let network = typed::read(b"4C000F 4C0014 4300000008 4301000011 45")?;
+/// let mut gap_row = [7; 64];
+/// let mut into = |starts: &[i32]| {
+///     engine::gaps_into(network.bytes(), &Sheet::of_starts(starts), &mut gap_row)
+/// };
+/// assert!(into(&[0]).is_err());
+/// assert_eq!(into(&[0, 0]), Ok(Rating { least: 1, sum: 1 }));
+/// assert_eq!(gap_row[..2], [1, NO_GAP]);
+/// # Ok::<(), typed::Mistyped>(())
+/// ```
+pub fn gaps_into(
+    file: &[u8],
+    sheet: &Sheet,
+    gap_row: &mut [u16; STOPS],
+) -> Result<Rating, Refusal> {
+    const EXPORT: &str = "examination_gaps";
+    let mut answer = [0; 2];
+    let returned = exports::gaps(file, sheet.bytes(), gap_row, &mut answer);
+    match answered(EXPORT, returned)? {
         0 => Ok(rating(answer[0], answer[1])),
         other => unknown(EXPORT, other),
     }

@@ -103,6 +103,14 @@ extern "C" {
         line_len: usize,
         answer: *mut [u32; 1],
     ) -> u32;
+    fn examination_gaps(
+        file: *const u8,
+        file_len: usize,
+        sheet: *const u8,
+        sheet_len: usize,
+        gap_row: *mut [u16; 64],
+        answer: *mut [u32; 2],
+    ) -> u32;
 }
 
 pub fn read(file: &[u8], answer: &mut [u32; 4]) -> u32 {
@@ -268,6 +276,20 @@ pub fn board(
             time_row.len(),
             line_row.as_mut_ptr(),
             line_row.len(),
+            answer,
+        )
+    }
+}
+
+pub fn gaps(file: &[u8], sheet: &[u8], gap_row: &mut [u16; 64], answer: &mut [u32; 2]) -> u32 {
+    // SAFETY: see above.
+    unsafe {
+        examination_gaps(
+            file.as_ptr(),
+            file.len(),
+            sheet.as_ptr(),
+            sheet.len(),
+            gap_row,
             answer,
         )
     }

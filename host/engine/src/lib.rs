@@ -12,6 +12,7 @@
 //! | [`read`]      | a file                 | [`Counts`]: lines, stops, calls, cycle   |
 //! | [`rate`]      | a file, a sheet        | the sheet's [`Rating`]                   |
 //! | [`weighted`]  | a file, a sheet        | the same, by classes of stops            |
+//! | [`gaps`]      | a file, a sheet        | [`Gaps`]: the gap of each stop           |
 //! | [`classes`]   | a file                 | [`Classes`]: which stops rate alike      |
 //! | [`board`]     | a file, a sheet, a stop, a window | each [`Arrival`] there        |
 //! | [`search`]    | a file, a budget       | [`Searched`]: the best timetable         |
@@ -104,12 +105,12 @@ pub const LIBRARY: &str = concat!(
 );
 
 pub use answers::{
-    Arrival, Best, Better, Classes, Counts, Hundred, Mark, Rating, RowSearched, RowWanted,
-    Searched, SoFar, Wanted, LONGEST_BOARD, MOST_CALLS_AT_STOP, STOPS,
+    Arrival, Best, Better, Classes, Counts, Gaps, Hundred, Mark, Rating, RowSearched, RowWanted,
+    Searched, SoFar, Wanted, LONGEST_BOARD, MOST_CALLS_AT_STOP, NO_GAP, STOPS,
 };
 pub use calls::{
-    archive, archive_into, better, board, board_into, classes, classes_into, mark, mark_by_key,
-    rate, read, search, search_into, wanted, wanted_into, weighted,
+    archive, archive_into, better, board, board_into, classes, classes_into, gaps, gaps_into, mark,
+    mark_by_key, rate, read, search, search_into, wanted, wanted_into, weighted,
 };
 pub use contents::{contents, Call, Contents, LATEST_EDITION};
 pub use ground::{Ground, NoGround};
