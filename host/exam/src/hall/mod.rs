@@ -12,6 +12,7 @@
 //! | `search.rs`   | such searches, for the best one and for a wanted gap   |
 //! | `bound.rs`    | the budget that always suffices                        |
 //! | `checksum.rs` | the checksum of a network                              |
+//! | `witness.rs`  | the two arrivals that make a stop's gap                |
 
 pub mod bound;
 pub mod checksum;
@@ -23,3 +24,4 @@ pub mod report;
 pub mod search;
 pub mod sheets;
 pub mod stages;
+pub mod witness;
