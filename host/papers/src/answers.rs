@@ -4,12 +4,13 @@
 use crate::sections;
 use crate::sections::board;
 use crate::sections::hundred;
-use crate::sections::network::Network;
+use crate::sections::network::{Network, STOPS};
 use crate::sections::sheets::Marked;
 use crate::sections::walk::{Answer, Walked};
 use crate::sections::wanted::{self, Sought};
 use engine::{
-    Arrival, Better, Classes, Counts, Ground, Hundred, Mark, Rating, Refusal, Searched, Wanted,
+    Arrival, Better, Classes, Counts, Gaps, Ground, Hundred, Mark, Rating, Refusal, Searched,
+    Wanted,
 };
 
 pub fn refusal(paper: sections::network::Refusal) -> Refusal {
@@ -51,6 +52,13 @@ pub fn classed(paper: sections::classes::Classes) -> Classes {
         class_row: paper.class_row,
         weight_row: paper.weight_row,
         count: paper.count as u32,
+    }
+}
+
+pub fn gaps(gap_row: [u16; STOPS], paper: sections::rating::Rating) -> Gaps {
+    Gaps {
+        gap_row,
+        rating: rated(paper),
     }
 }
 

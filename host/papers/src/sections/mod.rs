@@ -15,12 +15,14 @@
 //! | `hundred.rs`  | document 02, A.5: marks out of a hundred            |
 //! | `board.rs`    | document 02, A.7: a board for one stop; grounds 8   |
 //! |               | of a stop that is asked for, 22 and 23              |
+//! | `gaps.rs`     | Gap and rating: the gap of each stop; ground 15     |
 
 pub mod archive;
 pub mod best;
 pub mod board;
 pub mod caps;
 pub mod classes;
+pub mod gaps;
 pub mod hundred;
 pub mod network;
 pub mod rating;

@@ -2,6 +2,7 @@
 //! small random networks with every timetable, and the walk by the book.
 
 mod book;
+mod gaps;
 mod wanted;
 
 use book::{cap_by_the_book, divisor_by_search, upper_by_the_book, walk_by_the_book};

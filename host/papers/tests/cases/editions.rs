@@ -7,6 +7,7 @@ use papers::files::{longest_file, openings, sheet_bytes, Dice};
 use papers::sections::archive::archive;
 use papers::sections::board::{by_minutes, Window};
 use papers::sections::classes::classes as classes_of;
+use papers::sections::gaps::gaps;
 use papers::sections::hundred;
 use papers::sections::network::{read, read_counts, Counts, Refusal};
 use papers::sections::rating::whole;
@@ -187,6 +188,15 @@ fn the_longest_file() {
     }
 }
 
+/// What the engine answers of a sheet, beside the papers: the gap of each stop.
+fn compare_gaps(file: &[u8], starts: &[i32]) -> impl PartialEq + Debug {
+    let mut row = [0; 64];
+    let rating = gaps(file, starts, &mut row).expect("an accepted file");
+    let found = engine::gaps(file, &Sheet::of_starts(starts));
+    assert_eq!(found, Ok(answers::gaps(row, rating)));
+    found
+}
+
 /// What the engine answers of two sheets, beside the papers: ratings, marks, also out of
 /// a hundred and by a key, and the better.
 fn compare_sheets(file: &[u8], starts: &[i32]) -> impl PartialEq + Debug {
@@ -247,11 +257,13 @@ fn either_edition_is_answered_alike() {
         let of_sheets = compare_sheets(&typed, starts);
         let of_searches = compare_searches(&typed);
         let of_board = compare_board(&typed, starts);
+        let of_gaps = compare_gaps(&typed, starts);
         for edition in [1, 2] {
             let opened = [&[0x56, edition], &typed[..]].concat();
             assert_eq!(compare_sheets(&opened, starts), of_sheets);
             assert_eq!(compare_searches(&opened), of_searches);
             assert_eq!(compare_board(&opened, starts), of_board);
+            assert_eq!(compare_gaps(&opened, starts), of_gaps);
         }
     }
 }

@@ -6,6 +6,7 @@ mod best;
 mod board;
 mod cycle;
 mod editions;
+mod gaps;
 mod given;
 mod hundred;
 mod loops;

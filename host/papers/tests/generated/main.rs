@@ -5,6 +5,7 @@ mod archive;
 mod board;
 mod classes;
 mod files;
+mod gaps;
 mod hundred;
 mod ratings;
 mod search;
