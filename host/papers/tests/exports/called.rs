@@ -1,7 +1,9 @@
-//! The three exports that mark, and the board, over slices and over rows that the
+//! The three exports that mark, the board and the gaps, over slices and over rows that the
 //! caller has.
 
-use crate::{examination_board, examination_by_key, examination_hundred, examination_mark};
+use crate::{
+    examination_board, examination_by_key, examination_gaps, examination_hundred, examination_mark,
+};
 use papers::sections::board::Window;
 
 /// A row of so many places; it is valid for them.
@@ -24,6 +26,13 @@ pub fn by_key(file: &[u8], sheet: &[u8], key: &[u8], hundred: Row<2>) -> u32 {
     let (sheet, sheet_len) = (sheet.as_ptr(), sheet.len());
     let (key, key_len) = (key.as_ptr(), key.len());
     unsafe { examination_by_key(file, file_len, sheet, sheet_len, key, key_len, hundred) }
+}
+
+/// The row of gaps is valid for 64 places.
+pub fn gaps(file: &[u8], sheet: &[u8], gap_row: *mut [u16; 64], answer: Row<2>) -> u32 {
+    let (file, file_len) = (file.as_ptr(), file.len());
+    let (sheet, sheet_len) = (sheet.as_ptr(), sheet.len());
+    unsafe { examination_gaps(file, file_len, sheet, sheet_len, gap_row, answer) }
 }
 
 pub fn board(

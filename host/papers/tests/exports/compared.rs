@@ -12,6 +12,7 @@ use papers::files::{
 use papers::sections::archive::{archive, archive_form};
 use papers::sections::board::{board_bytes, Window, MAX_LENGTH};
 use papers::sections::classes::class_call;
+use papers::sections::gaps::{gaps_bytes, NO_GAP};
 use papers::sections::hundred::by_key_bytes;
 use papers::sections::network::{read, read_counts, Refusal};
 use papers::sections::rating::Rating;
@@ -342,6 +343,44 @@ pub fn compare_board(
     seen.add(found);
 }
 
+/// The row and the answer beside the papers'; and the row's least gap and its sum, unserved
+/// stops left out, are what the rating's own export answers.
+pub fn compare_gaps(dice: &mut Dice, file: &[u8], sheet: &[u8], seen: &mut Seen) {
+    let mut gap_row = Lent::of(64, || dice.bits() as u16);
+    let mut answer = answer_row::<2>(dice);
+    let mut row_after = gap_row.clone();
+    let places = row_after.row().try_into().expect("64 places");
+    let (returned, answer_after) = match gaps_bytes(file, sheet, places) {
+        Err(refusal) => (refused(refusal), answer.clone()),
+        Ok(rating) => (0, answer.holding(&[rating.least, rating.sum])),
+    };
+    let rows = (gap_row.pointer().cast(), answer.pointer().cast());
+    let found = called::gaps(file, sheet, rows.0, rows.1);
+    assert_eq!((found, &answer), (returned, &answer_after));
+    assert_eq!(gap_row, row_after);
+    assert_eq!(rated(file, sheet), (found, made_of(found, gap_row.row())));
+    seen.add(found);
+}
+
+/// What a rating returns and answers; zeros where it is refused.
+fn rated(file: &[u8], sheet: &[u8]) -> (u32, [u32; 2]) {
+    let mut answer = [0; 2];
+    let (file, file_len) = (file.as_ptr(), file.len());
+    let (sheet, sheet_len) = (sheet.as_ptr(), sheet.len());
+    let found = unsafe { examination_rate(file, file_len, sheet, sheet_len, &mut answer) };
+    (found, answer)
+}
+
+/// The least gap and the sum of a row; zeros where it was refused.
+fn made_of(returned: u32, gap_row: &[u16]) -> [u32; 2] {
+    if returned != 0 {
+        return [0; 2];
+    }
+    let gaps = || gap_row.iter().filter(|&&gap| gap != NO_GAP);
+    let least = gaps().min().expect("a served stop");
+    [u32::from(*least), gaps().map(|&gap| u32::from(gap)).sum()]
+}
+
 /// What was seen of each export.
 #[derive(Debug, Default)]
 pub struct AllSeen {
@@ -357,11 +396,12 @@ pub struct AllSeen {
     pub by_key: Seen,
     pub archive: Seen,
     pub board: Seen,
+    pub gaps: Seen,
 }
 
 impl AllSeen {
     /// The exports that can refuse.
-    pub fn refusing(&self) -> [&Seen; 11] {
+    pub fn refusing(&self) -> [&Seen; 12] {
         [
             &self.read,
             &self.rate,
@@ -374,6 +414,7 @@ impl AllSeen {
             &self.by_key,
             &self.archive,
             &self.board,
+            &self.gaps,
         ]
     }
 }
@@ -407,6 +448,7 @@ pub fn compare_all(dice: &mut Dice, file: &[u8], seen: &mut AllSeen) {
     let right = board_length(dice, file, &first, window);
     let rows = (row_length(dice, right), row_length(dice, right));
     compare_board(dice, (file, &first), window, rows, &mut seen.board);
+    compare_gaps(dice, file, &first, &mut seen.gaps);
     assert_eq!((file, first, second), (&before.0[..], before.1, before.2));
 }
 

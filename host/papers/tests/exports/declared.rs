@@ -9,7 +9,7 @@ fn declared_as_documented() {
     let path = concat!(env!("CARGO_MANIFEST_DIR"), "/../../docs/ABI.md");
     let document = std::fs::read_to_string(path).expect("docs/ABI.md");
     let documented = declaration(&document);
-    assert!(documented.matches("fn examination_").count() == 12);
+    assert!(documented.matches("fn examination_").count() == 13);
     assert_eq!(declaration(here), documented);
     assert_eq!(declaration(wrapper), documented);
 }

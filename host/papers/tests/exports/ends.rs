@@ -3,8 +3,8 @@
 
 use crate::compared::{
     board_length, compare_archive, compare_better, compare_board, compare_by_key, compare_classes,
-    compare_hundred, compare_mark, compare_rate, compare_read, compare_search, compare_wanted,
-    AllSeen, Rates,
+    compare_gaps, compare_hundred, compare_mark, compare_rate, compare_read, compare_search,
+    compare_wanted, AllSeen, Rates,
 };
 use crate::{examination_rate, examination_wanted, examination_weighted};
 use papers::files::{bytes_of, longest_file, openings, sheet, sheet_bytes, window, Command, Dice};
@@ -19,8 +19,8 @@ fn compare_with_right_rows(dice: &mut Dice, file: &[u8], lines: usize) -> AllSee
     compare_rate(dice, rate, file, &one, &mut seen.rate);
     let weighted: (Rates, _) = (examination_weighted, weighted_bytes(file, &one));
     compare_rate(dice, weighted, file, &one, &mut seen.weighted);
-    // Now and then a row is of another length, which comes after the file.
-    for _ in 0..8 {
+    // Half of the rows are of another length, which comes after the file.
+    for _ in 0..24 {
         compare_classes(dice, file, &mut seen.classes);
     }
     compare_search(dice, file, lines, 3_000, &mut seen.search);
@@ -35,6 +35,7 @@ fn compare_with_right_rows(dice: &mut Dice, file: &[u8], lines: usize) -> AllSee
     let window = window(dice, file);
     let right = board_length(dice, file, &one, window);
     compare_board(dice, (file, &one), window, (right, right), &mut seen.board);
+    compare_gaps(dice, file, &one, &mut seen.gaps);
     seen
 }
 
@@ -136,6 +137,7 @@ fn the_largest_sum() {
     assert_eq!((seen.rate.answers[0], seen.weighted.answers[0]), (1, 1));
     assert_eq!((seen.search.answers[0], seen.mark.answers[0]), (1, 1));
     assert_eq!((seen.hundred.answers[0], seen.by_key.answers[0]), (1, 1));
+    assert_eq!(seen.gaps.answers[0], 1);
     // Its period is its gap, and no more can be had.
     assert_eq!(seen.wanted.answers, [3, 2, 0]);
     assert!(seen.classes.answers[0] > 0);

@@ -8,6 +8,7 @@ mod compared;
 mod declared;
 mod editions;
 mod ends;
+mod gaps;
 mod hundreds;
 mod lent;
 mod rows;
@@ -105,5 +106,13 @@ extern "C" {
         line_row: *mut u8,
         line_len: usize,
         answer: *mut [u32; 1],
+    ) -> u32;
+    fn examination_gaps(
+        file: *const u8,
+        file_len: usize,
+        sheet: *const u8,
+        sheet_len: usize,
+        gap_row: *mut [u16; 64],
+        answer: *mut [u32; 2],
     ) -> u32;
 }

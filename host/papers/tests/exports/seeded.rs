@@ -1,9 +1,9 @@
 //! Every export on seeded files and sheets, and on empty parts.
 
 use crate::compared::{
-    compare_all, compare_archive, compare_better, compare_board, compare_by_key, compare_hundred,
-    compare_mark, compare_rate, compare_search, compare_wanted, small_budget, three_lines, AllSeen,
-    Rates, Seen,
+    compare_all, compare_archive, compare_better, compare_board, compare_by_key, compare_gaps,
+    compare_hundred, compare_mark, compare_rate, compare_search, compare_wanted, small_budget,
+    three_lines, AllSeen, Rates, Seen,
 };
 use crate::{examination_rate, examination_weighted};
 use papers::files::{
@@ -43,6 +43,7 @@ fn exports_beside_the_papers() {
     assert!(seen.by_key.answers[0] >= 100);
     assert!(seen.archive.answers[0] >= 100);
     assert!(seen.board.answers[0] >= 100);
+    assert_eq!(seen.gaps.answers, seen.rate.answers);
 }
 
 /// Each export has refused by the file's grounds and by its own, and by no other.
@@ -52,6 +53,7 @@ fn assert_grounds(seen: &AllSeen) {
     assert!(seen.read.has_exactly(&of_file));
     assert!(seen.rate.has_exactly(&with(15)));
     assert!(seen.weighted.has_exactly(&with(15)));
+    assert!(seen.gaps.has_exactly(&with(15)));
     assert!(seen.classes.has_exactly(&with(17)));
     assert!(seen.search.has_exactly(&with(16)));
     assert!(seen.wanted.has_exactly(&with(16)));
@@ -79,6 +81,7 @@ fn both_ends_of_32_bits() {
             compare_rate(&mut dice, rate, &file, &sheet, &mut seen);
             let weighted: (Rates, _) = (examination_weighted, weighted_bytes(&file, &sheet));
             compare_rate(&mut dice, weighted, &file, &sheet, &mut seen);
+            compare_gaps(&mut dice, &file, &sheet, &mut seen);
             let budget = small_budget(&mut dice);
             compare_mark(&mut dice, &file, &sheet, budget, &mut seen);
             compare_hundred(&mut dice, &file, &sheet, budget, &mut seen);
@@ -122,7 +125,10 @@ fn empty_parts() {
             compare_board(&mut dice, (file, sheet), window, (0, 0), &mut one);
         }
     }
+    compare_gaps(&mut dice, &file, &[], &mut one);
+    compare_gaps(&mut dice, &[], &right, &mut one);
+    compare_gaps(&mut dice, &[], &[], &mut one);
     assert_eq!(one.answers, [2, 0, 1]);
     let grounds = [1, 15, 16, 18, 23].map(|ground| one.grounds[ground]);
-    assert_eq!(grounds, [5, 6, 2, 1, 1]);
+    assert_eq!(grounds, [7, 7, 2, 1, 1]);
 }

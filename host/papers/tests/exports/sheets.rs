@@ -2,8 +2,8 @@
 //! grounds.
 
 use crate::compared::{
-    compare_better, compare_board, compare_by_key, compare_hundred, compare_mark, compare_rate,
-    three_lines, Rates, Seen,
+    compare_better, compare_board, compare_by_key, compare_gaps, compare_hundred, compare_mark,
+    compare_rate, three_lines, Rates, Seen,
 };
 use crate::{examination_rate, examination_weighted};
 use papers::files::{bytes_of, faulty_file, longest_file, random_bytes, Command, Dice, GROUNDS};
@@ -34,8 +34,8 @@ fn counts(right: usize) -> BTreeSet<usize> {
 /// The calls that take a sheet, on one of so many bytes; of better-of-two it is
 /// the first one, the second one and both, and beside a key the sheet, the key and
 /// both.
-fn compare_sheet(dice: &mut Dice, file: &[u8], sheet: &[u8], right: &[u8], seen: &mut [Seen; 7]) {
-    let [rate_seen, weighted_seen, mark, hundred, board, better, by_key] = seen;
+fn compare_sheet(dice: &mut Dice, file: &[u8], sheet: &[u8], right: &[u8], seen: &mut [Seen; 8]) {
+    let [rate_seen, weighted_seen, mark, hundred, board, gaps, better, by_key] = seen;
     let rate: (Rates, _) = (examination_rate, rate_bytes(file, sheet));
     compare_rate(dice, rate, file, sheet, rate_seen);
     let weighted: (Rates, _) = (examination_weighted, weighted_bytes(file, sheet));
@@ -43,6 +43,7 @@ fn compare_sheet(dice: &mut Dice, file: &[u8], sheet: &[u8], right: &[u8], seen:
     compare_mark(dice, file, sheet, 10, mark);
     compare_hundred(dice, file, sheet, 10, hundred);
     compare_board(dice, (file, sheet), HOUR, (100, 100), board);
+    compare_gaps(dice, file, sheet, gaps);
     for (first, second) in [(sheet, right), (right, sheet), (sheet, sheet)] {
         compare_better(file, first, second, better);
         compare_by_key(dice, file, first, second, by_key);
@@ -64,7 +65,7 @@ fn sheets_of_every_byte_count() {
         let counts = counts(right);
         assert!(counts.contains(&right) && counts.len() > 700);
         let others = counts.len() - 1;
-        let mut seen = <[Seen; 7]>::default();
+        let mut seen = <[Seen; 8]>::default();
         for count in counts {
             compare_sheet(
                 &mut dice,
@@ -74,7 +75,7 @@ fn sheets_of_every_byte_count() {
                 &mut seen,
             );
         }
-        for one in &seen[..5] {
+        for one in &seen[..6] {
             assert_eq!(
                 (one.grounds[15], one.answers.iter().sum()),
                 (others, 1usize)
@@ -82,9 +83,9 @@ fn sheets_of_every_byte_count() {
         }
         // Beside one that fits, a sheet of another length loses; with the fitting
         // one on both sides the first is taken.
-        assert_eq!(seen[5].answers, [others, others + 3, others]);
+        assert_eq!(seen[6].answers, [others, others + 3, others]);
         // A key of another length is refused as a sheet is.
-        assert_eq!((seen[6].grounds[15], seen[6].answers[0]), (3 * others, 3));
+        assert_eq!((seen[7].grounds[15], seen[7].answers[0]), (3 * others, 3));
     }
 }
 
@@ -104,15 +105,15 @@ fn the_files_ground_comes_before_the_sheet() {
     for ground in GROUNDS {
         let file = faulty_file(&mut dice, ground).bytes;
         let counts = [0, 1, 3, 4, 8, 63, 64, 65, 68, 4_095, 4_096, 4_100, MOST];
-        let mut seen = <[Seen; 7]>::default();
+        let mut seen = <[Seen; 8]>::default();
         for count in counts {
             compare_sheet(&mut dice, &file, &bytes[..count], &bytes[..4], &mut seen);
         }
         let ground = usize::from(ground);
-        for one in &seen[..5] {
+        for one in &seen[..6] {
             assert_eq!(one.grounds[ground], counts.len());
         }
-        assert_eq!(seen[5].answers, [3 * counts.len(), 0, 0]);
-        assert_eq!(seen[6].grounds[ground], 3 * counts.len());
+        assert_eq!(seen[6].answers, [3 * counts.len(), 0, 0]);
+        assert_eq!(seen[7].grounds[ground], 3 * counts.len());
     }
 }
