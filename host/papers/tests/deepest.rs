@@ -1,11 +1,13 @@
-//! The deepest search, the longest archive form and the fullest board on a small stack:
-//! 16 lines of the longest period, 256 calls, in a thread with 512 KB.
+//! The deepest search, the longest archive form, the fullest board and the gaps of most
+//! calls on a small stack: 16 lines of the longest period, 256 calls, in a thread with
+//! 512 KB.
 
 mod raw;
 
 use engine::{Arrival, Hundred, Mark, Searched, Sheet};
-use papers::answers::sought;
+use papers::answers::{self, sought};
 use papers::files::{bytes_of, fullest_file, retyped, Command, Dice, Stated};
+use papers::sections::gaps::gaps;
 use papers::sections::network::read;
 use papers::sections::walk::{walk, Answer};
 use papers::sections::wanted::{seek, Wanted};
@@ -179,4 +181,31 @@ fn a_board_of_the_deepest_network() {
     let board = on_small_stack(|| engine::board(&file, &sheet, 15, i32::MAX, 10_080));
     // 16 lines, and 7 days of 1,440 minutes.
     assert_eq!(board.map(|board| board.len()), Ok(7 * 16));
+}
+
+/// Its gaps, with all starts at an end of 32 bits and one after another; and those of a
+/// stop at which every line calls twice.
+#[test]
+fn gaps_on_512_kilobytes() {
+    let every_90: [i32; 16] = std::array::from_fn(|line| 90 * line as i32);
+    let all = [deepest(scattered), deepest(jumbled), deepest(|_| 0)];
+    for file in all.map(|commands| bytes_of(&commands)) {
+        for starts in [[i32::MIN; 16], [i32::MAX; 16], every_90] {
+            compare_gaps(&file, &starts);
+        }
+    }
+    let (row, least) = compare_gaps(&bytes_of(&deepest(|_| 0)), &every_90);
+    assert_eq!((row[..16].to_vec(), least), (vec![90; 16], 90));
+    let (row, least) = compare_gaps(&fullest_file(), &[i32::MAX; 16]);
+    assert_eq!((row[63], least), (0, 0));
+}
+
+/// The row and the least gap on the small stack, beside the papers.
+fn compare_gaps(file: &[u8], starts: &[i32]) -> ([u16; 64], u32) {
+    let sheet = Sheet::of_starts(starts);
+    let found = on_small_stack(|| engine::gaps(file, &sheet));
+    let mut row = [0; 64];
+    let rating = gaps(file, starts, &mut row).expect("an accepted file");
+    assert_eq!(found, Ok(answers::gaps(row, rating)));
+    (row, rating.least)
 }

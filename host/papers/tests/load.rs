@@ -1,5 +1,5 @@
-//! A hall's day: 200,000 calls each of rate, both marks, mark by a key, wanted and board
-//! in one process. Memory stays flat, each answer is the papers' own, and the calls per
+//! A hall's day: 200,000 calls each of rate, both marks, mark by a key, wanted, board and
+//! gaps in one process. Memory stays flat, each answer is the papers' own, and the calls per
 //! second are printed (`cargo test --release --offline --test load -- --show-output`). No
 //! other test may stand in this file: it would run beside this one and add to the memory.
 
@@ -9,6 +9,7 @@ use engine::{Hundred, Mark, Rating, Refusal, Sheet};
 use papers::answers::{marked, out_of_hundred, rating_or_refusal, refusal, sought};
 use papers::files::{any_file, any_gap, any_sheet_bytes, any_window, Dice};
 use papers::sections::board::{board_bytes, Window};
+use papers::sections::gaps::gaps_bytes;
 use papers::sections::hundred::by_key_bytes;
 use papers::sections::network::read;
 use papers::sections::sheets::{mark_bytes, rate_bytes};
@@ -55,7 +56,11 @@ struct Paper {
     by_key: Result<Hundred, Refusal>,
     sought: Result<Sought, Refusal>,
     board: Board,
+    gap_row: [u16; 64],
 }
+
+/// What each place of the row of gaps holds before a call.
+const GAP: u16 = 7;
 
 fn paper(dice: &mut Dice) -> Paper {
     let file = any_file(dice);
@@ -69,8 +74,14 @@ fn paper(dice: &mut Dice) -> Paper {
         let listed = board_bytes(&file, &sheet, window, times, lines);
         listed.map(|count| count as u32).map_err(refusal)
     });
+    // What it answers is the rating.
+    let mut gap_row = [GAP; 64];
+    let gapped = gaps_bytes(&file, &sheet, &mut gap_row);
+    let rating = rate_bytes(&file, &sheet);
+    assert_eq!(gapped, rating);
     Paper {
-        rating: rating_or_refusal(rate_bytes(&file, &sheet)),
+        rating: rating_or_refusal(rating),
+        gap_row,
         mark: mark.map(marked).map_err(refusal),
         by_key: by_key.map(out_of_hundred).map_err(refusal),
         sought: sought.map_err(refusal),
@@ -168,5 +179,10 @@ fn two_hundred_thousand_calls() {
     assert!(listed.count() > FILES / 6);
     calls("board", &papers, |paper| {
         assert!(board(paper) == paper.board, "{:?}", paper.window);
+    });
+    calls("gaps", &papers, |paper| {
+        let mut gap_row = [GAP; 64];
+        let found = engine::gaps_into(&paper.file, &paper.sheet, &mut gap_row);
+        assert_eq!((found, gap_row), (paper.rating, paper.gap_row));
     });
 }

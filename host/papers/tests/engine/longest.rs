@@ -44,6 +44,9 @@ fn refused_by_all(longer: &[u8], refusal: Refusal) {
     let (times, lines) = (&mut [7; 60], &mut [7; 60]);
     let board = engine::board_into(longer, &sheet, 0, 0, 60, times, lines);
     assert_eq!(board.map(drop), refusal);
+    assert_eq!(engine::gaps(longer, &sheet).map(drop), refusal);
+    let gaps = engine::gaps_into(longer, &sheet, &mut [7; 64]);
+    assert_eq!(gaps.map(drop), refusal);
     let better = engine::better(longer, &sheet, &sheet);
     assert_eq!(better, Better::Neither);
 }

@@ -1,6 +1,6 @@
 //! Refusals: their words, and the rows of a refused call.
 
-use engine::{Arrival, Ground, NoGround, Refusal, Sheet};
+use engine::{Arrival, Ground, NoGround, Rating, Refusal, Sheet, NO_GAP};
 use papers::files::{faulty_file, Dice, GROUNDS};
 
 /// Each ground has words of its own, and the README has the same ones.
@@ -55,7 +55,7 @@ fn at_place_0(ground: Ground) -> Refusal {
 }
 
 /// Rows of the caller: grounds 16 to 18 come through the wrapper, and the rows
-/// stay as they were. Those of a board stand below.
+/// stay as they were. Those of gaps and of a board stand below.
 #[test]
 fn rows_of_the_caller() {
     let file = [0x4C, 0, 15, 0x43, 0, 0, 0, 8, 0x45];
@@ -77,6 +77,28 @@ fn rows_of_the_caller() {
     let mut row = [9; 10];
     assert_eq!(engine::archive_into(&file, &mut row), Ok(9));
     assert_eq!((&row[..9], row[9]), (&file[..], 9));
+}
+
+/// The row of gaps: the file's ground and 15 come through the wrapper.
+#[test]
+fn rows_of_gaps() {
+    let file = [0x4C, 0, 15, 0x43, 0, 1, 0, 8, 0x45];
+    let mut row = [9; 64];
+    let unfit = engine::gaps_into(&file, &Sheet::of_starts(&[0, 0]), &mut row);
+    assert_eq!(
+        (unfit, row),
+        (Err(at_place_0(Ground::SheetLength)), [9; 64])
+    );
+    let cut = engine::gaps_into(&file[..8], &Sheet::of_starts(&[0, 0]), &mut row);
+    let refusal = Refusal {
+        ground: Ground::NoCommand,
+        place: 8,
+    };
+    assert_eq!((cut, row), (Err(refusal), [9; 64]));
+    let rated = engine::gaps_into(&file, &Sheet::of_starts(&[0]), &mut row);
+    let fifteen = Rating { least: 15, sum: 15 };
+    assert_eq!((rated, row[1]), (Ok(fifteen), 15));
+    assert!((0..64).all(|stop| stop == 1 || row[stop] == NO_GAP));
 }
 
 /// The rows of a board: grounds 8, 22 and 23, each before the next.

@@ -2,7 +2,8 @@
 
 use engine::{Hundred, Mark, Refusal, Sheet};
 use papers::answers::{
-    arrivals, classed, counts, marked, out_of_hundred, rating_or_refusal, refusal, sought, walked,
+    arrivals, classed, counts, gaps, marked, out_of_hundred, rating_or_refusal, refusal, sought,
+    walked,
 };
 use papers::files::{
     any_budget, any_file, any_gap, any_sheet_bytes, any_window, random_bytes, roomy_file,
@@ -11,6 +12,7 @@ use papers::files::{
 use papers::sections;
 use papers::sections::archive::archive_form;
 use papers::sections::board::{board_bytes, Arrival, Window, MAX_LENGTH};
+use papers::sections::gaps::{gaps_bytes, NO_GAP};
 use papers::sections::hundred::by_key_bytes;
 use papers::sections::network::{read, Network, LATEST_EDITION};
 use papers::sections::sheets::{better_bytes, mark_bytes, rate_bytes, weighted_bytes, Better};
@@ -49,6 +51,9 @@ struct Kind {
     above_key: bool,
     /// Empty, with arrivals, refused by its stop, its length, its rows.
     board: Option<usize>,
+    /// Of rated gaps: with a lone stop, a line twice at a stop, a gap of 0, one above 8 bits,
+    /// stop 63 served.
+    gaps: [bool; 5],
     empty: bool,
     very_long: bool,
     /// Fewer classes than served stops.
@@ -87,6 +92,7 @@ fn case(number: usize) -> Kind {
     }
     compare_archive(&mut dice, &file, &net, &sheets, &mut kind);
     compare_board(&mut dice, &file, &sheets[0], &mut kind);
+    compare_gaps(&mut dice, &file, &sheets[0], &mut kind);
     kind
 }
 
@@ -258,6 +264,38 @@ fn compare_board_rows(
     };
 }
 
+/// The gaps beside the papers', in the wrapper's row and in the caller's, which a refusal
+/// leaves; and the rating beside them is that of the rate call.
+fn compare_gaps(dice: &mut Dice, file: &[u8], sheet: &[u8], kind: &mut Kind) {
+    let before: [u16; 64] = from_fn(|_| dice.bits() as u16);
+    let [mut row, mut found_row] = [before; 2];
+    let paper = gaps_bytes(file, sheet, &mut row);
+    let handed = Sheet::of_bytes(sheet.to_vec());
+    let found = engine::gaps_into(file, &handed, &mut found_row);
+    assert_eq!((found, found_row), (rating_or_refusal(paper), row));
+    assert_eq!(engine::rate(file, &handed), found);
+    let whole = paper.map(|rating| gaps(row, rating)).map_err(refusal);
+    assert_eq!(engine::gaps(file, &handed), whole);
+    if let (Ok(rating), Ok(net)) = (paper, read(file)) {
+        kind.gaps = kinds_of_gaps(&net, &row);
+        let served = row.iter().filter(|&&gap| gap != NO_GAP);
+        assert_eq!(rating.sum, served.map(|&gap| u32::from(gap)).sum());
+        assert_eq!(Some(rating.least), row.iter().min().map(|&gap| gap.into()));
+    }
+}
+
+fn kinds_of_gaps(net: &Network, row: &[u16; 64]) -> [bool; 5] {
+    let calls = || (0..64).map(|stop| net.calls_at(stop));
+    let large = |gap: &u16| (256..NO_GAP).contains(gap);
+    [
+        calls().any(|calls| calls.len() == 1),
+        calls().any(|calls| calls.windows(2).any(|two| two[0].line == two[1].line)),
+        row.contains(&0),
+        row.iter().any(large),
+        row[63] != NO_GAP,
+    ]
+}
+
 /// The archive form beside the papers', in a row that is longer by some bytes;
 /// and every call answers the same on the file and on its archive form.
 fn compare_archive(
@@ -303,7 +341,11 @@ fn answers(
         engine::mark(file, first, budget),
         engine::mark_by_key(file, first, second),
         engine::archive(file),
-        engine::board(file, first, 0, -60, 120),
+        // Tuples of more than twelve can't be compared.
+        (
+            engine::board(file, first, 0, -60, 120),
+            engine::gaps(file, first),
+        ),
     )
 }
 
@@ -346,6 +388,13 @@ fn boards(kinds: &[Kind]) -> [usize; 5] {
     boards
 }
 
+/// How many rows of gaps were of each kind.
+fn rows_of_gaps(kinds: &[Kind]) -> [usize; 5] {
+    let rows = from_fn(|at| kinds.iter().filter(|kind| kind.gaps[at]).count());
+    println!("gaps with a lone stop, a line twice, 0, above 255, stop 63: {rows:?}");
+    rows
+}
+
 #[test]
 fn seeded_files_and_sheets() {
     let cases = cases();
@@ -380,6 +429,7 @@ fn seeded_files_and_sheets() {
         &hundreds,
         &editions(&kinds),
         &boards(&kinds),
+        &rows_of_gaps(&kinds),
         &[rated, unfit, long, empty, alike, untidy, above_key],
     ]
     .concat();
