@@ -66,19 +66,22 @@ extern "C" {
 #define EXAMINATION_WANTED_PLACES 1
 #define EXAMINATION_MARK_PLACES 6
 #define EXAMINATION_BOARD_PLACES 1
+#define EXAMINATION_GAPS_PLACES 2
 
 /* Places of the row for a mark out of a hundred: the mark, the remainder. */
 #define EXAMINATION_HUNDRED_PLACES 2
 
-/* Limits: the latest edition, lines of a network, places of the class row and of the
- * weight row, an unserved stop's entry in the class row, bytes of a start on a sheet,
- * bytes of the longest archive form, minutes of the longest board and arrivals on the
- * fullest, calls at one stop, each of which arrives once a minute at most; and how many
- * of a file's bytes decide: a longer file is answered as its first 4,096 bytes are. */
+/* Limits: the latest edition, lines of a network, places of the class row, of the weight
+ * row and of the gap row, an unserved stop's entry in the class row and in the gap row,
+ * bytes of a start on a sheet, bytes of the longest archive form, minutes of the longest
+ * board and arrivals on the fullest, calls at one stop, each of which arrives once a
+ * minute at most; and how many of a file's bytes decide: a longer file is answered as its
+ * first 4,096 bytes are. */
 #define EXAMINATION_LATEST_EDITION 2
 #define EXAMINATION_MOST_LINES 16
 #define EXAMINATION_STOPS 64
 #define EXAMINATION_UNSERVED 255u
+#define EXAMINATION_NO_GAP 65535u
 #define EXAMINATION_START_BYTES 4
 #define EXAMINATION_MOST_ARCHIVE_BYTES 1331
 #define EXAMINATION_LONGEST_BOARD 10080
@@ -208,6 +211,17 @@ uint32_t examination_board(const uint8_t *file, size_t file_len,
                            int64_t *time_row, size_t time_len,
                            uint8_t *line_row, size_t line_len,
                            uint32_t answer[EXAMINATION_BOARD_PLACES]);
+
+/* The gap of each stop under a sheet: what its rating is made of.
+ * Returns 0, puts into the gap row for each stop its gap (0 to 1,440), and
+ * EXAMINATION_NO_GAP if it is unserved, and into the answer the least of these gaps and
+ * their sum, which is what examination_rate puts there; or a refusal, as
+ * examination_rate gives it, and both rows as they were. The gap row has
+ * EXAMINATION_STOPS places, aligned to 2 bytes; no length crosses. */
+uint32_t examination_gaps(const uint8_t *file, size_t file_len,
+                          const uint8_t *sheet, size_t sheet_len,
+                          uint16_t gap_row[EXAMINATION_STOPS],
+                          uint32_t answer[EXAMINATION_GAPS_PLACES]);
 
 /* ---- Of a return value (not that of examination_better, which never refuses) */
 

@@ -104,6 +104,44 @@ static void rate_it(const char *name, rating_call *call, const struct network *f
     printf("\n");
 }
 
+static int is_gap_row_of(const uint16_t *row, uint16_t value)
+{
+    for (size_t stop = 0; stop < EXAMINATION_STOPS; stop++) {
+        if (row[stop] != value) {
+            return 0;
+        }
+    }
+    return 1;
+}
+
+/* The gap of each stop that is served; the answer is that of the rating alone. */
+static void gaps_of(const struct network *file, const struct sheet *sheet)
+{
+    uint16_t gaps[EXAMINATION_STOPS];
+    uint32_t alone[EXAMINATION_RATE_PLACES] = {7, 7};
+    uint32_t answer[EXAMINATION_GAPS_PLACES] = {7, 7};
+    for (size_t stop = 0; stop < EXAMINATION_STOPS; stop++) {
+        gaps[stop] = 7;
+    }
+    const uint32_t expected = examination_rate(file->bytes, file->count, sheet->bytes,
+                                               sheet->count, alone);
+    const uint32_t returned = examination_gaps(file->bytes, file->count, sheet->bytes,
+                                               sheet->count, gaps, answer);
+    if (examination_is_refused(returned)) {
+        say_refusal(returned);
+        printf("; the gap row %s", is_gap_row_of(gaps, 7) ? "is as it was" : "has changed");
+    } else {
+        for (size_t stop = 0; stop < EXAMINATION_STOPS; stop++) {
+            if (gaps[stop] != EXAMINATION_NO_GAP) {
+                printf("%u at stop %zu; ", (unsigned)gaps[stop], stop);
+            }
+        }
+        say_rating("", answer);
+    }
+    const int same = returned == expected && memcmp(answer, alone, sizeof alone) == 0;
+    printf("; the answer %s the rating's\n", same ? "is" : "isn't");
+}
+
 static void classify(const struct network *file)
 {
     uint8_t classes[EXAMINATION_STOPS];
@@ -378,9 +416,11 @@ static void open_it(const char *which, const struct network *file, unsigned edit
     memcpy(opened.bytes + opened.count, file->bytes + from, count);
     opened.count += count;
     printf("%sin edition %u, ", which, edition);
-    read_it("read", &opened);
+    const struct sheet starts_at_0 = {{0}, EXAMINATION_START_BYTES * read_it("read", &opened)};
     printf("%sin edition %u, ", which, edition);
     archive_it(&opened, EXAMINATION_MOST_ARCHIVE_BYTES);
+    printf("%sin edition %u, gaps with all starts at 0: ", which, edition);
+    gaps_of(&opened, &starts_at_0);
 }
 
 /* In each edition, and in the one behind the latest. */
@@ -422,6 +462,8 @@ static void run(const struct network *file, const struct sheet *sheets, size_t c
         show(i + 1, &sheets[i]);
         rate_it("rating", examination_rate, file, i + 1, &sheets[i]);
         rate_it("weighted rating", examination_weighted, file, i + 1, &sheets[i]);
+        printf("gaps of sheet %zu: ", i + 1);
+        gaps_of(file, &sheets[i]);
     }
     classify(file);
     search_it(file, lines, 0);

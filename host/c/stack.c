@@ -165,6 +165,12 @@ static void call_board(void)
     returned += answer[0] - EXAMINATION_MOST_ARRIVALS;
 }
 
+static void call_gaps(void)
+{
+    static uint16_t gaps[EXAMINATION_STOPS];
+    returned = examination_gaps(file.bytes, file.count, sheet, sizeof sheet, gaps, answer);
+}
+
 static void call_archive(void)
 {
     static uint8_t row[EXAMINATION_MOST_ARCHIVE_BYTES];
@@ -201,6 +207,7 @@ int main(void)
         {"examination_read", call_read},         {"examination_better", call_better},
         {"examination_rate", call_rate},         {"examination_hundred", call_hundred},
         {"examination_by_key", call_by_key},     {"examination_board", call_board},
+        {"examination_gaps", call_gaps},
     };
     make_deepest();
     make_fullest();
