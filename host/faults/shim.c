@@ -1,5 +1,5 @@
 /*
- * The twelve exports over the real ones, which .ci/faults has renamed, with the
+ * The thirteen exports over the real ones, which .ci/faults has renamed, with the
  * faults of faults.h. The variable EXAMINATION_FAULT has the number of the one that
  * this process is to have; unset or 0 is none. It is linked by the tests of the
  * tests alone.
@@ -25,6 +25,7 @@ extern __typeof__(examination_hundred) real_hundred;
 extern __typeof__(examination_by_key) real_by_key;
 extern __typeof__(examination_archive) real_archive;
 extern __typeof__(examination_board) real_board;
+extern __typeof__(examination_gaps) real_gaps;
 
 /* Behind the longest file, which is an archive form; and what is refused there. */
 #define LAST_PLACE_OF_ALL EXAMINATION_MOST_ARCHIVE_BYTES
@@ -804,5 +805,177 @@ uint32_t examination_board(const uint8_t *file, size_t file_len, const uint8_t *
     returned = fault_ground(returned, &asked, &rows, answer);
     fault_board(returned, &asked, &rows, answer);
     if (is(LAST_PLACE_OF_BOARD) && returned == LAST_REFUSAL) return returned - 1;
+    return returns(returned, file_len);
+}
+
+/* What gaps are made of: each line's period, each call's line, stop and time. */
+struct arrivals {
+    uint32_t periods[EXAMINATION_MOST_LINES];
+    struct {
+        uint8_t line, stop;
+        int64_t time;
+    } calls[256];
+    size_t count;
+};
+
+/* Of an accepted file and a sheet that fits. */
+static struct arrivals arrivals_of(const uint8_t *file, size_t file_len, const uint8_t *sheet)
+{
+    struct arrivals all = {.count = 0};
+    uint8_t form[EXAMINATION_MOST_ARCHIVE_BYTES];
+    real_archive(file, file_len, form, sizeof form);
+    size_t lines = 0;
+    for (size_t at = form[0] == 0x56 ? 2 : 0; form[at] != 0x45; at += form[at] == 0x4C ? 3 : 5) {
+        const uint8_t *command = form + at;
+        if (command[0] == 0x4C) {
+            all.periods[lines++] = command[1] * 256u + command[2];
+            continue;
+        }
+        const uint8_t *start = sheet + 4 * command[1];
+        const uint32_t word = (uint32_t)start[0] << 24 | (uint32_t)start[1] << 16 |
+                              (uint32_t)start[2] << 8 | start[3];
+        all.calls[all.count].line = command[1];
+        all.calls[all.count].stop = command[2];
+        all.calls[all.count++].time = (int32_t)word + command[3] * 256 + (int64_t)command[4];
+    }
+    return all;
+}
+
+static uint32_t divisor(uint32_t a, uint32_t b)
+{
+    return b == 0 ? a : divisor(b, a % b);
+}
+
+/* The gap of two calls, or the difference alone that it is the nearer side of. */
+static uint32_t gap_of(const struct arrivals *all, size_t one, size_t other)
+{
+    const uint32_t *periods = all->periods;
+    const int64_t g = divisor(periods[all->calls[one].line], periods[all->calls[other].line]);
+    const int64_t d = ((all->calls[one].time - all->calls[other].time) % g + g) % g;
+    return (uint32_t)(d <= g - d || is(GAPS_ONE_WAY) ? d : g - d);
+}
+
+/* The gap of a stop by a wrong rule. */
+static uint16_t gap_at(const struct arrivals *all, uint8_t stop)
+{
+    uint32_t least = EXAMINATION_NO_GAP;
+    size_t calls = 0;
+    uint32_t period = 0;
+    for (size_t one = 0; one < all->count; one++) {
+        if (all->calls[one].stop != stop) continue;
+        calls++;
+        period = all->periods[all->calls[one].line];
+        for (size_t other = 0; other < one; other++) {
+            if (all->calls[other].stop != stop) continue;
+            if (is(GAPS_WITHOUT_LOOPS) && all->calls[one].line == all->calls[other].line) continue;
+            const uint32_t gap = gap_of(all, one, other);
+            if (gap < least) least = gap;
+        }
+    }
+    /* One call, or one line where its own pair is passed over. */
+    const int lone = calls > 0 && least == EXAMINATION_NO_GAP;
+    return (uint16_t)(lone && !is(GAPS_WITHOUT_LONE) ? period : least);
+}
+
+/* Whether the fault is a rule by which the row is made. */
+static int is_of_rule(void)
+{
+    return is(GAPS_ONE_WAY) || is(GAPS_WITHOUT_LOOPS) || is(GAPS_WITHOUT_LONE);
+}
+
+/* The row of the call before if that one's lengths were the same. */
+static void row_from_before(size_t file_len, size_t sheet_len, uint16_t *row)
+{
+    static _Thread_local struct {
+        size_t file_len, sheet_len;
+        uint16_t row[EXAMINATION_STOPS];
+    } before;
+    if (before.file_len == file_len && before.sheet_len == sheet_len) {
+        memcpy(row, before.row, sizeof before.row);
+    } else {
+        before.file_len = file_len;
+        before.sheet_len = sheet_len;
+        memcpy(before.row, row, sizeof before.row);
+    }
+}
+
+/* The row by way of one that all threads write to. */
+static void row_by_shared_one(uint16_t *row)
+{
+    static volatile uint16_t shared[EXAMINATION_STOPS];
+    for (size_t stop = 0; stop < EXAMINATION_STOPS; stop++) shared[stop] = row[stop];
+    thrd_sleep(&(struct timespec){.tv_nsec = 1000}, NULL);
+    for (size_t stop = 0; stop < EXAMINATION_STOPS; stop++) row[stop] = shared[stop];
+}
+
+/* What stands in the gap row at a stop, which held this before. */
+static uint16_t fault_gap(uint16_t gap, uint16_t before, size_t stop)
+{
+    if (gap == EXAMINATION_NO_GAP) {
+        if (is(GAPS_UNSERVED_AS_0)) return 0;
+        return is(GAPS_UNSERVED_LEFT) ? before : gap;
+    }
+    if (is(GAPS_OF_8_BITS)) return gap & 255;
+    return is(GAPS_LAST_STOP) && stop == EXAMINATION_STOPS - 1 ? gap + 1 : gap;
+}
+
+/* Changes a place that isn't the row's, which a compiler that knew it would refuse. */
+static void change_outside(uint16_t *row, int at)
+{
+    uint16_t *volatile unknown = row;
+    unknown[at] ^= 1;
+}
+
+/* What stands in the rows behind gaps, the gap row before them being this. */
+static void fault_gaps(uint16_t *row, const uint16_t *before, uint32_t answer[2])
+{
+    static atomic_uint calls;
+    for (size_t stop = 0; stop < EXAMINATION_STOPS; stop++)
+        row[stop] = fault_gap(row[stop], before[stop], stop);
+    if (is(GAPS_SWAPPED)) {
+        const uint16_t gap = row[1];
+        row[1] = row[2];
+        row[2] = gap;
+    }
+    if (is(GAPS_PLACE_BEFORE)) change_outside(row, -1);
+    if (is(GAPS_PLACE_BEHIND)) change_outside(row, EXAMINATION_STOPS);
+    if (is(EVERY_3000TH_GAPS) && is_3000th(&calls)) row[0] ^= 1;
+    if (is(GAPS_ANSWER_TURNED)) {
+        const uint32_t least = answer[0];
+        answer[0] = answer[1];
+        answer[1] = least;
+    }
+    if (is(GAPS_SUM_OF_16_BITS)) answer[1] &= 65535;
+}
+
+uint32_t examination_gaps(const uint8_t *file, size_t file_len, const uint8_t *sheet,
+                          size_t sheet_len, uint16_t gap_row[64], uint32_t answer[2])
+{
+    uint16_t before[EXAMINATION_STOPS];
+    uint8_t copy[EXAMINATION_MOST_LINES * EXAMINATION_START_BYTES];
+    memcpy(before, gap_row, sizeof before);
+    if (is(GAPS_SHEET_FIRST) && sheet_len % 4 != 0) return 15 * EXAMINATION_REFUSED;
+    if (is(GAPS_SIGN_DROPPED) && sheet_len > 0 && sheet_len <= sizeof copy) {
+        memcpy(copy, sheet, sheet_len);
+        copy[0] &= 127;
+        sheet = copy;
+    }
+    const size_t taken = taken_length(LONG_SHEET_GAPS, file, file_len, sheet_len);
+    const uint32_t returned = real_gaps(file, file_len, sheet, taken, gap_row, answer);
+    if (examination_is_refused(returned)) {
+        if (is(GAPS_ROW_ON_REFUSAL)) gap_row[0] = EXAMINATION_NO_GAP;
+        if (is(GAPS_CLEARED_ON_REFUSAL)) answer[0] = 0;
+        if (is(LAST_PLACE_OF_GAPS) && returned == LAST_REFUSAL) return returned - 1;
+        return returns(returned, file_len);
+    }
+    if (is_of_rule()) {
+        const struct arrivals all = arrivals_of(file, file_len, sheet);
+        for (uint8_t stop = 0; stop < EXAMINATION_STOPS; stop++) gap_row[stop] = gap_at(&all, stop);
+    }
+    if (is(GAPS_FROM_BEFORE)) row_from_before(file_len, sheet_len, gap_row);
+    if (is(GAPS_SHARED_ROW)) row_by_shared_one(gap_row);
+    if (is(GAPS_SHEET_CHANGED)) ((uint8_t *)sheet)[0] ^= 1;
+    if (is(GAPS_BY_EDITION) && is_opened(file, file_len, 2)) gap_row[0] ^= 1;
+    fault_gaps(gap_row, before, answer);
     return returns(returned, file_len);
 }

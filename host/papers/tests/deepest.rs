@@ -183,19 +183,22 @@ fn a_board_of_the_deepest_network() {
     assert_eq!(board.map(|board| board.len()), Ok(7 * 16));
 }
 
-/// Its gaps, with all starts at an end of 32 bits and one after another; and those of a
-/// stop at which every line calls twice.
+/// Its gaps, with all starts at an end of 32 bits and one after another, also from there;
+/// and those of a stop at which every line calls twice.
 #[test]
 fn gaps_on_512_kilobytes() {
     let every_90: [i32; 16] = std::array::from_fn(|line| 90 * line as i32);
+    let from_the_end = every_90.map(|start| i32::MIN + start);
     let all = [deepest(scattered), deepest(jumbled), deepest(|_| 0)];
     for file in all.map(|commands| bytes_of(&commands)) {
-        for starts in [[i32::MIN; 16], [i32::MAX; 16], every_90] {
+        for starts in [[i32::MIN; 16], [i32::MAX; 16]] {
             compare_gaps(&file, &starts);
         }
     }
-    let (row, least) = compare_gaps(&bytes_of(&deepest(|_| 0)), &every_90);
-    assert_eq!((row[..16].to_vec(), least), (vec![90; 16], 90));
+    for starts in [every_90, from_the_end] {
+        let (row, least) = compare_gaps(&bytes_of(&deepest(|_| 0)), &starts);
+        assert_eq!((&row[..16], least), (&[90; 16][..], 90));
+    }
     let (row, least) = compare_gaps(&fullest_file(), &[i32::MAX; 16]);
     assert_eq!((row[63], least), (0, 0));
 }

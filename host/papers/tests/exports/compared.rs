@@ -358,7 +358,9 @@ pub fn compare_gaps(dice: &mut Dice, file: &[u8], sheet: &[u8], seen: &mut Seen)
     let found = called::gaps(file, sheet, rows.0, rows.1);
     assert_eq!((found, &answer), (returned, &answer_after));
     assert_eq!(gap_row, row_after);
-    assert_eq!(rated(file, sheet), (found, made_of(found, gap_row.row())));
+    // On a copy: a second call could undo what a first one changed in the sheet.
+    let rated = rated(file, &sheet.to_vec());
+    assert_eq!(rated, (found, made_of(found, gap_row.row())));
     seen.add(found);
 }
 
