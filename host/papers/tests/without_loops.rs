@@ -10,6 +10,7 @@ use papers::files::{any_file, faulty_file, sheet, valid_file, Dice};
 use papers::sections::archive::archive_form;
 use papers::sections::caps::cap;
 use papers::sections::classes::{classes, weighted_rating};
+use papers::sections::gaps::{gaps, NO_GAP};
 use papers::sections::network::{read, Refusal, STOPS};
 use papers::sections::rating::{rating, rating_by_counting, whole};
 use papers::sections::walk::walk;
@@ -36,7 +37,19 @@ fn compared(file: &[u8]) -> Option<by_lines::network::Network> {
     }
 }
 
-/// Ratings, weighted ratings, classes, caps, the archive form and the walk.
+/// The gap of each stop, by lines.
+fn gaps_as_before(file: &[u8], before: &by_lines::network::Network, starts: &[i32]) {
+    let gap = |stop| by_lines::rating::stop_gap(before, stop, &whole(starts));
+    let row = std::array::from_fn(|stop| gap(stop).map_or(NO_GAP, |gap| gap as u16));
+    let rating = by_lines::rating::rating(before, &whole(starts));
+    let mut found = [0; STOPS];
+    assert_eq!(gaps(file, starts, &mut found), Ok(rating));
+    assert_eq!(found, row);
+    let engines = engine::gaps(file, &Sheet::of_starts(starts));
+    assert_eq!(engines, Ok(answers::gaps(row, rating)));
+}
+
+/// Ratings, weighted ratings, gaps, classes, caps, the archive form and the walk.
 fn answers_as_before(dice: &mut Dice, file: &[u8], before: &by_lines::network::Network) {
     let net = read(file).expect("an accepted file");
     let found = classes(&net);
@@ -58,6 +71,7 @@ fn answers_as_before(dice: &mut Dice, file: &[u8], before: &by_lines::network::N
     assert_eq!(weighted_rating(&net, &whole(&starts)), expected);
     let rated = engine::rate(file, &Sheet::of_starts(&starts));
     assert_eq!(rated, Ok(answers::rated(expected)));
+    gaps_as_before(file, before, &starts);
     let walked = by_lines::walk::walk(before, BUDGET);
     assert_eq!(walk(&net, BUDGET), walked);
     assert_eq!(
