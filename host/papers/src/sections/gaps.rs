@@ -1,5 +1,5 @@
-//! The gap of each stop by a call of its own, with what document 01 says of it in "Gap
-//! and rating" and "Sheets": the gaps that a rating is made of; ground 15.
+//! Document 01, "Gap and rating" and "Sheets": the gap of each stop under a sheet, of which
+//! the rating is made, by a call of its own; ground 15.
 
 use super::network::{Network, Refusal, STOPS};
 use super::rating::{gap_by_counting, rating, whole, Rating};
@@ -9,8 +9,8 @@ use super::sheets::{read_both, read_both_bytes};
 /// nowhere."
 pub const NO_GAP: u16 = 65_535;
 
-/// The call: fills the row and returns the rating. It refuses as rate does, and leaves the
-/// row as it was then.
+/// The call: fills the row and returns the rating. It refuses as rate does, and then leaves
+/// the row as it was.
 pub fn gaps(file: &[u8], sheet: &[i32], gap_row: &mut [u16; STOPS]) -> Result<Rating, Refusal> {
     let net = read_both(file, sheet)?;
     let starts = whole(sheet);

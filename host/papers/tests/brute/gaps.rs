@@ -1,5 +1,5 @@
 //! The gap of each stop by the words of document 01 alone: every trip of each call within
-//! some cycles, and every two trips of different calls.
+//! two cycles, and every two trips of different calls.
 
 use papers::files::{bytes_of, valid_commands_of, Dice, Size};
 use papers::sections::gaps::{row_by_counting, NO_GAP};
@@ -7,7 +7,8 @@ use papers::sections::network::{read, Call, Network, STOPS};
 use papers::small::{every_timetable, small_file};
 
 /// The times of all trips of a call in two cycles about minute 0: "its start plus its
-/// offset there, plus every whole multiple of its period, negative ones included".
+/// offset there, plus every whole multiple of its period, negative ones included". Two
+/// trips that are nearest are within half a cycle, and a whole cycle later they are again.
 fn trips(net: &Network, call: Call, start: i64) -> Vec<i64> {
     let (period, cycle) = (i64::from(net.period(call)), i64::from(net.cycle));
     let reached = (start + i64::from(call.offset)) % cycle;
