@@ -11,6 +11,7 @@
 //! | `output`       | standard output and standard error, refusals in words   |
 //! | `line`         | the command line: its table, its options, parser, help  |
 //! | `hall`         | what several verbs do with sheets and long searches     |
+//! | `picture`      | pictures of a timetable, as SVG                         |
 //! | `verbs`        | a file for each verb, and the list of all               |
 //!
 //! Each uses those above it alone.
@@ -24,6 +25,7 @@ mod input;
 mod interrupt;
 mod line;
 mod output;
+mod picture;
 mod status;
 mod system;
 mod verbs;

@@ -10,3 +10,4 @@ pub mod named;
 pub mod names;
 pub mod streams;
 pub mod watch;
+pub mod xml;
