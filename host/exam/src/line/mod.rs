@@ -5,7 +5,8 @@
 //! |---------------|--------------------------------------------------------|
 //! | `table.rs`    | what a verb, an option and a request are               |
 //! | `options.rs`  | every option, and what a request says by it            |
-//! | `operands.rs` | the networks and sheets of a request, its gap or stop  |
+//! | `words.rs`    | numbers and stops as words say them                    |
+//! | `operands.rs` | the networks and sheets of a request, its last operand |
 //! | `near.rs`     | near misses of names                                   |
 //! | `help.rs`     | what `--help` prints, by the table                     |
 //! | `man.rs`, `completions.rs` | the manual page and what shells read, by it |
@@ -21,3 +22,4 @@ pub mod options;
 pub mod pages;
 pub mod parser;
 pub mod table;
+pub mod words;

@@ -1,13 +1,16 @@
-//! The networks and sheets of a request, loaded, and its last operand: a gap or a stop.
+//! The networks and sheets of a request, loaded, and its last operand: a gap, a stop or a file
+//! to be written.
 
 use super::near::meant;
-use super::options::{self, in_digits};
+use super::options::{self, CIRCLE};
 use super::table::Request;
+use super::words::{in_digits, stop_of, Stop};
 use crate::input::network::{self, Network};
 use crate::input::sheet;
+use crate::output::target::Target;
 use crate::status::Trouble;
 use engine::text::shown;
-use engine::{Sheet, STOPS};
+use engine::Sheet;
 use std::ffi::OsStr;
 
 /// The networks, as many as the verb's row of the table says.
@@ -50,33 +53,26 @@ fn gap_of(word: &OsStr) -> Result<u16, String> {
 
 /// A stop: any number of 32 bits, or the name that a plan gives one.
 pub fn stop(request: &Request, network: &Network) -> Result<u32, Trouble> {
-    match request.last.as_deref().map(stop_of) {
-        Some(Ok(Stop::Number(number))) => Ok(number),
-        Some(Ok(Stop::Name(name))) => number_of(name, network),
+    match request.last.as_deref() {
+        Some(word) => numbered(word, network),
         // The parser goes by the table, and so the verb was written.
-        _ => unreachable!("a stop that nobody has checked"),
+        None => unreachable!("a stop that isn't there"),
     }
 }
 
-pub fn check_stop(word: &OsStr) -> Result<(), String> {
-    stop_of(word).map(|_| ())
+/// The stop whose circle is asked for.
+pub fn circle(request: &Request, network: &Network) -> Result<Option<u32>, Trouble> {
+    let word = request.value(&CIRCLE);
+    word.map(|word| numbered(word, network)).transpose()
 }
 
-enum Stop<'a> {
-    Number(u32),
-    Name(&'a str),
-}
-
-/// A name has a letter in it, so that no number is one.
-fn stop_of(word: &OsStr) -> Result<Stop<'_>, String> {
-    match (in_digits(word), word.to_str()) {
-        (Some(number), _) => Ok(Stop::Number(number)),
-        (None, Some(text)) if text.contains(char::is_alphabetic) => Ok(Stop::Name(text)),
-        _ => Err(format!(
-            "the stop '{}' is neither a number of 0 to {} nor a name",
-            shown(word.as_encoded_bytes()),
-            STOPS - 1
-        )),
+/// The number of a stop.
+fn numbered(word: &OsStr, network: &Network) -> Result<u32, Trouble> {
+    match stop_of(word) {
+        Ok(Stop::Number(number)) => Ok(number),
+        Ok(Stop::Name(name)) => number_of(name, network),
+        // The parser goes by the table, and so the verb was written.
+        Err(_) => unreachable!("a stop that nobody has checked"),
     }
 }
 
@@ -94,6 +90,32 @@ fn number_of(name: &str, network: &Network) -> Result<u32, Trouble> {
             format!("{file} has no stop '{word}'{}", meant(name, known))
         }
     }))
+}
+
+/// Where the picture goes.
+pub fn target(request: &Request) -> Target {
+    // The parser goes by the table, and so the verb was written.
+    let word = request.last.as_deref();
+    Target::of(word.unwrap_or_else(|| unreachable!("no file to be written")))
+}
+
+/// A file that is written has an ending of its own: by a slip in the order of the operands
+/// no sheet is overwritten.
+pub fn check_svg(word: &OsStr) -> Result<(), String> {
+    match word == "-" || ends_in(word, ".svg") {
+        true => Ok(()),
+        false => Err(format!(
+            "a picture isn't written to '{}': let the name end in .svg, so that no slip \
+             overwrites a sheet, or say - for standard output",
+            shown(word.as_encoded_bytes())
+        )),
+    }
+}
+
+/// Whether a name ends so; capitals are as good as small letters.
+fn ends_in(word: &OsStr, ending: &str) -> bool {
+    let name = word.as_encoded_bytes().to_ascii_lowercase();
+    name.ends_with(ending.as_bytes())
 }
 
 fn counted<T, const COUNT: usize>(

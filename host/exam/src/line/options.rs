@@ -1,12 +1,12 @@
 //! Every option, declared once, and what a request says by it.
 
 use super::table::{CommandOption, Request, Value};
+use super::words::{check_stop, in_digits};
 use crate::input::form::Form;
 use crate::input::network;
 use engine::text::shown;
 use engine::LONGEST_BOARD;
 use std::ffi::OsStr;
-use std::str::FromStr;
 
 /// What `best` of document 01 has.
 const USUAL_BUDGET: u32 = 1_000_000;
@@ -79,7 +79,7 @@ pub const JSON: CommandOption = CommandOption::flag(
 
 pub const RAW: CommandOption = CommandOption::flag("--raw", "write bytes");
 
-/// `exam board`; its first minute.
+/// `exam board` and `exam draw`; the first minute.
 pub const FROM: CommandOption = CommandOption {
     name: "--from",
     value: Some(Value {
@@ -88,11 +88,11 @@ pub const FROM: CommandOption = CommandOption {
         check: |word| first_of(word).map(|_| ()),
     }),
     help: "begin at minute M, which may be negative (otherwise 0)",
-    excludes: &[],
+    excludes: &["--circle"],
     missing: None,
 };
 
-/// `exam board`; how many minutes.
+/// `exam board` and `exam draw`; how many minutes.
 pub const LENGTH: CommandOption = CommandOption {
     name: "--length",
     value: Some(Value {
@@ -101,7 +101,20 @@ pub const LENGTH: CommandOption = CommandOption {
         check: |word| length_of(word).map(|_| ()),
     }),
     help: "list N minutes, 0 to 10080 (otherwise one common cycle)",
-    excludes: &[],
+    excludes: &["--circle"],
+    missing: None,
+};
+
+/// `exam draw`; a stop's arrivals in place of all strips, over one common cycle.
+pub const CIRCLE: CommandOption = CommandOption {
+    name: "--circle",
+    value: Some(Value {
+        placeholder: "STOP",
+        words: "a stop",
+        check: check_stop,
+    }),
+    help: "draw the arrivals at this stop on a circle",
+    excludes: &["--from", "--length"],
     missing: None,
 };
 
@@ -184,11 +197,4 @@ fn length_of(word: &OsStr) -> Result<u32, String> {
             shown(word.as_encoded_bytes())
         )
     })
-}
-
-/// Digits alone: a sign, which `parse` takes, isn't one.
-pub fn in_digits<Number: FromStr>(word: &OsStr) -> Option<Number> {
-    let text = word.to_str()?;
-    let digits = text.bytes().all(|byte| byte.is_ascii_digit());
-    text.parse().ok().filter(|_| digits)
 }

@@ -14,7 +14,8 @@ pub struct Verb {
     pub networks: usize,
     /// How many sheets it takes, behind these.
     pub sheets: Sheets,
-    /// Checks the last operand where that is no file, as a gap or a stop.
+    /// Checks the last operand where that is no file to be read, as a gap, a stop or a file to
+    /// be written.
     pub last: Option<Check>,
     /// Its options in the order of its help.
     pub options: &'static [&'static CommandOption],
@@ -65,7 +66,7 @@ pub type Check = fn(&OsStr) -> Result<(), String>;
 pub struct Request {
     pub networks: Vec<Source>,
     pub sheets: Vec<Source>,
-    /// The last operand, checked, where that is no file.
+    /// The last operand, checked, where that is no file to be read.
     pub last: Option<OsString>,
     given: Vec<Given>,
 }

@@ -40,6 +40,36 @@ pub fn refused_sheet(
     refused_with(refusal, network, more)
 }
 
+/// What beside the network a board was asked for.
+pub struct BoardAsked<'a> {
+    pub sheet: &'a Sheet,
+    /// `None` where nobody named one.
+    pub stop: Option<u32>,
+    /// `None` where it is one common cycle, which is never too long.
+    pub length: Option<u32>,
+}
+
+/// A refusal where a board was asked for.
+pub fn refused_board(
+    refusal: Refusal,
+    network: &Network,
+    asked: BoardAsked,
+) -> Result<Status, Trouble> {
+    let more = match refusal.ground {
+        Ground::SheetLength => Some(lengths(network, &[asked.sheet])),
+        Ground::Stop if !refusal.is_of_file() => {
+            let named = |stop| named::any_stop(&network.names, stop);
+            asked.stop.map(|stop| format!("asked for: {}", named(stop)))
+        }
+        Ground::BoardLength => {
+            let minutes = asked.length;
+            minutes.map(|minutes| format!("asked for: {minutes} minutes"))
+        }
+        _ => None,
+    };
+    refused_with(refusal, network, more)
+}
+
 /// The refusal in words, for standard error.
 pub fn explained(refusal: Refusal, network: &Network) -> String {
     let mut text = format!("exam: {refusal}: {}", refusal.words());

@@ -9,5 +9,6 @@ pub mod lines;
 pub mod named;
 pub mod names;
 pub mod streams;
+pub mod target;
 pub mod watch;
 pub mod xml;

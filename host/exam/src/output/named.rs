@@ -12,6 +12,14 @@ pub fn stop(names: &Names, number: u8) -> String {
     format!("stop {}", with(number, names.stop(number)))
 }
 
+/// The same of a stop that was asked for: one above all that there can be has no name.
+pub fn any_stop(names: &Names, number: u32) -> String {
+    match u8::try_from(number) {
+        Ok(number) => stop(names, number),
+        Err(_) => format!("stop {number}"),
+    }
+}
+
 /// `5 'Market'`, or `5`.
 pub fn with(number: u8, name: Option<&str>) -> String {
     match name {

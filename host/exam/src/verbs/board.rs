@@ -1,18 +1,19 @@
 //! `exam board`: every arrival at a stop under a sheet.
 
 use crate::input::network::Network;
-use crate::line::operands::{check_stop, networks, sheets, stop};
+use crate::line::operands::{networks, sheets, stop};
 use crate::line::options::{
     first, length, BYTES, FROM, LENGTH, PLAN, SHEET_BYTES, SHEET_NUMBERS, TYPED,
 };
 use crate::line::table::{Request, Sheets, Verb};
+use crate::line::words::check_stop;
 use crate::output::columns::{ended, width};
-use crate::output::fault::{lengths, refused, refused_with};
+use crate::output::fault::{refused, refused_board, BoardAsked};
 use crate::output::named;
 use crate::output::streams::{put, say};
 use crate::status::{Status, Trouble};
 use engine::plan::Names;
-use engine::{Arrival, Ground, Refusal, Sheet};
+use engine::Arrival;
 
 pub const VERB: Verb = Verb {
     name: "board",
@@ -82,28 +83,20 @@ fn run(request: &Request) -> Result<Status, Trouble> {
     match engine::board(file, &sheet, stop, first, length) {
         Ok(arrivals) => print(&asked, &arrivals, &network),
         Err(refusal) => {
-            let more = at_fault(refusal, &asked, &network, &sheet);
-            refused_with(refusal, &network, more)
+            let asked = BoardAsked {
+                sheet: &sheet,
+                stop: Some(stop),
+                length: Some(length),
+            };
+            refused_board(refusal, &network, asked)
         }
-    }
-}
-
-/// What beside the network a board was refused for.
-fn at_fault(refusal: Refusal, asked: &Asked, network: &Network, sheet: &Sheet) -> Option<String> {
-    match refusal.ground {
-        Ground::SheetLength => Some(lengths(network, &[sheet])),
-        Ground::Stop if !refusal.is_of_file() => {
-            Some(format!("asked for: {}", asked.named(&network.names)))
-        }
-        Ground::BoardLength => Some(format!("asked for: {} minutes", asked.length)),
-        _ => None,
     }
 }
 
 fn print(asked: &Asked, arrivals: &[Arrival], network: &Network) -> Result<Status, Trouble> {
     put(asked.head(arrivals.len(), &network.names) + &rows(arrivals, &network.names))?;
     if arrivals.is_empty() && asked.is_unserved(network) {
-        let stop = asked.named(&network.names);
+        let stop = named::any_stop(&network.names, asked.stop);
         say(&format!("exam: no line calls at {stop}"));
     }
     Ok(Status::Done)
@@ -115,14 +108,6 @@ impl Asked {
         let (stop, first, length) = (self.stop, self.first, self.length);
         let head = format!("stop {stop} from {first} length {length} arrivals {count}");
         ended(head, self.number().and_then(|stop| names.stop(stop)))
-    }
-
-    /// The stop by its number and its name.
-    fn named(&self, names: &Names) -> String {
-        match self.number() {
-            Some(stop) => named::stop(names, stop),
-            None => format!("stop {}", self.stop),
-        }
     }
 
     /// Whether no line of an accepted network calls there.

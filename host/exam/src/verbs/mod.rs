@@ -5,6 +5,7 @@ mod best;
 mod better;
 mod board;
 mod classes;
+mod draw;
 mod mark;
 mod plan;
 mod rate;
@@ -17,11 +18,12 @@ mod wanted;
 use crate::line::table::Verb;
 
 /// All verbs, in the order of help.
-pub const ALL: [&Verb; 13] = [
+pub const ALL: [&Verb; 14] = [
     &read::VERB,
     &show::VERB,
     &rate::VERB,
     &board::VERB,
+    &draw::VERB,
     &classes::VERB,
     &best::VERB,
     &wanted::VERB,
@@ -53,22 +55,22 @@ mod tests {
             assert_eq!(words.len(), verb.operand_count(), "{}", verb.name);
             let networks = words.iter().filter(|word| **word == "NETWORK");
             assert_eq!(networks.count(), verb.networks, "{}", verb.name);
-            let no_file = ["GAP", "STOP"].contains(&words[words.len() - 1]);
-            assert_eq!(no_file, verb.last.is_some(), "{}", verb.name);
+            // A number, a stop, or a file to be written.
+            let unread = ["GAP", "STOP", "FILE.svg"].contains(&words[words.len() - 1]);
+            assert_eq!(unread, verb.last.is_some(), "{}", verb.name);
         }
     }
 
-    /// An option is excluded by those that it excludes, and a verb that has the
-    /// one has the others.
+    /// An option is excluded by those that it excludes, and some verb has both.
     #[test]
     fn options_exclude_each_other() {
-        for verb in ALL {
-            for option in verb.options {
-                for name in option.excludes {
-                    let other = verb.options.iter().find(|other| other.name == *name);
-                    let other = other.unwrap_or_else(|| panic!("{} hasn't {name}", verb.name));
-                    assert!(other.excludes.contains(&option.name));
-                }
+        for option in all_options(&ALL) {
+            for name in option.excludes {
+                let both = ALL.iter().filter(|verb| verb.has(option));
+                let mut both = both.flat_map(|verb| verb.options);
+                let other = both.find(|other| other.name == *name);
+                let other = other.unwrap_or_else(|| panic!("{} beside no {name}", option.name));
+                assert!(other.excludes.contains(&option.name));
             }
         }
         assert!(all_options(&ALL).all(|option| option.name.starts_with("--")));

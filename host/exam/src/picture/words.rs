@@ -1,0 +1,64 @@
+//! What is to be seen, in words.
+
+use super::timetable::{Stop, Timetable};
+use crate::output::named;
+use engine::plan::Names;
+use engine::Arrival;
+
+/// `1 minute`, or `2 minutes`.
+pub fn minutes(count: impl Into<u64>) -> String {
+    match count.into() {
+        1 => "1 minute".to_string(),
+        count => format!("{count} minutes"),
+    }
+}
+
+/// The minutes of a picture.
+pub fn span(timetable: &Timetable) -> String {
+    let (first, length) = (timetable.window.first, timetable.window.length);
+    let span = format!("{} from minute {first}", minutes(length));
+    match length == timetable.cycle {
+        true => format!("one common cycle, {span}"),
+        false => span,
+    }
+}
+
+/// What makes a stop's gap, where that is known.
+pub fn makes(stop: &Stop, names: &Names) -> Option<String> {
+    match (stop.lone_line(), stop.pair) {
+        (Some(line), _) => {
+            let line = named::line(names, line);
+            Some(format!("one call alone, the gap is the period of {line}"))
+        }
+        (None, Some(pair)) => {
+            let [one, other] = pair.map(|arrival| arrives(arrival, names));
+            Some(format!("from {one} to {other}"))
+        }
+        (None, None) => None,
+    }
+}
+
+fn arrives(arrival: Arrival, names: &Names) -> String {
+    let line = named::line(names, arrival.line);
+    format!("{line} at minute {}", arrival.time)
+}
+
+/// A stop's gap and what makes it, a sentence.
+pub fn of_stop(stop: &Stop, names: &Names) -> String {
+    let (named, gap) = (named::stop(names, stop.number), minutes(stop.gap));
+    let least = if stop.is_least { ", the least" } else { "" };
+    let makes = makes(stop, names).map_or(String::new(), |makes| format!(", {makes}"));
+    format!("At {named} the gap is {gap}{least}{makes}.")
+}
+
+/// Which of these stops always rate alike, a sentence for each class of several.
+pub fn alike(stops: &[Stop], names: &Names) -> String {
+    let classes = stops.chunk_by(|one, other| one.class == other.class);
+    let several = classes.filter(|class| class.len() > 1);
+    let sentence = |class: &[Stop]| {
+        let named = |stop: &Stop| named::with(stop.number, names.stop(stop.number));
+        let stops: Vec<String> = class.iter().map(named).collect();
+        format!(" The stops {} always rate alike.", stops.join(", "))
+    };
+    several.map(sentence).collect()
+}
