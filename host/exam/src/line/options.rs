@@ -100,7 +100,7 @@ pub const LENGTH: CommandOption = CommandOption {
         words: "a number of minutes",
         check: |word| length_of(word).map(|_| ()),
     }),
-    help: "list N minutes, 0 to 10080 (otherwise one common cycle)",
+    help: "take N minutes, 0 to 10080 (otherwise one common cycle)",
     excludes: &["--circle"],
     missing: None,
 };

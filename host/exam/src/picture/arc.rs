@@ -86,6 +86,18 @@ impl Circle {
         minutes
     }
 
+    /// A text outside the numbers of this minute: beside the circle it leads away from it.
+    pub fn outside(&self, minute: f64, size: f64) -> Text {
+        let side = self.turn(minute).sin();
+        let (anchor, away) = match side {
+            0.35.. => (Anchor::Start, 34.0),
+            ..-0.35 => (Anchor::End, 34.0),
+            _ => (Anchor::Middle, 46.0),
+        };
+        let (x, y) = self.place(minute, RADIUS + away);
+        Text::at(x, y + size / 3.0, size).anchored(anchor)
+    }
+
     /// From minute to minute along the circle, less than once around or once.
     pub fn arc(&self, from: i64, to: i64) -> String {
         let (begin, end) = (from as f64, to as f64);

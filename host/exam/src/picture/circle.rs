@@ -4,7 +4,7 @@ use super::arc::{Circle, RADIUS};
 use super::legend::Legend;
 use super::marks::{self, colour, reference};
 use super::svg::{place, Picture, GREY, INK};
-use super::text::{Anchor, Text};
+use super::text::Text;
 use super::timetable::{Call, Stop, Timetable};
 use super::words;
 use crate::output::lines::joined;
@@ -13,14 +13,16 @@ use crate::output::xml::escaped;
 use engine::Refusal;
 use std::collections::BTreeMap;
 
-const WIDTH: f64 = 640.0;
+const WIDTH: f64 = 700.0;
 const MARGIN: f64 = 16.0;
 /// The middle of the circle.
-const MIDDLE: (f64, f64) = (320.0, 358.0);
+const MIDDLE: (f64, f64) = (350.0, 358.0);
 /// Where the legend begins.
 const BELOW: f64 = 634.0;
+/// Marks are larger than in strips.
+const LARGER: f64 = 1.35;
 /// Marks at one minute stand behind each other towards the middle, so far apart.
-const STEP: f64 = 12.0;
+const STEP: f64 = 15.0;
 /// They take no more room than this.
 const DEEPEST: f64 = 180.0;
 /// Of more arrivals the words don't list each.
@@ -60,7 +62,7 @@ pub fn element(timetable: &Timetable, id: &str, number: u8) -> Result<String, Re
         height: BELOW + legend.height(lines.len()) + MARGIN,
         words: described(timetable, stop.as_ref(), number),
         title,
-        definitions: marks::definitions(id, lines.iter().copied(), marks::scale(closest)),
+        definitions: marks::definitions(id, lines.iter().copied(), LARGER * marks::scale(closest)),
         body,
     };
     Ok(picture.element())
@@ -68,11 +70,11 @@ pub fn element(timetable: &Timetable, id: &str, number: u8) -> Result<String, Re
 
 /// The stop and its gap.
 fn title(timetable: &Timetable, stop: Option<&Stop>, number: u8) -> String {
-    let named = named::stop(timetable.names, number);
-    match stop {
-        Some(stop) => format!("{named}: gap {}", stop.gap),
-        None => named,
-    }
+    let gap = stop.map_or(String::new(), |stop| format!(" gap {}", stop.gap));
+    let name = timetable.names.stop(number);
+    // A name comes last, where it may be cut.
+    let name = name.map_or(String::new(), |name| format!(" · {name}"));
+    format!("stop {number}{gap}{name}")
 }
 
 /// What is to be seen, for those who don't see it.
@@ -105,7 +107,10 @@ fn head(timetable: &Timetable, stop: Option<&Stop>, title: &str) -> String {
     let small = |y: f64| Text::at(MARGIN, y, 12.0);
     large.cut(title, room)
         + &small(56.0).cut(&makes.unwrap_or_default(), room)
-        + &small(72.0).element(&words::span(timetable))
+        + &small(72.0).element(&format!(
+            "{}; a call's arrivals are the corners of a regular polygon",
+            words::span(timetable)
+        ))
 }
 
 /// A polygon for each call: two corners are a line through the middle, and one is a line
@@ -128,7 +133,7 @@ fn polygons(circle: &Circle, calls: &[Call]) -> String {
         format!(
             "<g class=\"polygon\" data-line=\"{line}\" fill=\"none\" stroke-linejoin=\"round\">\
              <path d=\"{path}\" stroke=\"{GREY}\" stroke-width=\"3\"{dashes}/>\
-             <path d=\"{path}\" stroke=\"{colour}\" stroke-width=\"1.8\"{dashes}/></g>\n"
+             <path d=\"{path}\" stroke=\"{colour}\" stroke-width=\"2.2\"{dashes}/></g>\n"
         )
     };
     calls.iter().map(polygon).collect()
@@ -136,9 +141,9 @@ fn polygons(circle: &Circle, calls: &[Call]) -> String {
 
 /// The marks of all arrivals.
 fn corners(circle: &Circle, timetable: &Timetable, calls: &[Call], id: &str) -> String {
+    let step = STEP.min(DEEPEST / most_at_once(calls).max(1) as f64);
     // How many stand at a minute already.
     let mut taken: BTreeMap<i64, usize> = BTreeMap::new();
-    let step = STEP.min(DEEPEST / calls.len().max(1) as f64);
     let mut corners = String::new();
     for call in calls {
         let (line, mark) = (call.line, reference(id, call.line));
@@ -159,6 +164,15 @@ fn corners(circle: &Circle, timetable: &Timetable, calls: &[Call], id: &str) -> 
     corners
 }
 
+/// The most arrivals that there are at one minute.
+fn most_at_once(calls: &[Call]) -> usize {
+    let mut counts: BTreeMap<i64, usize> = BTreeMap::new();
+    for time in calls.iter().flat_map(|call| &call.times) {
+        *counts.entry(*time).or_default() += 1;
+    }
+    counts.into_values().max().unwrap_or(0)
+}
+
 /// The shortest arc between corners of two calls, or of one call alone its period.
 fn gap(circle: &Circle, stop: &Stop) -> String {
     let Some([one, other]) = stop.pair else {
@@ -170,8 +184,7 @@ fn gap(circle: &Circle, stop: &Stop) -> String {
         0 => circle.ring(from),
         _ => circle.arc(from, to),
     };
-    let (x, y) = circle.place((from + to) as f64 / 2.0, RADIUS + 45.0);
-    let label = Text::at(x, y + 6.0, 16.0).anchored(Anchor::Middle);
+    let label = circle.outside((from + to) as f64 / 2.0, 16.0);
     let label = label.with(" font-weight=\"bold\"");
     format!(
         "<g class=\"gap\" data-from=\"{from}\" data-to=\"{to}\" data-gap=\"{gap}\" \

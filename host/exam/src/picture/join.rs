@@ -15,6 +15,8 @@ pub struct Join {
     label: (f64, f64),
     /// Where the strip's rows begin and end.
     rows: (f64, f64),
+    /// Whether the two are of one call, which stands alone: then they aren't near each other.
+    lone: bool,
     /// The ends of the strip, where the later arrival is behind the last minute: it comes
     /// again a cycle before.
     around: Option<(f64, f64)>,
@@ -50,6 +52,7 @@ impl Join {
             to: (to, layout.row(strip, other_row)),
             label: (middle.clamp(ends.0 + 16.0, ends.1 - 16.0), strip + 12.0),
             rows: layout.rows(strip, stop),
+            lone: stop.lone_line().is_some(),
             around: around.then_some(ends),
         })
     }
@@ -83,9 +86,10 @@ impl Join {
     fn part(&self, from: (f64, f64), to: (f64, f64)) -> String {
         let [x, y, to_x, to_y] = [from.0, from.1, to.0, to.1].map(place);
         let [top, bottom] = [self.rows.0, self.rows.1].map(place);
+        let shade = if self.lone { "0" } else { "0.14" };
         format!(
-            "<path d=\"M{x} {top}H{to_x}V{bottom}H{x}Z\" fill-opacity=\"0.14\" stroke=\"{INK}\" \
-             stroke-width=\"0.7\"/>\
+            "<path d=\"M{x} {top}H{to_x}V{bottom}H{x}Z\" fill-opacity=\"{shade}\"/>\
+             <path d=\"M{x} {top}V{bottom}M{to_x} {top}V{bottom}\" stroke=\"{INK}\"/>\
              <path d=\"M{x} {y}L{to_x} {to_y}\" stroke=\"{INK}\" stroke-width=\"2\"/>\n"
         )
     }

@@ -12,7 +12,7 @@ pub const NAMES: f64 = 170.0;
 /// The column of line numbers beside the rows.
 const LINES: f64 = 42.0;
 /// The column on the right, with the gaps.
-const GAPS: f64 = 92.0;
+const GAPS: f64 = 98.0;
 /// Over the rows of a strip the minutes of its gap are written.
 const ABOVE: f64 = 15.0;
 const BELOW: f64 = 4.0;

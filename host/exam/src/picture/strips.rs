@@ -8,7 +8,7 @@ use super::marks::{self, reference};
 use super::svg::{place, Picture, FAINT, GREY, INK};
 use super::text::{Anchor, Text};
 use super::timetable::{Call, Stop, Timetable};
-use super::words;
+use super::words::{self, counted};
 use crate::output::lines;
 use crate::output::named;
 use crate::output::xml::escaped;
@@ -51,9 +51,9 @@ pub fn element(timetable: &Timetable, id: &str) -> Result<String, Refusal> {
 
 /// What is to be seen on the whole.
 fn described(timetable: &Timetable, stops: &[Stop]) -> String {
-    let arrivals: usize = stops.iter().map(Stop::arrivals).sum();
-    let (count, span) = (stops.len(), words::span(timetable));
-    format!("Arrivals {arrivals}, stops {count}, {span}")
+    let arrivals = stops.iter().map(Stop::arrivals).sum();
+    let (arrivals, stops) = (counted(arrivals, "arrival"), counted(stops.len(), "stop"));
+    format!("{arrivals} at {stops}, {}", words::span(timetable))
 }
 
 /// The title, the legend and what the band and the frame mean; and where that ends.
@@ -72,7 +72,7 @@ fn head(timetable: &Timetable, stops: &[Stop], id: &str) -> (String, f64) {
         + &below.element(&described(timetable, stops))
         + &legend.of_lines(timetable, id, &lines)
         + &meanings(meaning);
-    (head, meaning + ROW + 36.0)
+    (head, meaning + ROW + 44.0)
 }
 
 /// What the band and the frame mean.
@@ -130,6 +130,7 @@ impl Strips<'_> {
             strip += &frame(y, self.layout.height(stop));
         }
         strip += &self.labels(stop, y);
+        strip += &self.rows(stop, y);
         if let Some(join) = Join::of(self.timetable, stop, &self.layout, y) {
             strip += &join.element(stop);
         }
@@ -158,17 +159,25 @@ impl Strips<'_> {
         labels
     }
 
-    /// The row of a call.
+    /// A line for each call, on which its marks stand.
+    fn rows(&self, stop: &Stop, y: f64) -> String {
+        let layout = &self.layout;
+        let [left, right] = [layout.left, layout.right].map(place);
+        let row = |row: usize| format!("M{left} {}H{right}", place(layout.row(y, row)));
+        let rows: String = (0..stop.calls.len()).map(row).collect();
+        format!("<path d=\"{rows}\" stroke=\"{FAINT}\"/>\n")
+    }
+
+    /// The line's number and the marks of a call.
     fn call(&self, call: &Call, y: f64) -> String {
         let layout = &self.layout;
         let line = call.line;
         let words = escaped(&named::line(self.timetable.names, line));
-        let [left, right, y] = [layout.left, layout.right, y].map(place);
+        let y = place(y);
         let number = Text::at(layout.left - 12.0, 3.6, 10.0).anchored(Anchor::End);
         let mut row = format!(
             "<g class=\"call\" data-line=\"{line}\" transform=\"translate(0 {y})\">\
-             <title>{words}</title>\n\
-             <path d=\"M{left} 0H{right}\" stroke=\"{FAINT}\"/>\n{}",
+             <title>{words}</title>\n{}",
             number.element(&line.to_string())
         );
         let mark = reference(self.id, line);
@@ -206,14 +215,16 @@ impl Strips<'_> {
     /// What stands in the columns.
     fn headings(&self, y: f64) -> String {
         let grey = " fill=\"#555\" font-style=\"italic\"";
-        let heading = |x: f64, anchor: Anchor, word: &str| {
-            let text = Text::at(x, y, 11.0).anchored(anchor).with(grey);
+        let over = Text::at(self.layout.left, y - 14.0, 11.0).with(grey);
+        let heading = |x: f64, word: &str| {
+            let text = Text::at(x, y, 11.0).anchored(Anchor::End).with(grey);
             text.element(word)
         };
         let layout = &self.layout;
-        heading(layout.names - 6.0, Anchor::End, "stop")
-            + &heading(layout.left - 12.0, Anchor::End, "line")
-            + &heading(layout.right + 48.0, Anchor::End, "gap")
+        over.anchored(Anchor::Middle).element("minute")
+            + &heading(layout.names - 6.0, "stop")
+            + &heading(layout.left - 12.0, "line")
+            + &heading(layout.right + 48.0, "gap")
     }
 }
 

@@ -5,18 +5,16 @@ use crate::output::named;
 use engine::plan::Names;
 use engine::Arrival;
 
-/// `1 minute`, or `2 minutes`.
-pub fn minutes(count: impl Into<u64>) -> String {
-    match count.into() {
-        1 => "1 minute".to_string(),
-        count => format!("{count} minutes"),
-    }
+/// `1 arrival`, or `2 arrivals`.
+pub fn counted(count: usize, thing: &str) -> String {
+    let plural = if count == 1 { "" } else { "s" };
+    format!("{count} {thing}{plural}")
 }
 
 /// The minutes of a picture.
 pub fn span(timetable: &Timetable) -> String {
     let (first, length) = (timetable.window.first, timetable.window.length);
-    let span = format!("{} from minute {first}", minutes(length));
+    let span = format!("{} from minute {first}", counted(length as usize, "minute"));
     match length == timetable.cycle {
         true => format!("one common cycle, {span}"),
         false => span,
@@ -45,7 +43,10 @@ fn arrives(arrival: Arrival, names: &Names) -> String {
 
 /// A stop's gap and what makes it, a sentence.
 pub fn of_stop(stop: &Stop, names: &Names) -> String {
-    let (named, gap) = (named::stop(names, stop.number), minutes(stop.gap));
+    let (named, gap) = (
+        named::stop(names, stop.number),
+        counted(stop.gap.into(), "minute"),
+    );
     let least = if stop.is_least { ", the least" } else { "" };
     let makes = makes(stop, names).map_or(String::new(), |makes| format!(", {makes}"));
     format!("At {named} the gap is {gap}{least}{makes}.")

@@ -40,7 +40,7 @@ two arrivals that make a stop's gap are joined and the minutes written; the stop
 with the least gap are framed, and stops that always rate alike stand together. The
 rating is the title. What is printed is the file, the rating and how many arrivals
 are drawn.
-  town.svg: gap 3 sum 201 arrivals 118
+  town.svg: gap 3 sum 201 arrivals 48
 
 The picture begins at the minute of --from and ends before that minute plus --length.
 Without --length it has one common cycle of the network, after which all comes again.
@@ -49,7 +49,7 @@ With --circle STOP it has that stop's arrivals alone, on a circle of one common 
 with minute 0 on top: the corners of a regular polygon for each call, and the gap as
 an arc from corner to corner. STOP is a number, 0 to 63, or the name that a plan gives
 the stop.
-  market.svg: stop 1 gap 3 arrivals 8
+  market.svg: stop 1 gap 3 arrivals 5
 
 FILE.svg is written over if it is there; its name has to end in .svg, so that no slip
 overwrites a sheet. A file named - is standard output, and then nothing else is

@@ -347,8 +347,8 @@ fn help_for_each_verb() {
         exam(words).printed(&overview.out, 0);
     }
     let verbs = [
-        "read", "show", "rate", "board", "classes", "best", "wanted", "better", "mark", "archive",
-        "same", "plan", "type",
+        "read", "show", "rate", "board", "draw", "classes", "best", "wanted", "better", "mark",
+        "archive", "same", "plan", "type",
     ];
     for verb in verbs {
         assert!(overview.out.contains(&format!("  exam {verb} NETWORK")));
@@ -359,8 +359,10 @@ fn help_for_each_verb() {
         let searches = ["best", "wanted", "mark"].contains(&verb);
         assert_eq!(help.out.contains("--budget N"), searches);
         for option in ["  --from M ", "  --length N "] {
-            assert_eq!(help.out.contains(option), verb == "board");
+            let has_minutes = ["board", "draw"].contains(&verb);
+            assert_eq!(help.out.contains(option), has_minutes);
         }
+        assert_eq!(help.out.contains("  --circle STOP "), verb == "draw");
         let writes_bytes = ["archive", "type"].contains(&verb);
         assert_eq!(help.out.contains("  --raw "), writes_bytes);
         for form in ["--plan", "--typed", "--bytes"] {
@@ -381,6 +383,7 @@ fn help_in_columns() {
   exam show NETWORK                      what was read, in decimal, for proofreading
   exam rate NETWORK SHEET-OR-FOLDER..    a sheet's rating: least gap, sum of gaps
   exam board NETWORK SHEET STOP          every arrival at a stop under a sheet
+  exam draw NETWORK SHEET FILE.svg       a picture of a timetable
   exam classes NETWORK                   which stops always rate alike
   exam best NETWORK                      the best timetable
   exam wanted NETWORK GAP                a timetable with at least this gap, or none
@@ -427,8 +430,14 @@ Exit status: ";
     let options = "
   --sheet-bytes     a sheet is bytes, whatever its name
   --from M          begin at minute M, which may be negative (otherwise 0)
-  --length N        list N minutes, 0 to 10080 (otherwise one common cycle)
+  --length N        take N minutes, 0 to 10080 (otherwise one common cycle)
 
 Exit status: ";
     assert!(exam(&["board", "--help"]).out.contains(options));
+    let options = "
+  --length N        take N minutes, 0 to 10080 (otherwise one common cycle)
+  --circle STOP     draw the arrivals at this stop on a circle
+
+Exit status: ";
+    assert!(exam(&["draw", "--help"]).out.contains(options));
 }

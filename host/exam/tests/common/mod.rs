@@ -2,6 +2,8 @@
 
 #![allow(dead_code)]
 
+pub mod xml;
+
 use papers::child::Limited;
 use std::path::{Path, PathBuf};
 use std::process::{Child, Command, Stdio};
