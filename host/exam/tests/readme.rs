@@ -87,8 +87,8 @@ fn the_sessions_are_real() {
     let sessions = sessions(&readme());
     assert!(sessions.len() >= 14, "{} commands", sessions.len());
     let verbs = [
-        "read", "show", "rate", "board", "classes", "best", "wanted", "better", "mark", "archive",
-        "same", "plan", "type",
+        "read", "show", "rate", "board", "draw", "classes", "best", "wanted", "better", "mark",
+        "archive", "same", "plan", "type",
     ];
     for verb in verbs {
         let word = format!("exam {verb} ");
@@ -98,6 +98,44 @@ fn the_sessions_are_real() {
         let printed = on_screen(&folder, &shown.command);
         assert_eq!(printed, shown.printed, "{}", shown.command);
     }
+    pictures_are_what_is_drawn(&folder);
+}
+
+/// Each picture is, to the byte, the file that the command above it has just written; and
+/// the README shows all that there are.
+fn pictures_are_what_is_drawn(folder: &Folder) {
+    let pictures = format!("{ROOT}/docs/pictures");
+    let mut shown = Vec::new();
+    let mut drawn = None;
+    for line in readme().lines() {
+        if line.starts_with("    $ exam draw ") {
+            let mut words = line.split(' ');
+            drawn = words
+                .find(|word| word.ends_with(".svg"))
+                .map(str::to_string);
+        }
+        let name = line
+            .strip_prefix("![")
+            .and_then(|line| line.split_once("](docs/pictures/"));
+        if let Some((_, name)) = name {
+            let name = name.trim_end_matches(')');
+            let drawn = drawn.take().expect("a command above the picture");
+            let read = |path: &std::path::Path| std::fs::read(path).expect("a picture");
+            let picture = read(&std::path::Path::new(&pictures).join(name));
+            assert!(
+                picture == read(&folder.path().join(&drawn)),
+                "{name} isn't {drawn}"
+            );
+            shown.push(name.to_string());
+        }
+    }
+    let there = std::fs::read_dir(&pictures).expect("a folder");
+    let names = there.map(|entry| entry.expect("a file").file_name().into_string());
+    let mut names: Vec<String> = names.map(|name| name.expect("a plain name")).collect();
+    names.sort();
+    shown.sort();
+    assert_eq!(shown, names);
+    assert_eq!(names, ["market_circle.svg", "town_key.svg"]);
 }
 
 /// The table of samples: network, lines, stops, best, tries.

@@ -20,9 +20,9 @@ pub struct Circle {
 impl Circle {
     /// The place of a minute, so far from the middle.
     pub fn place(&self, minute: f64, radius: f64) -> (f64, f64) {
-        let angle = self.turn(minute);
+        let (sine, cosine) = sine_and_cosine(self.turn(minute));
         let (x, y) = self.middle;
-        (x + radius * angle.sin(), y - radius * angle.cos())
+        (x + radius * sine, y - radius * cosine)
     }
 
     /// The same for a path.
@@ -88,7 +88,7 @@ impl Circle {
 
     /// A text outside the numbers of this minute: beside the circle it leads away from it.
     pub fn outside(&self, minute: f64, size: f64) -> Text {
-        let side = self.turn(minute).sin();
+        let (side, _) = sine_and_cosine(self.turn(minute));
         let (anchor, away) = match side {
             0.35.. => (Anchor::Start, 34.0),
             ..-0.35 => (Anchor::End, 34.0),
@@ -116,5 +116,71 @@ impl Circle {
         let (x, y) = self.place(minute as f64, RADIUS);
         let [x, y] = [x, y].map(place);
         format!("<circle cx=\"{x}\" cy=\"{y}\" r=\"10\" stroke-width=\"3\"/>")
+    }
+}
+
+/// By their series. The standard library asks a library of the system, which may round in
+/// another way on another machine, and a picture is the same on all.
+fn sine_and_cosine(angle: f64) -> (f64, f64) {
+    let mut angle = angle;
+    while angle > TAU / 2.0 {
+        angle -= TAU;
+    }
+    let (mut sine, mut cosine, mut term) = (0.0, 1.0, 1.0);
+    for power in 1..30 {
+        term *= angle / f64::from(power);
+        match power % 4 {
+            0 => cosine += term,
+            1 => sine += term,
+            2 => cosine -= term,
+            _ => sine -= term,
+        }
+    }
+    (sine, cosine)
+}
+
+#[cfg(test)]
+mod tests {
+    use super::{sine_and_cosine, Circle, RADIUS};
+    use std::f64::consts::TAU;
+
+    #[test]
+    fn sines_and_cosines() {
+        for step in 0..=2_000 {
+            let angle = f64::from(step) / 1_000.0 * TAU;
+            let (sine, cosine) = sine_and_cosine(angle);
+            assert!((sine - angle.sin()).abs() < 1e-9, "{angle}");
+            assert!((cosine - angle.cos()).abs() < 1e-9, "{angle}");
+        }
+    }
+
+    #[test]
+    fn minutes_go_round_as_on_a_clock() {
+        let circle = Circle {
+            middle: (300.0, 300.0),
+            cycle: 60,
+        };
+        let at = |minute: f64| circle.at(minute, 100.0);
+        let places = [0.0, 15.0, 30.0, 45.0, 60.0].map(at);
+        assert_eq!(
+            places,
+            ["300 200", "400 300", "300 400", "200 300", "300 200"]
+        );
+        assert_eq!(circle.distance(60.0), TAU * RADIUS);
+    }
+
+    /// No number runs into that of minute 0.
+    #[test]
+    fn numbers_of_odd_cycles() {
+        let numbers = |cycle: u32| {
+            let middle = (0.0, 0.0);
+            Circle { middle, cycle }.numbers()
+        };
+        assert_eq!(numbers(1), [0]);
+        assert_eq!(numbers(7), [0, 1, 2, 3, 4, 5, 6]);
+        assert_eq!(numbers(60), [0, 5, 10, 15, 20, 25, 30, 35, 40, 45, 50, 55]);
+        assert_eq!(numbers(91), [0, 10, 20, 30, 40, 50, 60, 70, 80]);
+        let week = numbers(10_080);
+        assert_eq!((week.len(), week[1], week[13]), (14, 720, 9_360));
     }
 }

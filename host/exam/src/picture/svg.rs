@@ -41,14 +41,8 @@ impl Picture<'_> {
 
 /// A place on the paper, to a hundredth.
 pub fn place(number: f64) -> String {
-    let hundredths = (number * 100.0).round();
-    // What is left of a number just below 0 has a sign.
-    let number = if hundredths == 0.0 {
-        0.0
-    } else {
-        hundredths / 100.0
-    };
-    number.to_string()
+    let hundredths = (number * 100.0 + 0.5_f64.copysign(number)) as i64;
+    (hundredths as f64 / 100.0).to_string()
 }
 
 #[cfg(test)]
