@@ -1,5 +1,6 @@
 //! What a verb says: answers, messages and signs of life.
 
+pub mod arrivals;
 pub mod columns;
 pub mod csv;
 pub mod escape;

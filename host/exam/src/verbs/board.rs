@@ -7,7 +7,8 @@ use crate::line::options::{
 };
 use crate::line::table::{Request, Sheets, Verb};
 use crate::line::words::check_stop;
-use crate::output::columns::{ended, width};
+use crate::output::arrivals::rows;
+use crate::output::columns::ended;
 use crate::output::fault::{refused, refused_board, BoardAsked};
 use crate::output::named;
 use crate::output::streams::{put, say};
@@ -54,9 +55,6 @@ A length above 10080: refused 22 at 0
     run,
 };
 
-/// The minutes of a day.
-const DAY: i64 = 1_440;
-
 /// What a board was asked for.
 struct Asked {
     stop: u32,
@@ -94,7 +92,8 @@ fn run(request: &Request) -> Result<Status, Trouble> {
 }
 
 fn print(asked: &Asked, arrivals: &[Arrival], network: &Network) -> Result<Status, Trouble> {
-    put(asked.head(arrivals.len(), &network.names) + &rows(arrivals, &network.names))?;
+    let head = asked.head(arrivals.len(), &network.names);
+    put(head + &rows(arrivals, &network.names).concat())?;
     if arrivals.is_empty() && asked.is_unserved(network) {
         let stop = named::any_stop(&network.names, asked.stop);
         say(&format!("exam: no line calls at {stop}"));
@@ -123,22 +122,4 @@ impl Asked {
     fn number(&self) -> Option<u8> {
         u8::try_from(self.stop).ok()
     }
-}
-
-/// A text line for each arrival.
-fn rows(arrivals: &[Arrival], names: &Names) -> String {
-    let of_day = |time: i64| (time.div_euclid(DAY), time.rem_euclid(DAY));
-    let times = || arrivals.iter().map(|arrival| arrival.time);
-    let time_width = width(times());
-    let day_width = width(times().map(|time| of_day(time).0));
-    let line_width = width(arrivals.iter().map(|arrival| arrival.line));
-    let row = |&Arrival { time, line }: &Arrival| {
-        let (day, minute) = of_day(time);
-        let clock = format!("{:02}:{:02}", minute / 60, minute % 60);
-        let row = format!(
-            "time {time:time_width$}  day {day:day_width$}  {clock}  line {line:line_width$}"
-        );
-        ended(row, names.line(line))
-    };
-    arrivals.iter().map(row).collect()
 }
