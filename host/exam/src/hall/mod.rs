@@ -13,9 +13,12 @@
 //! | `bound.rs`    | the budget that always suffices                        |
 //! | `checksum.rs` | the checksum of a network                              |
 //! | `witness.rs`  | the two arrivals that make a stop's gap                |
+//! | `explaining.rs` | a sheet stop by stop, beside a key                   |
+//! | `verdict.rs`  | what decides between a sheet and a key, in words       |
 
 pub mod bound;
 pub mod checksum;
+pub mod explaining;
 pub mod judging;
 pub mod outcome;
 pub mod ranking;
@@ -24,4 +27,5 @@ pub mod report;
 pub mod search;
 pub mod sheets;
 pub mod stages;
+pub mod verdict;
 pub mod witness;

@@ -109,7 +109,7 @@ impl Report<'_> {
 }
 
 /// What there is to say where sheets are undecided.
-fn used_up(network: &Network) -> String {
+pub fn used_up(network: &Network) -> String {
     let words = "the budget was used up before the best timetable was known (--budget N)";
     format!("exam: {words}\n{}", bound::advice(network.bytes()))
 }

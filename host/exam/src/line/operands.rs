@@ -1,12 +1,13 @@
-//! The networks and sheets of a request, loaded, and its last operand: a gap, a stop or a file
-//! to be written.
+//! The networks and sheets of a request, loaded, its key, and its last operand: a gap, a stop
+//! or a file to be written.
 
 use super::near::meant;
-use super::options::{self, CIRCLE};
+use super::options::{self, CIRCLE, KEY};
 use super::table::Request;
 use super::words::{in_digits, stop_of, Stop};
 use crate::input::network::{self, Network};
 use crate::input::sheet;
+use crate::input::source::Source;
 use crate::output::target::Target;
 use crate::status::Trouble;
 use engine::text::shown;
@@ -25,6 +26,21 @@ pub fn sheets<const COUNT: usize>(request: &Request) -> Result<[Sheet; COUNT], T
     let form = options::sheet_form(request);
     let load = |source| sheet::load(source, form);
     counted(request.sheets.iter().map(load))
+}
+
+/// The sheet of `--key` with its name for messages, in the form that sheets have.
+pub fn key(request: &Request) -> Result<Option<(String, Sheet)>, Trouble> {
+    let Some(word) = request.value(&KEY) else {
+        return Ok(None);
+    };
+    let source = Source::of(word.to_os_string());
+    let mut operands = request.networks.iter().chain(&request.sheets);
+    if source == Source::Input && operands.any(|operand| *operand == source) {
+        let message = "standard input ('-') can be read for one file only";
+        return Err(Trouble(format!("{message}, and not for the key too")));
+    }
+    let sheet = sheet::load(&source, options::sheet_form(request))?;
+    Ok(Some((source.name(), sheet)))
 }
 
 /// A wanted gap: every number of 16 bits.

@@ -61,6 +61,19 @@ pub const SHEET: CommandOption = CommandOption::flag(
     "print the best timetable as a sheet, to be kept as the key",
 );
 
+/// `exam explain`; the sheet in place of the best.
+pub const KEY: CommandOption = CommandOption {
+    name: "--key",
+    value: Some(Value {
+        placeholder: "SHEET",
+        words: "a sheet",
+        check: |_| Ok(()),
+    }),
+    help: "take this sheet for the key, and search nothing",
+    excludes: &[],
+    missing: None,
+};
+
 /// `exam mark`; of several sheets.
 pub const RANKED: CommandOption = CommandOption::flag(
     "--ranked",

@@ -25,6 +25,14 @@ pub fn mark_line(mark: Mark) -> String {
     }
 }
 
+/// A sheet beside a key that was given. Its words are others than those of a mark: that is
+/// beside the best alone.
+pub fn by_key_line((sheet, key): (Rating, Rating), word: &str, hundred: Hundred) -> String {
+    let (sheet, key) = (shown(sheet), shown(key));
+    let Hundred { mark, remainder } = hundred;
+    format!("{sheet} key {key} {word} by this key {mark} remainder {remainder}")
+}
+
 /// Document 01's line.
 pub fn search_line(searched: &Searched) -> String {
     match searched {

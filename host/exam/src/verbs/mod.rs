@@ -6,6 +6,7 @@ mod better;
 mod board;
 mod classes;
 mod draw;
+mod explain;
 mod mark;
 mod plan;
 mod rate;
@@ -18,7 +19,7 @@ mod wanted;
 use crate::line::table::Verb;
 
 /// All verbs, in the order of help.
-pub const ALL: [&Verb; 14] = [
+pub const ALL: [&Verb; 15] = [
     &read::VERB,
     &show::VERB,
     &rate::VERB,
@@ -29,6 +30,7 @@ pub const ALL: [&Verb; 14] = [
     &wanted::VERB,
     &better::VERB,
     &mark::VERB,
+    &explain::VERB,
     &archive::VERB,
     &same::VERB,
     &plan::VERB,
