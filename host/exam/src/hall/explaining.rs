@@ -174,3 +174,160 @@ fn stops(
     stops.sort_by_key(|stop| (stop.change(), stop.gap, stop.number));
     Ok(stops)
 }
+
+#[cfg(test)]
+mod tests {
+    use super::{explained, Change, Explained, Key, Standing};
+    use engine::{Searched, Sheet};
+    use papers::files::{sheet, Dice};
+    use papers::small::small_file_for_gaps;
+    use std::cmp::Ordering;
+    use std::collections::BTreeMap;
+
+    /// A key of each kind: the best, any sheet that fits, or none.
+    fn any_key(dice: &mut Dice, file: &[u8], lines: usize) -> Key {
+        let searched = engine::search(file, 20_000).expect("an accepted file");
+        match dice.below(4) {
+            0 => Key::Unknown,
+            1 => Key::Given(Sheet::of_starts(&sheet(dice, lines))),
+            _ => Key::of_search(&searched),
+        }
+    }
+
+    /// The stops have the gaps of the engine, which make its rating, and two arrivals each
+    /// that are so far apart.
+    fn stops_are_the_engines(file: &[u8], sheet: &Sheet, explained: &Explained) {
+        let gaps = engine::gaps(file, sheet).expect("a sheet that fits");
+        let rating = engine::rate(file, sheet).expect("a sheet that fits");
+        let contents = engine::contents(file).expect("an accepted file");
+        assert_eq!(explained.rating, rating);
+        let mut numbers: Vec<u8> = explained.stops.iter().map(|stop| stop.number).collect();
+        numbers.sort();
+        let served: Vec<u8> = (0..64).filter(|stop| gaps.at(*stop).is_some()).collect();
+        assert_eq!(numbers, served);
+        let all = || explained.stops.iter().map(|stop| u32::from(stop.gap));
+        assert_eq!((all().min(), all().sum()), (Some(rating.least), rating.sum));
+        for stop in &explained.stops {
+            assert_eq!(gaps.at(stop.number), Some(stop.gap));
+            assert_eq!(stop.is_least, u32::from(stop.gap) == rating.least);
+            let [one, other] = stop.pair.expect("a pair");
+            assert_eq!(other.time - one.time, i64::from(stop.gap));
+            let calls = contents.at_stop(stop.number);
+            assert_eq!(stop.lone_line.is_some(), calls.len() == 1);
+            if let Some(line) = stop.lone_line {
+                assert_eq!((one.line, other.line, line), (line, line, calls[0].line));
+                assert_eq!(contents.periods[usize::from(line)], stop.gap);
+            }
+        }
+    }
+
+    /// The sheet loses exactly where its gap is smaller than the key's, and stands to the
+    /// key as their ratings do.
+    fn changes_are_by_the_key(file: &[u8], key: &Sheet, explained: &Explained, is_best: bool) {
+        let gaps = engine::gaps(file, key).expect("a key that fits");
+        let beside = explained.beside.as_ref().expect("a key");
+        assert_eq!((beside.rating, beside.is_best), (gaps.rating, is_best));
+        let standing = match explained.rating.cmp(&gaps.rating) {
+            Ordering::Less => Standing::Below,
+            Ordering::Equal => Standing::Equal,
+            Ordering::Greater => Standing::Above,
+        };
+        assert_eq!(beside.standing, standing);
+        for stop in &explained.stops {
+            let key_gap = gaps.at(stop.number).expect("a served stop");
+            assert_eq!(stop.key_gap, Some(key_gap));
+            let loses = stop.change() == Some(Change::Loses);
+            assert_eq!(loses, stop.gap < key_gap);
+            let gains = stop.change() == Some(Change::Gains);
+            assert_eq!(gains, stop.gap > key_gap);
+        }
+    }
+
+    #[test]
+    fn on_seeded_files() {
+        let mut dice = Dice::new(313);
+        let mut seen: BTreeMap<&str, usize> = BTreeMap::new();
+        for _ in 0..2_000 {
+            let (file, net) = small_file_for_gaps(&mut dice, 2_000);
+            let sheet = Sheet::of_starts(&sheet(&mut dice, net.lines()));
+            let key = any_key(&mut dice, &file, net.lines());
+            let explained = explained(&file, &sheet, &key).expect("sheets that fit");
+            stops_are_the_engines(&file, &sheet, &explained);
+            let word = match &explained.beside {
+                None => "unknown",
+                Some(beside) => beside.standing.word(),
+            };
+            *seen.entry(word).or_default() += 1;
+            match key.sheet() {
+                None => assert!(explained.beside.is_none()),
+                Some(sheet) => {
+                    let is_best = matches!(key, Key::Best(_));
+                    changes_are_by_the_key(&file, sheet, &explained, is_best);
+                    assert!(!is_best || word != "above");
+                }
+            }
+            for stop in &explained.stops {
+                let word = stop.change().map_or("no key", Change::word);
+                *seen.entry(word).or_default() += 1;
+            }
+        }
+        for word in [
+            "unknown", "below", "equal", "above", "loses", "gains", "same",
+        ] {
+            assert!(seen[word] > 50, "{seen:?}");
+        }
+    }
+
+    /// First where it loses, then where it gains; the smallest gap first, then by number.
+    #[test]
+    fn the_order_of_stops() {
+        let mut dice = Dice::new(314);
+        for _ in 0..500 {
+            let (file, net) = small_file_for_gaps(&mut dice, 2_000);
+            let own = Sheet::of_starts(&sheet(&mut dice, net.lines()));
+            let key = any_key(&mut dice, &file, net.lines());
+            let stops = explained(&file, &own, &key).expect("sheets that fit").stops;
+            for pair in stops.windows(2) {
+                let place = |at: usize| {
+                    let group = match pair[at].change() {
+                        None | Some(Change::Loses) => 0,
+                        Some(Change::Gains) => 1,
+                        Some(Change::Same) => 2,
+                    };
+                    (group, pair[at].gap, pair[at].number)
+                };
+                assert!(place(0) < place(1));
+            }
+        }
+    }
+
+    #[test]
+    fn refused() {
+        let network = engine::typed::read(b"4C000F 4C0014 4300000008 4301000011 45");
+        let network = network.expect("typed");
+        let [good, bad] = [&[0, 3][..], &[0]].map(Sheet::of_starts);
+        let refused = |file: &[u8], sheet: &Sheet, key: &Sheet| {
+            let explained = explained(file, sheet, &Key::Given(key.clone()));
+            explained.err().map(|refusal| refusal.to_string())
+        };
+        let misfit = Some("refused 15 at 0".to_string());
+        assert_eq!(refused(network.bytes(), &bad, &good), misfit);
+        assert_eq!(refused(network.bytes(), &good, &bad), misfit);
+        assert_eq!(refused(network.bytes(), &good, &good), None);
+        let cut = Some("refused 1 at 0".to_string());
+        assert_eq!(refused(b"", &good, &good), cut);
+    }
+
+    /// A search that stopped has no key, whatever it found.
+    #[test]
+    fn keys_of_searches() {
+        let network = engine::typed::read(b"4C000F 4C0014 4300000008 4301000011 45");
+        let network = network.expect("typed");
+        let key = |budget| {
+            let searched: Searched = engine::search(network.bytes(), budget).expect("accepted");
+            Key::of_search(&searched)
+        };
+        assert_eq!(key(21), Key::Best(Sheet::of_starts(&[0, 3])));
+        assert_eq!([key(20), key(1)], [Key::Unknown, Key::Unknown]);
+    }
+}

@@ -11,6 +11,7 @@ mod board;
 mod circle;
 mod classes;
 mod draw;
+mod explain;
 mod forms;
 mod long;
 mod mark;

@@ -122,6 +122,8 @@ fn manual_page_as_it_is_set() {
         "exam mark NETWORK SHEET-OR-FOLDER.. [OPTIONS]",
         "exam board NETWORK SHEET STOP [OPTIONS]",
         "exam draw NETWORK SHEET FILE.svg [OPTIONS]",
+        "exam explain NETWORK SHEET [OPTIONS]",
+        "--key SHEET take this sheet for the key, and search nothing",
         "--from M begin at minute M, which may be negative (otherwise 0)",
         "--budget N stop after N tries, 0 to 4294967295 or max (otherwise 1000000)",
         "gap 2 sum 2 tries 21 starts 0 3",

@@ -32,9 +32,10 @@ fn words_for_each_ground_of_the_file() {
         let folder = Folder::new();
         let network = folder.file("faulty.net", &faulty.bytes);
         let sheet = folder.file("any.sheet", "0 1 2");
-        for verb in ["rate", "mark"] {
+        for verb in ["rate", "mark", "explain"] {
             exam(&[verb, &network, &sheet]).told(&line, 1, &pieces);
         }
+        exam(&["explain", &network, &sheet, "--key", &sheet]).told(&line, 1, &pieces);
         // The file comes before the sheet, the stop and the length.
         exam(&["board", &network, &sheet, "0"]).told(&line, 1, &pieces);
         let unfit = ["board", &network, &sheet, "64", "--length", "10081"];
@@ -72,7 +73,7 @@ fn words_for_a_sheet_of_the_wrong_length() {
     ];
     let long = folder.file("long.sheet", "0 3 5");
     let empty = folder.file("empty.sheet", "# nothing\n");
-    for verb in ["rate", "mark"] {
+    for verb in ["rate", "mark", "explain"] {
         exam(&[verb, HEX, &long]).told("refused 15 at 0\n", 1, &pieces);
         exam(&[verb, HEX, &empty]).told("refused 15 at 0\n", 1, &["sheet: 0 starts"]);
     }

@@ -78,6 +78,14 @@ fn bad_operands() {
             "'wanted' wants NETWORK GAP; GAP is missing",
         ),
         (&["wanted", NET, "3", "4"], "'4' is one too many"),
+        (
+            &["explain", NET],
+            "'explain' wants NETWORK SHEET; SHEET is missing",
+        ),
+        (
+            &["explain", NET, "a.sheet", "b.sheet"],
+            "'b.sheet' is one too many",
+        ),
         (&["archive"], "'archive' wants NETWORK"),
         (&["archive", NET, NET], "'archive' wants NETWORK"),
         (&["same", NET], "'same' wants NETWORK NETWORK"),
@@ -124,6 +132,7 @@ fn options_that_a_verb_has_not() {
         ),
         (&["archive", NET, "--budget=1"], "has no budget"),
         (&["wanted", NET, "3", "--sheet"], "no option '--sheet'"),
+        (&["mark", NET, "a.sheet", "--key=b"], "no option '--key'"),
         (&["wanted", NET, "3", "--csv"], "no option '--csv'"),
         (&["rate", NET, "a.sheet", "--from=1"], "no option '--from'"),
         (
@@ -347,7 +356,7 @@ fn help_for_each_verb() {
         exam(words).printed(&overview.out, 0);
     }
     let verbs = [
-        "read", "show", "rate", "board", "draw", "classes", "best", "wanted", "better", "mark",
+        "read", "show", "rate", "board", "draw", "classes", "best", "wanted", "better", "mark", "explain",
         "archive", "same", "plan", "type",
     ];
     for verb in verbs {
@@ -356,13 +365,14 @@ fn help_for_each_verb() {
         assert_eq!((help.status, help.err.as_str()), (0, ""));
         assert!(help.out.starts_with(&format!("exam {verb} NETWORK")));
         assert!(help.out.contains("Exit status: 0 done; 1 refused"));
-        let searches = ["best", "wanted", "mark"].contains(&verb);
+        let searches = ["best", "wanted", "mark", "explain"].contains(&verb);
         assert_eq!(help.out.contains("--budget N"), searches);
         for option in ["  --from M ", "  --length N "] {
             let has_minutes = ["board", "draw"].contains(&verb);
             assert_eq!(help.out.contains(option), has_minutes);
         }
         assert_eq!(help.out.contains("  --circle STOP "), verb == "draw");
+        assert_eq!(help.out.contains("  --key SHEET "), verb == "explain");
         let writes_bytes = ["archive", "type"].contains(&verb);
         assert_eq!(help.out.contains("  --raw "), writes_bytes);
         for form in ["--plan", "--typed", "--bytes"] {
@@ -389,6 +399,7 @@ fn help_in_columns() {
   exam wanted NETWORK GAP                a timetable with at least this gap, or none
   exam better NETWORK SHEET SHEET        the better of two sheets
   exam mark NETWORK SHEET-OR-FOLDER..    a sheet, or each of a folder, against the best
+  exam explain NETWORK SHEET             where a sheet loses, and why
   exam archive NETWORK                   the one file of a network that is kept
   exam same NETWORK NETWORK              whether two files are of one network
   exam plan NETWORK                      a network as a plan, with names and decimal numbers
