@@ -356,8 +356,8 @@ fn help_for_each_verb() {
         exam(words).printed(&overview.out, 0);
     }
     let verbs = [
-        "read", "show", "rate", "board", "draw", "classes", "best", "wanted", "better", "mark", "explain",
-        "archive", "same", "plan", "type",
+        "read", "show", "rate", "board", "draw", "classes", "best", "wanted", "better", "mark",
+        "explain", "archive", "same", "plan", "type",
     ];
     for verb in verbs {
         assert!(overview.out.contains(&format!("  exam {verb} NETWORK")));
