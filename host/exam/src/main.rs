@@ -12,6 +12,7 @@
 //! | `line`         | the command line: its table, its options, parser, help  |
 //! | `hall`         | what several verbs do with sheets and long searches     |
 //! | `picture`      | pictures of a timetable, as SVG                         |
+//! | `page`         | a sitting as one page of HTML                           |
 //! | `verbs`        | a file for each verb, and the list of all               |
 //!
 //! Each uses those above it alone.
@@ -25,6 +26,7 @@ mod input;
 mod interrupt;
 mod line;
 mod output;
+mod page;
 mod picture;
 mod status;
 mod system;

@@ -114,6 +114,17 @@ impl Outcome {
         }
     }
 
+    /// The sheet's own rating.
+    pub fn rating(&self) -> Option<Rating> {
+        match self {
+            Outcome::Rated(sheet)
+            | Outcome::Marked(Mark::Decided { sheet, .. } | Mark::Undecided { sheet, .. }) => {
+                Some(*sheet)
+            }
+            Outcome::Refused(_) | Outcome::Unreadable(_) => None,
+        }
+    }
+
     /// The mark out of a hundred, which only a decided marking has.
     pub fn hundred(&self) -> Option<Hundred> {
         match self {

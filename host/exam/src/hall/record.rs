@@ -51,9 +51,11 @@ const FIELDS: [Field; 15] = [
     ("name", |row, _| text(row.name.to_string_lossy())),
     ("status", |row, _| text(row.outcome.word())),
     ("gap", |row, _| {
-        number(sheet(row).map(|rating| rating.least))
+        number(row.outcome.rating().map(|rating| rating.least))
     }),
-    ("sum", |row, _| number(sheet(row).map(|rating| rating.sum))),
+    ("sum", |row, _| {
+        number(row.outcome.rating().map(|rating| rating.sum))
+    }),
     ("best_gap", |row, _| {
         number(best(row).map(|rating| rating.least))
     }),
@@ -89,14 +91,6 @@ fn optional(value: Option<String>) -> Value {
 
 fn number(number: Option<u32>) -> Value {
     number.map_or(Value::None, Value::Number)
-}
-
-fn sheet(row: &Row) -> Option<Rating> {
-    match row.outcome {
-        Outcome::Rated(sheet) => Some(sheet),
-        Outcome::Marked(Mark::Decided { sheet, .. } | Mark::Undecided { sheet, .. }) => Some(sheet),
-        _ => None,
-    }
 }
 
 fn best(row: &Row) -> Option<Rating> {

@@ -58,7 +58,7 @@ impl Report<'_> {
                 Some(form) => put(form.row(row, &about, before == 0))?,
                 None => put(format!("{name}: {}\n", row.outcome.line()))?,
             }
-            self.message(row, &name).iter().for_each(|words| say(words));
+            say_of(self.network, row);
             status = worse(status, row.outcome.status());
         }
         if let Some(form) = self.form {
@@ -89,22 +89,26 @@ impl Report<'_> {
         }
         Ok(status)
     }
+}
 
-    /// What there is to say of one sheet. The network's own refusal was said.
-    fn message(&self, row: &Row, name: &str) -> Option<String> {
-        match &row.outcome {
-            // What it quotes of the sheet may hold what a terminal would obey.
-            Outcome::Unreadable(Trouble(message)) => {
-                let message = message.replace(char::is_control, "?");
-                Some(format!("exam: {message}"))
-            }
-            Outcome::Refused(refusal) if refusal.ground == Ground::SheetLength => {
-                let lengths = lengths(self.network, &[row.sheet.as_ref()?]);
-                let words = refusal.words();
-                Some(format!("exam: {name}: {refusal}: {words}\n  {lengths}"))
-            }
-            _ => None,
+/// Says it of one sheet; the network's own refusal is said elsewhere.
+pub fn say_of(network: &Network, row: &Row) {
+    if let Some(words) = in_words(network, row) {
+        say(&format!("exam: {words}"));
+    }
+}
+
+/// What there is to say of one sheet that is unreadable or doesn't fit.
+pub fn in_words(network: &Network, row: &Row) -> Option<String> {
+    match &row.outcome {
+        // What it quotes of the sheet may hold what a terminal would obey.
+        Outcome::Unreadable(Trouble(message)) => Some(message.replace(char::is_control, "?")),
+        Outcome::Refused(refusal) if refusal.ground == Ground::SheetLength => {
+            let lengths = lengths(network, &[row.sheet.as_ref()?]);
+            let (name, words) = (shown(&row.name), refusal.words());
+            Some(format!("{name}: {refusal}: {words}\n  {lengths}"))
         }
+        _ => None,
     }
 }
 
@@ -115,7 +119,7 @@ pub fn used_up(network: &Network) -> String {
 }
 
 /// How many sheets there are of each kind that occurs.
-fn tally(rows: &[Row]) -> String {
+pub fn tally(rows: &[Row]) -> String {
     let counted = |word: &&str| {
         let count = rows
             .iter()

@@ -108,7 +108,7 @@ fn number_of(name: &str, network: &Network) -> Result<u32, Trouble> {
     }))
 }
 
-/// Where the picture goes.
+/// Where a picture or a page goes.
 pub fn target(request: &Request) -> Target {
     // The parser goes by the table, and so the verb was written.
     let word = request.last.as_deref();
@@ -118,10 +118,18 @@ pub fn target(request: &Request) -> Target {
 /// A file that is written has an ending of its own: by a slip in the order of the operands
 /// no sheet is overwritten.
 pub fn check_svg(word: &OsStr) -> Result<(), String> {
-    match word == "-" || ends_in(word, ".svg") {
+    check_ending(word, "a picture", ".svg")
+}
+
+pub fn check_html(word: &OsStr) -> Result<(), String> {
+    check_ending(word, "a page", ".html")
+}
+
+fn check_ending(word: &OsStr, what: &str, ending: &str) -> Result<(), String> {
+    match word == "-" || ends_in(word, ending) {
         true => Ok(()),
         false => Err(format!(
-            "a picture isn't written to '{}': let the name end in .svg, so that no slip \
+            "{what} isn't written to '{}': let the name end in {ending}, so that no slip \
              overwrites a sheet, or say - for standard output",
             shown(word.as_encoded_bytes())
         )),

@@ -11,6 +11,7 @@ mod mark;
 mod plan;
 mod rate;
 mod read;
+mod report;
 mod same;
 mod show;
 mod typing;
@@ -19,7 +20,7 @@ mod wanted;
 use crate::line::table::Verb;
 
 /// All verbs, in the order of help.
-pub const ALL: [&Verb; 15] = [
+pub const ALL: [&Verb; 16] = [
     &read::VERB,
     &show::VERB,
     &rate::VERB,
@@ -31,6 +32,7 @@ pub const ALL: [&Verb; 15] = [
     &better::VERB,
     &mark::VERB,
     &explain::VERB,
+    &report::VERB,
     &archive::VERB,
     &same::VERB,
     &plan::VERB,
@@ -58,7 +60,7 @@ mod tests {
             let networks = words.iter().filter(|word| **word == "NETWORK");
             assert_eq!(networks.count(), verb.networks, "{}", verb.name);
             // A number, a stop, or a file to be written.
-            let unread = ["GAP", "STOP", "FILE.svg"].contains(&words[words.len() - 1]);
+            let unread = ["GAP", "STOP", "FILE.svg", "OUT.html"].contains(&words[words.len() - 1]);
             assert_eq!(unread, verb.last.is_some(), "{}", verb.name);
         }
     }

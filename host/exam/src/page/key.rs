@@ -1,0 +1,42 @@
+//! The key: the best timetable, or that it isn't known.
+
+use super::html::{element, name, number, row, table};
+use super::picture::picture;
+use super::sitting::Sitting;
+use crate::hall::bound;
+use crate::output::lines::shown;
+use engine::{Best, Refusal, Searched, Sheet};
+
+pub fn section(sitting: &Sitting) -> Result<String, Refusal> {
+    let content = match sitting.searched {
+        Searched::Finished(best) => found(sitting, best)?,
+        Searched::Stopped { .. } | Searched::StoppedWithNone { .. } => unknown(sitting),
+    };
+    Ok(format!(
+        "<section id=\"key\" aria-labelledby=\"key-head\">\n<h2 id=\"key-head\">The key</h2>\n\
+         {content}</section>\n"
+    ))
+}
+
+fn found(sitting: &Sitting, best: &Best) -> Result<String, Refusal> {
+    let words = "The best timetable: no whole-number starts are rated higher.";
+    let rating = format!("{} tries {}", shown(best.rating()), best.tries());
+    let names = &sitting.network.names;
+    let starts: String = (0..)
+        .zip(best.starts())
+        .map(|(line, start)| row(&[number(line), name(names.line(line)), number(start)]))
+        .collect();
+    let starts = table("Starts of the key", &["Line", "Name", "Start"], &starts);
+    let key = Sheet::of_starts(best.starts());
+    let picture = picture(sitting, &key, ("key-picture", "Picture of the key"))?;
+    let (words, rating) = (element("p", words), element("code", &rating));
+    Ok(format!("{words}\n<p>{rating}</p>\n{starts}{picture}"))
+}
+
+fn unknown(sitting: &Sitting) -> String {
+    let words = "Undecided: the budget was used up before the best timetable was known, so that \
+                 there is no key and no sheet has a mark.";
+    let advice = bound::advice(sitting.network.bytes());
+    let (words, advice) = (element("p", words), element("p", advice.trim()));
+    format!("{words}\n{advice}\n")
+}
