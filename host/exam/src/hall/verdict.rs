@@ -63,7 +63,10 @@ fn changes(explained: &Explained, names: &Names) -> Vec<String> {
     both.into_iter().filter_map(sentence).collect()
 }
 
-/// `stop 0 'Market'`, or `stops 0 'Market', 2 and 5`, by number.
+/// More stops than these aren't named one by one in a sentence.
+const MOST_NAMED: usize = 8;
+
+/// `stop 0 'Market'`, `stops 0 'Market', 2 and 5`, by number, or `9 stops`.
 fn named_stops(explained: &Explained, names: &Names, which: impl Fn(&Stop) -> bool) -> String {
     let such = explained.stops.iter().filter(|stop| which(stop));
     let mut numbers: Vec<u8> = such.map(|stop| stop.number).collect();
@@ -71,11 +74,11 @@ fn named_stops(explained: &Explained, names: &Names, which: impl Fn(&Stop) -> bo
     let named = |stop: &u8| named::with(*stop, names.stop(*stop));
     match numbers.split_last() {
         Some((last, [])) => format!("stop {}", named(last)),
-        Some((last, others)) => {
+        Some((last, others)) if others.len() < MOST_NAMED => {
             let others: Vec<String> = others.iter().map(named).collect();
             format!("stops {} and {}", others.join(", "), named(last))
         }
-        None => "no stop".to_string(),
+        _ => format!("{} stops", numbers.len()),
     }
 }
 

@@ -44,12 +44,12 @@ fn facts(sitting: &Sitting) -> Result<[(&'static str, String); 10], Refusal> {
         ("Lines", counts.lines.to_string()),
         ("Stops", counts.served_stops.to_string()),
         ("Calls", counts.calls.to_string()),
-        ("Common cycle, minutes", counts.cycle.to_string()),
+        ("Common cycle", format!("{} minutes", counts.cycle)),
         ("Edition", engine::contents(file)?.edition.to_string()),
-        ("CRC-32 of the network", checksum::of_network(file)?),
+        ("CRC-32", checksum::of_network(file)?),
         ("Engine", engine::VERSION.to_string()),
         ("Command", env!("CARGO_PKG_VERSION").to_string()),
-        ("Budget, tries", sitting.budget.to_string()),
-        ("Tries made", sitting.tries().to_string()),
+        ("Budget", format!("{} tries", sitting.budget)),
+        ("Search", format!("{} tries", sitting.tries())),
     ])
 }

@@ -25,10 +25,10 @@ pub fn name(name: Option<&str>) -> String {
     )
 }
 
-/// A cell with a list.
-pub fn list(items: impl Iterator<Item = String>) -> String {
+/// A cell with a list: an item under the other, or in the class `flow` one behind the other.
+pub fn list(class: &str, items: impl Iterator<Item = String>) -> String {
     let items: String = items.map(|item| element("li", &item)).collect();
-    format!("<td><ul class=\"calls\">{items}</ul></td>")
+    format!("<td><ul class=\"calls {class}\">{items}</ul></td>")
 }
 
 /// A table in a box of its own, which scrolls where it is wider than the page, also by keys.
@@ -70,7 +70,7 @@ mod tests {
              <td class=\"number\">-3</td></tr>\n"
         );
         assert_eq!(cells, expected);
-        let items = list([signs.to_string()].into_iter());
+        let items = list("flow", [signs.to_string()].into_iter());
         assert!(items.contains(&format!("<li>{written}</li>")), "{items}");
         let table = table(signs, &[signs], &cells);
         for piece in [

@@ -29,7 +29,7 @@ fn lines(contents: &Contents, names: &Names) -> String {
             number(line),
             name(names.line(line)),
             number(contents.periods[usize::from(line)]),
-            list(calls.iter().map(call)),
+            list("flow", calls.iter().map(call)),
         ])
     };
     let heads = ["Line", "Name", "Every", "Calls, minutes after its start"];
@@ -48,7 +48,7 @@ fn stops(contents: &Contents, names: &Names) -> String {
         };
         let lines = match calls.is_empty() {
             true => element("td", "no line calls here"),
-            false => list(calls.iter().map(call)),
+            false => list("flow", calls.iter().map(call)),
         };
         row(&[number(stop), name(names.stop(stop)), lines])
     };

@@ -17,20 +17,23 @@ use engine::{Arrival, Refusal, Sheet};
 pub fn section(sitting: &Sitting, place: usize, row: &Row) -> Result<String, Refusal> {
     let id = sheet_id(place);
     let name = shown(&row.name);
-    let content = match (&row.outcome, &row.sheet) {
+    let (told, picture) = match (&row.outcome, &row.sheet) {
         (Outcome::Rated(_) | Outcome::Marked(_), Some(sheet)) => {
-            let label = format!("Picture of {name}");
-            let told = told(sitting, sheet, &name)?;
-            told + &picture(sitting, sheet, (&format!("{id}-picture"), &label))?
+            let named = (
+                &format!("{id}-picture")[..],
+                &format!("Picture of {name}")[..],
+            );
+            let picture = picture(sitting, sheet, named)?;
+            (told(sitting, sheet, &name)?, picture)
         }
-        _ => without_rating(sitting, row),
+        _ => (without_rating(sitting, row), String::new()),
     };
     let (name, result) = (escaped(&name), element("strong", &result(&row.outcome)));
     let line = element("code", &row.outcome.line());
     Ok(format!(
         "<section class=\"sheet\" id=\"{id}\" aria-labelledby=\"{id}-head\">\n\
-         <h2 id=\"{id}-head\">{name}</h2>\n<p class=\"result\">{result}</p>\n{content}\
-         <p>As exam mark prints it: {line}</p>\n\
+         <h2 id=\"{id}-head\">{name}</h2>\n<p class=\"result\">{result}</p>\n{told}\
+         <p>As exam mark prints it: {line}</p>\n{picture}\
          <p class=\"back\"><a href=\"#sheets\">All sheets</a></p>\n</section>\n"
     ))
 }
@@ -105,7 +108,7 @@ fn loss(stop: &Stop, names: &Names) -> String {
         format!("<th scope=\"row\" class=\"name\">{}</th>", escaped(&head)),
         number(stop.gap),
         stop.key_gap.map_or(element("td", ""), number),
-        list(arrivals),
+        list("", arrivals),
     ])
 }
 

@@ -95,8 +95,9 @@ fn rated(network: &Network, gathered: Gathered) -> Result<Rated, Trouble> {
 /// Searches once, marks all sheets and writes the page.
 fn report(request: &Request, network: &Network, rows: Vec<Row>) -> Result<Status, Trouble> {
     let file = network.bytes();
-    let doing = match rows.len() {
-        1 => "marking".to_string(),
+    let rated = rows.iter().filter(|row| row.outcome.rating().is_some());
+    let doing = match rated.count() {
+        0 | 1 => "marking".to_string(),
         count => format!("marking {count} sheets"),
     };
     let answer = search(file, Manner::wanted_by(request, doing));

@@ -1,0 +1,196 @@
+//! The page of `exam report` in a real browser, at the widths of a desk and of a phone, and on
+//! paper. Where there is no Chromium the tests say that they are passed over.
+
+use crate::common::{exam, Folder, HEX};
+use papers::child::Limited;
+use papers::files::{dense_file, Dice};
+use std::os::unix::process::CommandExt;
+use std::process::{Command, Stdio};
+
+/// Whether Chromium is there; otherwise it is said that the test is passed over.
+fn is_there() -> bool {
+    let mut version = Command::new("chromium");
+    version.arg("--version").stdin(Stdio::null());
+    version.stdout(Stdio::null()).stderr(Stdio::null());
+    let there = version.status().is_ok_and(|status| status.success());
+    if !there {
+        println!("passed over, there is no chromium");
+    }
+    there
+}
+
+/// What Chromium prints of a page. It has a folder of its own for what it keeps, and sixty
+/// seconds; a start that fails, as it may on a busy machine, is tried again.
+fn chromium(page: &str, more: &[&str]) -> Vec<u8> {
+    for _ in 0..3 {
+        let home = Folder::new();
+        let mut browser = Command::new("chromium");
+        browser
+            .args([
+                "--headless=new",
+                "--no-sandbox",
+                "--disable-gpu",
+                "--hide-scrollbars",
+            ])
+            .args([
+                "--disable-dev-shm-usage",
+                "--no-first-run",
+                "--disable-extensions",
+            ])
+            .arg(format!("--user-data-dir={}", home.name()))
+            .args(more)
+            .arg(format!("file://{page}"))
+            .env("HOME", home.name())
+            .stdin(Stdio::null())
+            .stdout(Stdio::piped())
+            .stderr(Stdio::null())
+            // What hangs is ended with all that it has started.
+            .process_group(0);
+        let output = Limited::start(&mut browser).output();
+        if output.status.success() {
+            return output.stdout;
+        }
+    }
+    panic!("chromium doesn't show {page}");
+}
+
+/// What a script finds in a page that is so wide. The page stands in a frame, since no window
+/// of Chromium is as narrow as a phone's.
+fn said(folder: &Folder, page: &str, width: u32, script: &str) -> String {
+    let text = std::fs::read_to_string(page).expect("a page");
+    let set = "document.documentElement.setAttribute('data-said', said)";
+    let script = format!("<script>var said = '';\n{script}\n{set};</script></body>");
+    let text = text.replace("</body>", &script);
+    let text = text.replace('&', "&amp;").replace('"', "&quot;");
+    let around = format!(
+        "<!DOCTYPE html><meta charset=\"utf-8\"><body>\
+         <iframe style=\"border:0;width:{width}px;height:900px\" srcdoc=\"{text}\"></iframe>\
+         <script>onload = function () {{\
+         var framed = document.querySelector('iframe').contentDocument.documentElement;\
+         document.title = 'said:' + framed.getAttribute('data-said') + ':said'; }};</script>"
+    );
+    let copy = folder.file("copy.html", around);
+    let dom = chromium(&copy, &["--dump-dom", "--window-size=1400,1000"]);
+    let dom = String::from_utf8_lossy(&dom).into_owned();
+    let said = dom.split_once("said:").map(|(_, behind)| behind);
+    let said = said.and_then(|behind| behind.split_once(":said"));
+    let (said, _) = said.unwrap_or_else(|| panic!("the script said nothing: {dom}"));
+    said.to_string()
+}
+
+/// The page of a network and its sheets.
+fn page(folder: &Folder, network: &str, sheets: &str, more: &[&str]) -> String {
+    let page = format!("{}/page.html", folder.name());
+    let ran = exam(&[&["report", network, sheets, &page, "--quiet"], more].concat());
+    assert!(ran.out.starts_with(&page), "{ran:?}");
+    page
+}
+
+/// A full network, with names as long as they may be.
+fn full_page(folder: &Folder) -> String {
+    let file = dense_file(&mut Dice::new(5), 16, 64);
+    let network = folder.file("full.net", file);
+    let sheets = Folder::new();
+    sheets.file(&format!("{}.sheet", "n".repeat(200)), "0 ".repeat(16));
+    sheets.file("short.sheet", "0");
+    page(folder, &network, &sheets.name(), &["--budget", "20"])
+}
+
+/// Whatever is wide scrolls in a box of its own or is made smaller.
+#[test]
+fn no_page_is_wider_than_its_window() {
+    if !is_there() {
+        return;
+    }
+    let script = "var root = document.documentElement;\n\
+                  said = [innerWidth, root.clientWidth, root.scrollWidth].join(' ');";
+    let folder = Folder::new();
+    let village = page(&folder, "samples/village.plan", "samples/village", &[]);
+    let village = std::fs::rename(&village, folder.path().join("village.html"))
+        .map(|()| format!("{}/village.html", folder.name()));
+    for page in [village.expect("a page"), full_page(&folder)] {
+        for width in [1_280, 390, 360] {
+            let said = said(&folder, &page, width, script);
+            assert_eq!(said, format!("{width} {width} {width}"), "{page}");
+        }
+    }
+    // What is too wide is seen.
+    let wide = format!("document.body.style.minWidth = '500px';\n{script}");
+    let village = format!("{}/village.html", folder.name());
+    assert_eq!(said(&folder, &village, 390, &wide), "390 390 500");
+}
+
+/// A click sorts, the largest mark first, and a second one turns it round; sheets without a
+/// mark stay last. The headings are buttons, which keys reach.
+#[test]
+fn a_click_sorts() {
+    if !is_there() {
+        return;
+    }
+    let folder = Folder::new();
+    let sheets = Folder::new();
+    for (name, starts) in [
+        ("a", "0 0"),
+        ("b", "0 3"),
+        ("c", "0"),
+        ("d", "0 1"),
+        ("e", "x"),
+        ("f", "0 3"),
+    ] {
+        sheets.file(&format!("{name}.sheet"), starts);
+    }
+    let page = page(&folder, HEX, &sheets.name(), &[]);
+    let script = "
+        var heads = Array.from(document.querySelectorAll('#marks thead th'));
+        function look(head) {
+          var rows = Array.from(document.querySelectorAll('#marks tbody tr'));
+          var names = rows.map(function (row) { return row.cells[0].textContent[0]; });
+          var sorted = heads.map(function (head) { return head.getAttribute('aria-sort') || '-'; });
+          said += names.join('') + ' ' + sorted.join(' ') + ';';
+        }
+        look();
+        [4, 4, 0, 0, 1, 3].forEach(function (column) {
+          var button = heads[column].querySelector('button');
+          button.focus();
+          said += document.activeElement === button ? '' : 'no focus;';
+          button.click();
+          look();
+        });
+        said += document.getElementById('hint').hidden ? 'no hint' : 'hint';";
+    let ranked = exam(&["mark", HEX, &sheets.name(), "--ranked"]).out;
+    let ranked: String = ranked
+        .lines()
+        .filter_map(|line| line.chars().next())
+        .collect();
+    let expected = [
+        "abcdef ascending - - - - -".to_string(),
+        format!("{ranked} - - - - descending -"),
+        "dabfce - - - - ascending -".to_string(),
+        "abcdef ascending - - - - -".to_string(),
+        "fedcba descending - - - - -".to_string(),
+        "bfadce - ascending - - - -".to_string(),
+        "bfadce - - - descending - -".to_string(),
+        "hint".to_string(),
+    ];
+    let said = said(&folder, &page, 1_280, script);
+    assert_eq!(said.split(';').collect::<Vec<_>>(), expected);
+}
+
+/// On paper the sitting has pages of its own, and each sheet begins another.
+#[test]
+fn on_paper() {
+    if !is_there() {
+        return;
+    }
+    let folder = Folder::new();
+    let page = page(&folder, "samples/village.plan", "samples/village", &[]);
+    let pdf = format!("{}/page.pdf", folder.name());
+    chromium(&page, &[&format!("--print-to-pdf={pdf}")]);
+    let written = std::fs::read(&pdf).expect("a PDF");
+    assert!(written.starts_with(b"%PDF-"));
+    let text = String::from_utf8_lossy(&written).into_owned();
+    let count = text.split_once("/Count ").map(|(_, behind)| behind);
+    let count = count.and_then(|behind| behind.split(|sign: char| !sign.is_ascii_digit()).next());
+    let count: usize = count.and_then(|count| count.parse().ok()).expect("pages");
+    assert!((5..20).contains(&count), "{count} pages");
+}
