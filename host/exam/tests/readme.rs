@@ -88,7 +88,7 @@ fn the_sessions_are_real() {
     assert!(sessions.len() >= 14, "{} commands", sessions.len());
     let verbs = [
         "read", "show", "rate", "board", "draw", "classes", "best", "wanted", "better", "mark",
-        "explain", "archive", "same", "plan", "type",
+        "explain", "report", "archive", "same", "plan", "type",
     ];
     for verb in verbs {
         let word = format!("exam {verb} ");

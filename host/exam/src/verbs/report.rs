@@ -20,7 +20,7 @@ use crate::status::{Status, Trouble};
 
 pub const VERB: Verb = Verb {
     name: "report",
-    operands: "NETWORK SHEET-OR-FOLDER OUT.html",
+    operands: "NETWORK FOLDER OUT.html",
     networks: 1,
     sheets: Sheets::Exactly(1),
     last: Some(check_html),
@@ -35,12 +35,12 @@ pub const VERB: Verb = Verb {
     ],
     summary: "a sitting as one page, with pictures",
     about: "\
-Marks the sheets of a folder, or one sheet, and writes one page of HTML: a table of
-all sheets, which a click on a heading sorts, the key with its starts and its
-picture, the network, and for each sheet its mark, what decides, the stops where it
-loses with the two arrivals that make the gap ('exam explain --help'), and its
-picture. The page is read in any browser and on paper, and loads nothing from
-elsewhere. What is printed is the file and the tally.
+Marks the sheets of a folder and writes one page of HTML: a table of all sheets,
+which a click on a heading sorts, the key with its starts and its picture, the
+network, and for each sheet its mark, what decides, the stops where it loses with
+the two arrivals that make the gap ('exam explain --help'), and its picture. The page
+is read in any browser and on paper, and loads nothing from elsewhere. A sheet may
+stand in the folder's place. What is printed is the file and the tally.
   sitting.html: 4 sheets: 2 equal, 1 below, 1 refused
 
 'exam mark --help' says which files of a folder are taken and how the command ends;

@@ -95,11 +95,15 @@ fn a_sign_of_life() {
     let sheets = Folder::new();
     let sheet = sheets.file("a.sheet", "0 ".repeat(16));
     sheets.file("b.sheet", "1 ".repeat(16));
-    let cases: [(&[&str], &str); 5] = [
+    let cases: [(&[&str], &str); 6] = [
         (&["best", &network], "searching"),
         (&["wanted", &network, "2"], "searching"),
         (&["mark", &network, &sheet], "marking"),
         (&["explain", &network, &sheet], "marking"),
+        (
+            &["report", &network, &sheets.name(), "-"],
+            "marking 2 sheets",
+        ),
         (&["mark", &network, &sheets.name()], "marking 2 sheets"),
     ];
     for (words, doing) in cases {

@@ -123,6 +123,7 @@ fn manual_page_as_it_is_set() {
         "exam board NETWORK SHEET STOP [OPTIONS]",
         "exam draw NETWORK SHEET FILE.svg [OPTIONS]",
         "exam explain NETWORK SHEET [OPTIONS]",
+        "exam report NETWORK FOLDER OUT.html [OPTIONS]",
         "--key SHEET take this sheet for the key, and search nothing",
         "--from M begin at minute M, which may be negative (otherwise 0)",
         "--budget N stop after N tries, 0 to 4294967295 or max (otherwise 1000000)",

@@ -36,6 +36,7 @@ fn words_for_each_ground_of_the_file() {
             exam(&[verb, &network, &sheet]).told(&line, 1, &pieces);
         }
         exam(&["explain", &network, &sheet, "--key", &sheet]).told(&line, 1, &pieces);
+        exam(&["report", &network, &sheet, "-"]).told(&line, 1, &pieces);
         // The file comes before the sheet, the stop and the length.
         exam(&["board", &network, &sheet, "0"]).told(&line, 1, &pieces);
         let unfit = ["board", &network, &sheet, "64", "--length", "10081"];

@@ -263,7 +263,7 @@ fn bad_usage() {
     let told = |words: &[&str], message: &str| {
         exam(&[&["report"], words].concat()).told("", 2, &[message, "\ntry: exam report --help"]);
     };
-    let wants = "'report' wants NETWORK SHEET-OR-FOLDER OUT.html; ";
+    let wants = "'report' wants NETWORK FOLDER OUT.html; ";
     told(&[HEX, good], &format!("{wants}OUT.html is missing"));
     told(
         &[HEX, good, good, "a.html"],

@@ -357,7 +357,7 @@ fn help_for_each_verb() {
     }
     let verbs = [
         "read", "show", "rate", "board", "draw", "classes", "best", "wanted", "better", "mark",
-        "explain", "archive", "same", "plan", "type",
+        "explain", "report", "archive", "same", "plan", "type",
     ];
     for verb in verbs {
         assert!(overview.out.contains(&format!("  exam {verb} NETWORK")));
@@ -365,7 +365,7 @@ fn help_for_each_verb() {
         assert_eq!((help.status, help.err.as_str()), (0, ""));
         assert!(help.out.starts_with(&format!("exam {verb} NETWORK")));
         assert!(help.out.contains("Exit status: 0 done; 1 refused"));
-        let searches = ["best", "wanted", "mark", "explain"].contains(&verb);
+        let searches = ["best", "wanted", "mark", "explain", "report"].contains(&verb);
         assert_eq!(help.out.contains("--budget N"), searches);
         for option in ["  --from M ", "  --length N "] {
             let has_minutes = ["board", "draw"].contains(&verb);
@@ -400,6 +400,7 @@ fn help_in_columns() {
   exam better NETWORK SHEET SHEET        the better of two sheets
   exam mark NETWORK SHEET-OR-FOLDER..    a sheet, or each of a folder, against the best
   exam explain NETWORK SHEET             where a sheet loses, and why
+  exam report NETWORK FOLDER OUT.html    a sitting as one page, with pictures
   exam archive NETWORK                   the one file of a network that is kept
   exam same NETWORK NETWORK              whether two files are of one network
   exam plan NETWORK                      a network as a plan, with names and decimal numbers
