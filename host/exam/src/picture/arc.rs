@@ -2,13 +2,15 @@
 
 use super::axis::round_minutes;
 use super::svg::{place, GREY};
-use super::text::{Anchor, Text};
+use super::text::{width, Anchor, Text};
 use crate::hall::witness::Window;
 use std::f64::consts::TAU;
 
 pub const RADIUS: f64 = 206.0;
 /// No more round minutes have a number.
 const MOST_NUMBERS: u32 = 14;
+/// How far outside they stand.
+const NUMBERS: f64 = 14.0;
 /// A line for each minute has room up to this cycle.
 const MOST_LINES: u32 = 120;
 
@@ -65,8 +67,7 @@ impl Circle {
         ruler += &lines.collect::<String>();
         ruler += "</g>\n";
         let number = |minute: &i64| {
-            let (x, y) = self.place(*minute as f64, RADIUS + 21.0);
-            let text = Text::at(x, y + 4.0, 12.0).anchored(Anchor::Middle);
+            let text = self.outside(*minute as f64, (12.0, NUMBERS));
             text.element(&minute.to_string())
         };
         ruler + &self.numbers().iter().map(number).collect::<String>()
@@ -86,16 +87,25 @@ impl Circle {
         minutes
     }
 
-    /// A text outside the numbers of this minute: beside the circle it leads away from it.
-    pub fn outside(&self, minute: f64, size: f64) -> Text {
+    /// A text of this size so far outside the circle, at a minute: beside the circle it leads
+    /// away from it.
+    fn outside(&self, minute: f64, (size, away): (f64, f64)) -> Text {
         let (side, _) = sine_and_cosine(self.turn(minute));
         let (anchor, away) = match side {
-            0.35.. => (Anchor::Start, 34.0),
-            ..-0.35 => (Anchor::End, 34.0),
-            _ => (Anchor::Middle, 46.0),
+            0.35.. => (Anchor::Start, away),
+            ..-0.35 => (Anchor::End, away),
+            _ => (Anchor::Middle, away + size / 2.0),
         };
         let (x, y) = self.place(minute, RADIUS + away);
         Text::at(x, y + size / 3.0, size).anchored(anchor)
+    }
+
+    /// A text outside the numbers.
+    pub fn beyond_numbers(&self, minute: f64, size: f64) -> Text {
+        let widths = self.numbers().into_iter();
+        let widths = widths.map(|minute| width(&minute.to_string(), 12.0));
+        let away = NUMBERS + widths.fold(16.0, f64::max) + 4.0;
+        self.outside(minute, (size, away))
     }
 
     /// From minute to minute along the circle, less than once around or once.
@@ -109,6 +119,12 @@ impl Circle {
             "<path d=\"M{begin}A{radius} {radius} 0 0 1 {middle}\
              A{radius} {radius} 0 0 1 {end}\" stroke-width=\"7\"/>"
         )
+    }
+
+    /// What shows an arc that is shorter than the marks at its ends.
+    pub fn pointer(&self, minute: f64) -> String {
+        let [from, to] = [2.0, NUMBERS - 2.0].map(|away| self.at(minute, RADIUS + away));
+        format!("<path d=\"M{from}L{to}\" stroke-width=\"3\"/>")
     }
 
     /// About one minute, for an arc without length.

@@ -103,7 +103,7 @@ fn head(timetable: &Timetable, stop: Option<&Stop>, title: &str) -> String {
         Some(stop) => words::makes(stop, timetable.names),
         None => Some("no line calls here".to_string()),
     };
-    let large = Text::at(MARGIN, 36.0, 22.0).with(" font-weight=\"bold\"");
+    let large = Text::at(MARGIN, 36.0, 22.0).bold();
     let small = |y: f64| Text::at(MARGIN, y, 12.0);
     large.cut(title, room)
         + &small(56.0).cut(&makes.unwrap_or_default(), room)
@@ -182,10 +182,10 @@ fn gap(circle: &Circle, stop: &Stop) -> String {
     let lines = format!("{} {}", one.line, other.line);
     let arc = match gap {
         0 => circle.ring(from),
-        _ => circle.arc(from, to),
+        _ => circle.arc(from, to) + &circle.pointer((from + to) as f64 / 2.0),
     };
-    let label = circle.outside((from + to) as f64 / 2.0, 16.0);
-    let label = label.with(" font-weight=\"bold\"");
+    let label = circle.beyond_numbers((from + to) as f64 / 2.0, 16.0);
+    let label = label.bold();
     format!(
         "<g class=\"gap\" data-from=\"{from}\" data-to=\"{to}\" data-gap=\"{gap}\" \
          data-lines=\"{lines}\">\n<g fill=\"none\" stroke=\"{INK}\">{arc}</g>\n{}</g>\n",

@@ -62,7 +62,7 @@ impl Join {
         let (from, to, gap) = (one.time, other.time, stop.gap);
         let lines = format!("{} {}", one.line, other.line);
         let label = Text::at(self.label.0, self.label.1, 11.0).anchored(Anchor::Middle);
-        let label = label.with(" font-weight=\"bold\"");
+        let label = label.bold();
         format!(
             "<g class=\"gap\" data-from=\"{from}\" data-to=\"{to}\" data-gap=\"{gap}\" \
              data-lines=\"{lines}\">\n{}{}</g>\n",

@@ -36,7 +36,7 @@ impl Layout {
         let names = stops.iter();
         let names = names.filter_map(|stop| timetable.names.stop(stop.number));
         let widest = names.map(|name| width(name, SIZE)).fold(0.0, f64::max);
-        let names = MARGIN + 46.0;
+        let names = MARGIN + 50.0;
         let left = names + widest.min(NAMES) + LINES;
         let right = WIDTH - MARGIN - GAPS;
         let calls: usize = stops.iter().map(|stop| stop.calls.len()).sum();

@@ -8,6 +8,7 @@ use super::svg::place;
 pub const WIDTH: f64 = 11.0;
 
 const OUTLINE: &str = "#222";
+const YELLOW: &str = "#F0E442";
 
 /// A colour and a shape, about the point 0, 0.
 const KINDS: [(&str, &str); 8] = [
@@ -21,7 +22,7 @@ const KINDS: [(&str, &str); 8] = [
         "<path d=\"M-1.9-5.3H1.9V-1.9H5.3V1.9H1.9V5.3H-1.9V1.9H-5.3V-1.9H-1.9Z\"/>",
     ),
     (
-        "#F0E442",
+        YELLOW,
         "<path transform=\"rotate(45)\" \
          d=\"M-1.9-5.8H1.9V-1.9H5.8V1.9H1.9V5.8H-1.9V1.9H-5.8V-1.9H-1.9Z\"/>",
     ),
@@ -53,12 +54,21 @@ fn definition(id: &str, line: u8, scale: f64) -> String {
         true => format!(
             "<g fill=\"#fff\" stroke-linejoin=\"round\" transform=\"scale(0.82)\">\
              <g stroke=\"{OUTLINE}\" stroke-width=\"3.8\">{shape}</g>\
-             <g stroke=\"{colour}\" stroke-width=\"2\">{shape}</g></g>"
+             <g stroke=\"{colour}\" stroke-width=\"2\">{shape}</g>{}</g>",
+            dot(colour)
         ),
     };
     let (small, whole) = (reference(id, line), whole(id, line));
     let scale = place(scale);
     format!("<g id=\"{small}\" transform=\"scale({scale})\"><g id=\"{whole}\">{mark}</g></g>\n")
+}
+
+/// What tells hollow from filled where the colour is as light as the paper.
+fn dot(colour: &str) -> String {
+    match colour == YELLOW {
+        true => format!("<circle r=\"2.2\" fill=\"{OUTLINE}\"/>"),
+        false => String::new(),
+    }
 }
 
 /// The id of a line's mark.

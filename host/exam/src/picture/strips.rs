@@ -58,7 +58,7 @@ fn described(timetable: &Timetable, stops: &[Stop]) -> String {
 
 /// The title, the legend and what the band and the frame mean; and where that ends.
 fn head(timetable: &Timetable, stops: &[Stop], id: &str) -> (String, f64) {
-    let title = Text::at(MARGIN, 38.0, 24.0).with(" font-weight=\"bold\"");
+    let title = Text::at(MARGIN, 38.0, 24.0).bold();
     let below = Text::at(MARGIN, 58.0, 12.0);
     let legend = Legend {
         x: MARGIN,
@@ -144,16 +144,15 @@ impl Strips<'_> {
     fn labels(&self, stop: &Stop, y: f64) -> String {
         let (layout, names) = (&self.layout, self.timetable.names);
         let line = layout.row(y, 0) + 4.5;
-        let bold = " font-weight=\"bold\"";
         let number = Text::at(layout.names - 6.0, line, SIZE).anchored(Anchor::End);
-        let mut labels = number.with(bold).element(&stop.number.to_string());
+        let mut labels = number.bold().element(&stop.number.to_string());
         if let Some(name) = names.stop(stop.number) {
             labels += &Text::at(layout.names, line, SIZE).cut(name, NAMES);
         }
         let gap = Text::at(layout.right + 48.0, line, SIZE).anchored(Anchor::End);
-        labels += &gap.with(bold).element(&stop.gap.to_string());
+        labels += &gap.bold().element(&stop.gap.to_string());
         if stop.is_least {
-            let least = Text::at(layout.right + 53.0, line, SIZE).with(bold);
+            let least = Text::at(layout.right + 53.0, line, SIZE).bold();
             labels += &least.element("least");
         }
         labels
@@ -214,17 +213,17 @@ impl Strips<'_> {
 
     /// What stands in the columns.
     fn headings(&self, y: f64) -> String {
-        let grey = " fill=\"#555\" font-style=\"italic\"";
-        let over = Text::at(self.layout.left, y - 14.0, 11.0).with(grey);
+        let over = Text::at(self.layout.left, y - 14.0, 11.0);
         let heading = |x: f64, word: &str| {
-            let text = Text::at(x, y, 11.0).anchored(Anchor::End).with(grey);
+            let text = Text::at(x, y, 11.0).anchored(Anchor::End);
             text.element(word)
         };
         let layout = &self.layout;
-        over.anchored(Anchor::Middle).element("minute")
+        let headings = over.anchored(Anchor::Middle).element("minute")
             + &heading(layout.names - 6.0, "stop")
             + &heading(layout.left - 12.0, "line")
-            + &heading(layout.right + 48.0, "gap")
+            + &heading(layout.right + 48.0, "gap");
+        format!("<g fill=\"{GREY}\" font-style=\"italic\">\n{headings}</g>\n")
     }
 }
 

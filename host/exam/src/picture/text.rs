@@ -18,9 +18,11 @@ pub struct Text {
     pub y: f64,
     pub size: f64,
     pub anchor: Anchor,
-    /// More attributes, each with a blank before it.
-    pub more: &'static str,
+    pub bold: bool,
 }
+
+/// Bold texts are so much wider.
+const BOLD: f64 = 1.12;
 
 impl Text {
     pub fn at(x: f64, y: f64, size: f64) -> Text {
@@ -29,7 +31,7 @@ impl Text {
             y,
             size,
             anchor: Anchor::Start,
-            more: "",
+            bold: false,
         }
     }
 
@@ -37,8 +39,8 @@ impl Text {
         Text { anchor, ..self }
     }
 
-    pub fn with(self, more: &'static str) -> Text {
-        Text { more, ..self }
+    pub fn bold(self) -> Text {
+        Text { bold: true, ..self }
     }
 
     pub fn element(&self, text: &str) -> String {
@@ -48,6 +50,7 @@ impl Text {
     /// A text that is cut where it is wider than its room; the whole is shown to who points
     /// at it.
     pub fn cut(&self, text: &str, room: f64) -> String {
+        let room = if self.bold { room / BOLD } else { room };
         let fitting = fitting(text, self.size, room);
         if fitting == text {
             return self.element(text);
@@ -64,10 +67,12 @@ impl Text {
             Anchor::Middle => " text-anchor=\"middle\"",
             Anchor::End => " text-anchor=\"end\"",
         };
-        format!(
-            " x=\"{x}\" y=\"{y}\" font-size=\"{size}\"{anchor}{}",
-            self.more
-        )
+        let bold = if self.bold {
+            " font-weight=\"bold\""
+        } else {
+            ""
+        };
+        format!(" x=\"{x}\" y=\"{y}\" font-size=\"{size}\"{anchor}{bold}")
     }
 }
 
@@ -81,7 +86,7 @@ fn breadth(sign: char) -> f64 {
     match sign {
         'i' | 'j' | 'l' | 'I' | 'f' | 't' | 'r' | ' ' | '.' | ',' | ':' | ';' | '\'' | '|'
         | '!' | '(' | ')' => 0.4,
-        'm' | 'w' | 'M' | 'W' | '@' | '%' => 1.0,
+        'm' | 'w' | 'M' | 'W' | '@' | '%' => 1.05,
         'A'..='Z' | '<' | '>' | '&' => 0.76,
         // Letters of Latin, Greek, Cyrillic.
         '\0'..='\u{52F}' => 0.62,

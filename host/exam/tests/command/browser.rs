@@ -1,9 +1,9 @@
 //! The page of `exam report` in a real browser, at the widths of a desk and of a phone, and on
-//! paper. Where there is no Chromium the tests say that they are passed over.
+//! paper, and the texts of pictures. Where there is no Chromium the tests say that they are passed over.
 
 use crate::common::{exam, Folder, HEX};
 use papers::child::Limited;
-use papers::files::{dense_file, Dice};
+use papers::files::{bytes_of, dense_file, sheet, sheet_bytes, valid_commands, Dice, Stated};
 use std::os::unix::process::CommandExt;
 use std::process::{Command, Stdio};
 
@@ -193,4 +193,95 @@ fn on_paper() {
     let count = count.and_then(|behind| behind.split(|sign: char| !sign.is_ascii_digit()).next());
     let count: usize = count.and_then(|count| count.parse().ok()).expect("pages");
     assert!((5..20).contains(&count), "{count} pages");
+}
+
+/// The text of a picture without its marks, which may be very many.
+fn drawn(network: &str, sheet: &str, more: &[&str]) -> String {
+    let ran = exam(&[&["draw", network, sheet, "-"], more].concat());
+    let (_, svg) = ran.out.split_once("?>").expect("a picture");
+    let mut pieces = svg.split("<use class=\"a\" ");
+    let head = pieces.next().unwrap_or_default().to_string();
+    let rests = pieces.filter_map(|piece| piece.split_once("/>"));
+    head + &rests.map(|(_, rest)| rest).collect::<String>()
+}
+
+/// A full network whose names are as long and wide as they may be.
+fn wide_plan() -> String {
+    let name = |number: usize| format!("{}{number}", "W".repeat(58));
+    let stops = (0..64).map(|stop| format!("stop {stop} {}\n", name(stop)));
+    let line = |line: usize| {
+        let stop = |call: usize| name((line * 16 + call) % 64);
+        let call = |call: usize| format!("  {} at {}\n", stop(call), line * 7 + call * 5);
+        let head = format!("line {} every 60\n", name(line));
+        head + &(0..16).map(call).collect::<String>()
+    };
+    stops.chain((0..16).map(line)).collect()
+}
+
+/// A page with pictures of samples, of networks from a seed and of a full network, strips and
+/// circles.
+fn pictures(folder: &Folder) -> String {
+    let mut dice = Dice::new(2_404);
+    let full = folder.file("full.plan", wide_plan());
+    let zeros = folder.file("zeros.sheet", "0 ".repeat(16));
+    let mut svgs = drawn(&full, &zeros, &["--from=-2147483648"]);
+    svgs += &drawn(&full, &zeros, &["--circle=63"]);
+    svgs += &drawn("samples/town.hex", "samples/town/perfect.sheet", &[]);
+    for _ in 0..30 {
+        let commands = valid_commands(&mut dice);
+        let stated = Stated::by(&commands);
+        let network = folder.file("one.net", bytes_of(&commands));
+        let starts = sheet(&mut dice, stated.periods.len());
+        let starts = folder.file("one.bin", sheet_bytes(&starts));
+        let stop = dice.pick(&stated.calls).1.to_string();
+        svgs += &drawn(&network, &starts, &[]);
+        svgs += &drawn(&network, &starts, &["--circle", &stop]);
+    }
+    folder.file("pictures.html", page_of(&svgs))
+}
+
+fn page_of(svgs: &str) -> String {
+    format!("<!DOCTYPE html><body>{svgs}</body>")
+}
+
+/// No text of a picture leads out of it, and none stands in the way of another.
+#[test]
+fn texts_of_pictures_have_room() {
+    if !is_there() {
+        return;
+    }
+    let script = "
+        function placed(text) {
+          var box = text.getBoundingClientRect();
+          var rim = box.width > box.height ? box.height / 5 : 0;
+          return { words: text.textContent, left: box.left, right: box.right,
+            top: box.top + rim, bottom: box.bottom - rim };
+        }
+        var count = 0;
+        document.querySelectorAll('svg').forEach(function (svg) {
+          var paper = svg.getBoundingClientRect();
+          var texts = Array.from(svg.querySelectorAll('text')).map(placed);
+          count += texts.length;
+          texts.forEach(function (one, at) {
+            if (one.left < paper.left || one.right > paper.right || one.bottom > paper.bottom)
+              said += one.words + ' is outside; ';
+            texts.slice(at + 1).forEach(function (other) {
+              if (one.left < other.right && other.left < one.right &&
+                  one.top < other.bottom && other.top < one.bottom)
+                said += one.words + ' is over ' + other.words + '; ';
+            });
+          });
+        });
+        said += count > 3000 ? 'looked at' : count;";
+    let folder = Folder::new();
+    let page = pictures(&folder);
+    assert_eq!(said(&folder, &page, 1_280, script), "looked at");
+    // What has no room is seen.
+    let moved = "var texts = document.querySelectorAll('text');\n\
+                 texts[0].setAttribute('x', 990); texts[1].setAttribute('y', 30);";
+    let moved = said(&folder, &page, 1_280, &format!("{moved}{script}"));
+    assert!(
+        moved.contains(" is outside; ") && moved.len() > 20,
+        "{moved}"
+    );
 }

@@ -101,7 +101,6 @@ impl Paper {
     /// in the window or, of a whole cycle, around its end; of other windows nothing where
     /// there are none.
     fn is_joined(&self, strip: &Element, stop: u8, (first, length): (i32, u32)) {
-        let gaps = engine::gaps(&self.file, &self.sheet).expect("a sheet that fits");
         let gap: u16 = strip.number("data-gap");
         let joins = strip.of_class("gap");
         let board = self.board(stop, first, length);
@@ -110,35 +109,25 @@ impl Paper {
             let at_the_end = first.checked_add_unsigned(length).is_none();
             return assert!(length != self.cycle() || at_the_end, "stop {stop}");
         };
-        assert_eq!(joins.len(), 1);
-        assert_eq!(gaps.at(stop), Some(join.number("data-gap")));
-        let [from, to] = ["data-from", "data-to"].map(|name| join.number::<i64>(name));
-        assert_eq!(to - from, i64::from(gap));
-        let lines = join.get("data-lines").expect("two lines");
-        let (one, other) = lines.split_once(' ').expect("two lines");
-        let [one, other] = [one, other].map(|line| line.parse().expect("a line"));
-        let behind = i64::from(first) + i64::from(length);
-        assert!(to < behind || length == self.cycle());
-        // A cycle earlier all is the same.
-        let again = if to < behind {
-            to
-        } else {
-            to - i64::from(length)
-        };
-        let (earlier, later) = ((from, one), (again, other));
-        let [earlier, later] = [earlier, later].map(|(time, line)| Arrival { time, line });
-        let times = if earlier == later && gap == 0 { 2 } else { 1 };
-        for arrival in [earlier, later] {
+        assert_eq!((joins.len(), join.number("data-gap")), (1, gap));
+        assert_eq!(join.named("text")[0].text(), format!("{gap} min"));
+        let [one, mut other] = joined(join);
+        assert_eq!(other.time - one.time, i64::from(gap));
+        if other.time >= i64::from(first) + i64::from(length) {
+            // A cycle earlier all is the same.
+            assert_eq!(length, self.cycle());
+            other.time -= i64::from(length);
+        }
+        let times = if one == other && gap == 0 { 2 } else { 1 };
+        for arrival in [one, other] {
             let there = board.iter().filter(|other| **other == arrival).count();
             assert!(there >= times, "{arrival:?} at stop {stop}");
         }
         let [begin, end] = way(join);
-        assert!(places(strip, earlier).contains(&begin), "stop {stop}");
-        assert!(places(strip, later).contains(&end), "stop {stop}");
+        assert!(places(strip, one).contains(&begin), "stop {stop}");
+        assert!(places(strip, other).contains(&end), "stop {stop}");
         // One that comes once in the cycle that is drawn is joined with itself, all around.
-        assert_eq!(begin == end, earlier == later && gap > 0, "stop {stop}");
-        let label = join.named("text");
-        assert_eq!(label[0].text(), format!("{gap} min"));
+        assert_eq!(begin == end, one == other && gap > 0, "stop {stop}");
     }
 
     /// Demands a title with the rating, and a sentence for each stop.
@@ -169,6 +158,17 @@ impl Paper {
             assert!(says, "no '{sentence}' in {described}");
         }
     }
+}
+
+/// The two arrivals that are said to be joined.
+fn joined(join: &Element) -> [Arrival; 2] {
+    let [from, to] = ["data-from", "data-to"].map(|name| join.number::<i64>(name));
+    let lines = join.get("data-lines").expect("two lines");
+    let (one, other) = lines.split_once(' ').expect("two lines");
+    [(from, one), (to, other)].map(|(time, line)| Arrival {
+        time,
+        line: line.parse().expect("a line"),
+    })
 }
 
 /// Whether two arrivals of a board are so far apart.
@@ -520,55 +520,44 @@ fn other_names_than_of_pictures() {
 }
 
 /// What is refused writes no file, and leaves one that is there as it is.
+fn refuses(words: &[&str], out: &str, err: &str) {
+    let folder = Folder::new();
+    let kept = folder.file("kept.svg", "as it was");
+    let target = format!("{}/new.svg", folder.name());
+    for file in [&kept, &target, "-"] {
+        let words = [&["draw", words[0], words[1], file], &words[2..]].concat();
+        exam(&words).told(out, 1, &[err]);
+    }
+    assert!(!std::path::Path::new(&target).exists());
+    assert_eq!(std::fs::read_to_string(&kept).expect("a file"), "as it was");
+}
+
 #[test]
 fn refused() {
     let folder = Folder::new();
-    let kept = folder.file("kept.svg", "as it was");
     let short = folder.file("short.sheet", "0");
-    let target = format!("{}/new.svg", folder.name());
     let bad = folder.file("bad.hex", "4C0000 45");
     let sheet = "samples/two_lines/perfect.sheet";
-    let cases: [(&[&str], &str, &str); 6] = [
-        (
-            &[HEX, &short],
-            "refused 15 at 0\n",
-            "  lines: 2; sheet: 1 starts\n",
-        ),
-        (
-            &[HEX, &short, "--circle", "64"],
-            "refused 15 at 0\n",
-            "  lines: 2; sheet: 1 starts\n",
-        ),
-        (
-            &[HEX, sheet, "--length", "10081"],
-            "refused 22 at 0\n",
-            "exam: refused 22 at 0: the board is longer than 10,080 minutes\n  \
-             asked for: 10081 minutes\n",
-        ),
-        (
-            &[HEX, sheet, "--circle", "64"],
-            "refused 8 at 0\n",
-            "the stop asked for is above 63\n  asked for: stop 64\n",
-        ),
-        (
-            &[HEX, sheet, "--circle", "4294967295"],
-            "refused 8 at 0\n",
-            "asked for: stop 4294967295\n",
-        ),
-        (
-            &[&bad, sheet, "--length", "10081"],
-            "refused 5 at 0\n",
-            "the period isn't",
-        ),
-    ];
-    for (words, out, err) in cases {
-        for file in [&kept, &target, "-"] {
-            let words = [&["draw", words[0], words[1], file], &words[2..]].concat();
-            exam(&words).told(out, 1, &[err]);
-        }
-        assert!(!std::path::Path::new(&target).exists());
+    let lengths = "the sheet hasn't one start for each line\n  lines: 2; sheet: 1 starts\n";
+    refuses(&[HEX, &short], "refused 15 at 0\n", lengths);
+    for more in ["--circle=64", "--length=10081"] {
+        refuses(&[HEX, &short, more], "refused 15 at 0\n", lengths);
     }
-    assert_eq!(std::fs::read_to_string(&kept).expect("a file"), "as it was");
+    let long = "exam: refused 22 at 0: the board is longer than 10,080 minutes\n  \
+                asked for: 10081 minutes\n";
+    refuses(
+        &[HEX, sheet, "--length", "10081"],
+        "refused 22 at 0\n",
+        long,
+    );
+    for stop in ["64", "256", "4294967295"] {
+        let words = format!("the stop asked for is above 63\n  asked for: stop {stop}\n");
+        refuses(&[HEX, sheet, "--circle", stop], "refused 8 at 0\n", &words);
+    }
+    for more in ["--circle=64", "--length=10081"] {
+        let words = "the period isn't 1 to 1,440";
+        refuses(&[&bad, sheet, more], "refused 5 at 0\n", words);
+    }
 }
 
 /// Help says how an answer looks.
