@@ -17,12 +17,9 @@ pub fn number(number: impl ToString) -> String {
     format!("<td class=\"number\">{}</td>", escaped(&number.to_string()))
 }
 
-/// A cell with a name, which may be long, or with none.
-pub fn name(name: Option<&str>) -> String {
-    format!(
-        "<td class=\"name\">{}</td>",
-        escaped(name.unwrap_or_default())
-    )
+/// The cell that heads a row, a name, which may be long.
+pub fn head(name: &str) -> String {
+    format!("<th scope=\"row\" class=\"name\">{}</th>", escaped(name))
 }
 
 /// A cell with a list: an item under the other, or in the class `flow` one behind the other.
@@ -57,16 +54,16 @@ pub fn boxed(class: &str, label: &str, content: &str) -> String {
 
 #[cfg(test)]
 mod tests {
-    use super::{element, list, name, number, row, table};
+    use super::{element, head, list, number, row, table};
 
     #[test]
     fn texts_are_escaped() {
         let signs = "<b> & \"c\"";
         let written = "&lt;b&gt; &amp; &quot;c&quot;";
         assert_eq!(element("p", signs), format!("<p>{written}</p>"));
-        let cells = row(&[name(Some(signs)), name(None), number(-3)]);
+        let cells = row(&[head(signs), number(-3)]);
         let expected = format!(
-            "<tr><td class=\"name\">{written}</td><td class=\"name\"></td>\
+            "<tr><th scope=\"row\" class=\"name\">{written}</th>\
              <td class=\"number\">-3</td></tr>\n"
         );
         assert_eq!(cells, expected);

@@ -1,8 +1,8 @@
 //! The key: the best timetable, or that it isn't known.
 
-use super::html::{element, name, number, row, table};
+use super::html::element;
 use super::picture::picture;
-use super::sitting::Sitting;
+use super::sitting::{in_line_order, Sitting};
 use crate::hall::bound;
 use crate::output::lines::shown;
 use engine::{Best, Refusal, Searched, Sheet};
@@ -21,16 +21,11 @@ pub fn section(sitting: &Sitting) -> Result<String, Refusal> {
 fn found(sitting: &Sitting, best: &Best) -> Result<String, Refusal> {
     let words = "The best timetable: no whole-number starts are rated higher.";
     let rating = format!("{} tries {}", shown(best.rating()), best.tries());
-    let names = &sitting.network.names;
-    let starts: String = (0..)
-        .zip(best.starts())
-        .map(|(line, start)| row(&[number(line), name(names.line(line)), number(start)]))
-        .collect();
-    let starts = table("Starts of the key", &["Line", "Name", "Start"], &starts);
     let key = Sheet::of_starts(best.starts());
     let picture = picture(sitting, &key, ("key-picture", "Picture of the key"))?;
     let (words, rating) = (element("p", words), element("code", &rating));
-    Ok(format!("{words}\n<p>{rating}</p>\n{starts}{picture}"))
+    let starts = element("p", &in_line_order(best.starts()));
+    Ok(format!("{words}\n<p>{rating}</p>\n{starts}\n{picture}"))
 }
 
 fn unknown(sitting: &Sitting) -> String {

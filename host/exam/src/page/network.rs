@@ -1,7 +1,8 @@
 //! The network's lines and stops, as `exam show` has them.
 
-use super::html::{element, list, name, number, row, table};
+use super::html::{element, head, list, number, row, table};
 use super::sitting::Sitting;
+use crate::output::named;
 use engine::plan::Names;
 use engine::{Call, Contents, Refusal};
 use std::collections::BTreeSet;
@@ -21,18 +22,14 @@ fn lines(contents: &Contents, names: &Names) -> String {
     let numbers = 0..contents.periods.len() as u8;
     let line = |line: u8| {
         let calls = contents.along(line);
-        let call = |call: &Call| {
-            let name = with_name("stop", call.stop, names.stop(call.stop));
-            format!("at {} {name}", call.offset)
-        };
+        let call = |call: &Call| format!("at {} {}", call.offset, named::stop(names, call.stop));
         row(&[
-            number(line),
-            name(names.line(line)),
+            head(&named::with(line, names.line(line))),
             number(contents.periods[usize::from(line)]),
             list("flow", calls.iter().map(call)),
         ])
     };
-    let heads = ["Line", "Name", "Every", "Calls, minutes after its start"];
+    let heads = ["Line", "Every", "Calls, minutes after its start"];
     table("Lines", &heads, &numbers.map(line).collect::<String>())
 }
 
@@ -42,32 +39,14 @@ fn stops(contents: &Contents, names: &Names) -> String {
     let stops: BTreeSet<u8> = called.chain(names.stops()).collect();
     let stop = |stop: u8| {
         let calls = contents.at_stop(stop);
-        let call = |call: &Call| {
-            let name = with_name("line", call.line, names.line(call.line));
-            format!("{name} at {}", call.offset)
-        };
+        let call = |call: &Call| format!("{} at {}", named::line(names, call.line), call.offset);
         let lines = match calls.is_empty() {
             true => element("td", "no line calls here"),
             false => list("flow", calls.iter().map(call)),
         };
-        row(&[number(stop), name(names.stop(stop)), lines])
+        row(&[head(&named::with(stop, names.stop(stop))), lines])
     };
-    let heads = [
-        "Stop",
-        "Name",
-        "Lines that call here, minutes after their start",
-    ];
-    table(
-        "Stops",
-        &heads,
-        &stops.into_iter().map(stop).collect::<String>(),
-    )
-}
-
-/// `stop 5 Market`, or `stop 5`.
-fn with_name(what: &str, number: u8, name: Option<&str>) -> String {
-    match name {
-        Some(name) => format!("{what} {number} {name}"),
-        None => format!("{what} {number}"),
-    }
+    let heads = ["Stop", "Lines that call here, minutes after their start"];
+    let rows: String = stops.into_iter().map(stop).collect();
+    table("Stops", &heads, &rows)
 }

@@ -1,14 +1,13 @@
 //! One sheet: its mark, what decides, where it loses, and its picture.
 
-use super::html::{element, escaped, list, number, row, table};
+use super::html::{element, escaped, head, list, number, row, table};
 use super::picture::picture;
-use super::sitting::{sheet_id, Sitting};
+use super::sitting::{in_line_order, sheet_id, Sitting};
 use crate::hall::explaining::{explained, Change, Explained, Stop};
 use crate::hall::outcome::{Outcome, Row};
 use crate::hall::report::in_words;
 use crate::hall::verdict::verdict;
 use crate::output::arrivals::{clock, day};
-use crate::output::lines::joined;
 use crate::output::named;
 use crate::output::names::shown;
 use engine::plan::Names;
@@ -61,7 +60,7 @@ fn told(sitting: &Sitting, sheet: &Sheet, name: &str) -> Result<String, Refusal>
     let names = &sitting.network.names;
     let explained = explained(sitting.network.bytes(), sheet, &sitting.key)?;
     let sentences = verdict(&explained, names).join(" ");
-    let starts = format!("Starts in line order: {}", joined(&starts(sheet)));
+    let starts = in_line_order(&starts(sheet));
     let losses = losses(&explained, names, name);
     let (sentences, starts) = (element("p", &sentences), element("p", &starts));
     Ok(format!("{sentences}\n{starts}\n{losses}"))
@@ -101,11 +100,11 @@ fn losses(explained: &Explained, names: &Names, name: &str) -> String {
 
 fn loss(stop: &Stop, names: &Names) -> String {
     let least = if stop.is_least { ", the least gap" } else { "" };
-    let head = named::with(stop.number, names.stop(stop.number)) + least;
+    let name = named::with(stop.number, names.stop(stop.number));
     let arrivals = stop.pair.iter().flatten();
     let arrivals = arrivals.map(|arrival| arrived(arrival, names));
     row(&[
-        format!("<th scope=\"row\" class=\"name\">{}</th>", escaped(&head)),
+        head(&format!("{name}{least}")),
         number(stop.gap),
         stop.key_gap.map_or(element("td", ""), number),
         list("", arrivals),

@@ -3,6 +3,7 @@
 use crate::hall::explaining::Key;
 use crate::hall::outcome::Row;
 use crate::input::network::Network;
+use crate::output::lines::joined;
 use engine::Searched;
 
 /// A network, the search for its best timetable, and the sheets.
@@ -34,4 +35,9 @@ impl Sitting<'_> {
 /// The id of a sheet's section, by its place.
 pub fn sheet_id(place: usize) -> String {
     format!("sheet-{}", place + 1)
+}
+
+/// The starts of a timetable, in the same words for the key and for each sheet.
+pub fn in_line_order(starts: &[i32]) -> String {
+    format!("Starts in line order: {}", joined(starts))
 }

@@ -124,8 +124,8 @@ fn the_words_of_the_page() {
         "Mark 100, remainder 0: below",
         "No mark: refused",
         "lines: 4; sheet: 3 starts",
-        "at 2 stop 4 Mill",
-        "line 3 Quarry bus at 20",
+        "1 'Market bus'30at 2 stop 4 'Mill'",
+        "0 'Church'line 0 'School bus' at 0line 3 'Quarry bus' at 20",
     ] {
         assert!(texts.contains(piece), "no '{piece}' in {texts}");
     }
@@ -149,15 +149,17 @@ fn the_words_of_the_page() {
     );
 }
 
-/// The starts of the key, in the table of its section.
+/// The key's section has the rating, the starts and the picture of the best timetable.
 #[test]
 fn the_key_is_that_of_the_search() {
     let (root, _) = page("samples/two_lines.hex", "samples/two_lines", &[]);
     let keys = root.named("section");
     let key = keys.iter().find(|section| section.get("id") == Some("key"));
     let key = key.expect("a section");
-    let starts: Vec<String> = key.named("tr").into_iter().map(words).collect();
-    assert_eq!(starts, ["LineNameStart", "00", "13"]);
+    let texts = words(key);
+    for piece in ["gap 2 sum 2 tries 21", "Starts in line order: 0 3"] {
+        assert!(texts.contains(piece), "no '{piece}' in {texts}");
+    }
     assert_eq!(key.named("svg").len(), 1);
 }
 
