@@ -1,7 +1,7 @@
 //! The page of `exam report` in a real browser, at the widths of a desk and of a phone, and on
 //! paper, and the texts of pictures. Where there is no Chromium the tests say that they are passed over.
 
-use crate::common::{exam, Folder, HEX};
+use crate::common::{exam, Folder};
 use papers::child::Limited;
 use papers::files::{bytes_of, dense_file, sheet, sheet_bytes, valid_commands, Dice, Stated};
 use std::os::unix::process::CommandExt;
@@ -120,6 +120,27 @@ fn no_page_is_wider_than_its_window() {
     assert_eq!(said(&folder, &village, 390, &wide), "390 390 500");
 }
 
+/// Clicks on the headings of marks, twice, names, twice, statuses and sums; what is said is the
+/// order of the sheets and what the headings say of it, before and behind each.
+const CLICKS: &str = "
+var heads = Array.from(document.querySelectorAll('#marks thead th'));
+function look() {
+  var rows = Array.from(document.querySelectorAll('#marks tbody tr'));
+  var names = rows.map(function (row) { return row.cells[0].textContent[0]; });
+  var sorted = heads.map(function (head) { return head.getAttribute('aria-sort') || '-'; });
+  said += names.join('') + ' ' + sorted.join(' ') + ';';
+}
+look();
+[4, 4, 0, 0, 1, 3].forEach(function (column) {
+  var button = heads[column].querySelector('button');
+  button.focus();
+  said += document.activeElement === button ? '' : 'no focus;';
+  button.click();
+  look();
+});
+said += document.getElementById('hint').hidden ? 'no hint' : 'hint';
+";
+
 /// A click sorts, the largest mark first, and a second one turns it round; sheets without a
 /// mark stay last. The headings are buttons, which keys reach.
 #[test]
@@ -130,49 +151,32 @@ fn a_click_sorts() {
     let folder = Folder::new();
     let sheets = Folder::new();
     for (name, starts) in [
-        ("a", "0 0"),
-        ("b", "0 3"),
+        ("a", "0 718"),
+        ("b", "0 719"),
         ("c", "0"),
         ("d", "0 1"),
         ("e", "x"),
-        ("f", "0 3"),
+        ("f", "0 720"),
     ] {
         sheets.file(&format!("{name}.sheet"), starts);
     }
-    let page = page(&folder, HEX, &sheets.name(), &[]);
-    let script = "
-        var heads = Array.from(document.querySelectorAll('#marks thead th'));
-        function look(head) {
-          var rows = Array.from(document.querySelectorAll('#marks tbody tr'));
-          var names = rows.map(function (row) { return row.cells[0].textContent[0]; });
-          var sorted = heads.map(function (head) { return head.getAttribute('aria-sort') || '-'; });
-          said += names.join('') + ' ' + sorted.join(' ') + ';';
-        }
-        look();
-        [4, 4, 0, 0, 1, 3].forEach(function (column) {
-          var button = heads[column].querySelector('button');
-          button.focus();
-          said += document.activeElement === button ? '' : 'no focus;';
-          button.click();
-          look();
-        });
-        said += document.getElementById('hint').hidden ? 'no hint' : 'hint';";
-    let ranked = exam(&["mark", HEX, &sheets.name(), "--ranked"]).out;
-    let ranked: String = ranked
-        .lines()
-        .filter_map(|line| line.chars().next())
-        .collect();
+    // Of 720 minutes both 718 and 719 have the mark 99, and the remainders decide.
+    let network = folder.file("day.hex", "4C05A0 4C05A0 4300000000 4301000000 45");
+    let page = page(&folder, &network, &sheets.name(), &[]);
+    let ranked = exam(&["mark", &network, &sheets.name(), "--ranked"]).out;
+    let ranked = ranked.lines().filter_map(|line| line.chars().next());
+    assert_eq!(ranked.collect::<String>(), "fbadce");
     let expected = [
-        "abcdef ascending - - - - -".to_string(),
-        format!("{ranked} - - - - descending -"),
-        "dabfce - - - - ascending -".to_string(),
-        "abcdef ascending - - - - -".to_string(),
-        "fedcba descending - - - - -".to_string(),
-        "bfadce - ascending - - - -".to_string(),
-        "bfadce - - - descending - -".to_string(),
-        "hint".to_string(),
+        "abcdef ascending - - - - -",
+        "fbadce - - - - descending -",
+        "dabfce - - - - ascending -",
+        "abcdef ascending - - - - -",
+        "fedcba descending - - - - -",
+        "fabdce - ascending - - - -",
+        "fbadce - - - descending - -",
+        "hint",
     ];
-    let said = said(&folder, &page, 1_280, script);
+    let said = said(&folder, &page, 1_280, CLICKS);
     assert_eq!(said.split(';').collect::<Vec<_>>(), expected);
 }
 

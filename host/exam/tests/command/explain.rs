@@ -1,9 +1,10 @@
 //! `exam explain`.
 
 use crate::common::{exam, exam_with, Folder, Ran, HEX, P9};
-use engine::Sheet;
+use engine::{Arrival, Sheet};
 use papers::files::{sheet, sheet_bytes, Dice};
 use papers::small::small_file_for_gaps;
+use std::cmp::Ordering;
 use std::collections::BTreeMap;
 
 const LEGEND_BESIDE_KEY: &str = "
@@ -179,47 +180,44 @@ fn undecided() {
 fn a_key_that_was_given() {
     let folder = Folder::new();
     let key = folder.file("key.sheet", "0 3");
-    let given = |key: &str| {
-        format!(
-            "The key is {key}, which needn't be the best: nothing was searched.\n\
-             What the sheet has by this key is no mark.\n"
-        )
-    };
     let line = "gap 1 sum 1 key gap 2 sum 2 below by this key 50 remainder 0";
-    let sentences = "Below the key given: the least gap decides, 1 minute here and 2 in the key.\n\
-                     The least gap is at stop 0 'Market'.\n";
+    let sentences = format!(
+        "Below the key given: the least gap decides, 1 minute here and 2 in the key.\n\
+         The least gap is at stop 0 'Market'.\n\
+         The key is {key}, which needn't be the best: nothing was searched.\n\
+         What the sheet has by this key is no mark.\n"
+    );
     let stops = "stop 0 'Market'  gap 1  key 2  loses  least\n  \
                  time 37  day 0  00:37  line 1  Green\n  \
                  time 38  day 0  00:38  line 0  Red\n";
-    let sentences = format!("{sentences}{}", given(&key));
     let below = market("0 0", &["--key", &key]);
     beside_key(&below, line, &sentences, stops);
-    let words = format!(" mark {}", below.out);
-    assert!(
-        !words[6..].contains(" mark ") && !words.contains(" best gap "),
-        "{words}"
-    );
+    for words in [" best gap ", " mark 50", "tries"] {
+        assert!(!below.out.contains(words), "{below:?}");
+    }
     let help = exam(&["explain", "--help"]).out;
     assert!(help.contains(&format!("\n  {line}\n")), "{help}");
+}
+
+#[test]
+fn above_and_equal_to_a_key() {
+    let folder = Folder::new();
     // In bytes, by the flag.
-    let bytes = folder.file("key", sheet_bytes(&[0, 0]));
-    let sheet = folder.file("a", sheet_bytes(&[0, 3]));
-    let words = ["explain", HEX, &sheet, "--sheet-bytes", "--key", &bytes];
+    let [sheet, key] = [("a", [0, 3]), ("key", [0, 0])]
+        .map(|(name, starts)| folder.file(name, sheet_bytes(&starts)));
+    let above = exam(&["explain", HEX, &sheet, "--sheet-bytes", "--key", &key]);
     let line = "gap 2 sum 2 key gap 1 sum 1 above by this key 200 remainder 0\n\n\
                 Above the key given: the least gap decides, 2 minutes here and 1 in the key.\n";
-    let above = exam(&words);
     assert!(
         above.status == 0 && above.out.starts_with(line),
         "{above:?}"
     );
-    assert!(
-        above.out.contains("\nstop 0  gap 2  key 1  gains  least\n"),
-        "{above:?}"
-    );
+    let stop = "\nstop 0  gap 2  key 1  gains  least\n";
+    assert!(above.out.contains(stop), "{above:?}");
+    let equal = exam(&["explain", HEX, &sheet, "--sheet-bytes", "--key", &sheet]);
     let line = "gap 2 sum 2 key gap 2 sum 2 equal by this key 100 remainder 0\n\n\
                 Equal to the key given: the least gap and the sum of the gaps are those of the \
                 key.\n";
-    let equal = market("0 3", &["--key", &key]);
     assert!(
         equal.status == 0 && equal.out.starts_with(line),
         "{equal:?}"
@@ -366,6 +364,25 @@ fn told(text: &str) -> BTreeMap<u8, Told> {
     stops
 }
 
+/// A stop's words are by its gaps, and its arrivals on the board and as far apart as the gap.
+fn is_so(told: &Told, least: u32, is_arrival: impl Fn(i64, u8) -> bool) {
+    let change = match told.gap.cmp(&told.key) {
+        Ordering::Less => "loses",
+        Ordering::Equal => "same",
+        Ordering::Greater => "gains",
+    };
+    let least = (told.gap == least).then_some("least");
+    let words: Vec<&str> = [change].into_iter().chain(least).collect();
+    assert_eq!(told.words, words);
+    let [one, other] = told.arrivals[..] else {
+        panic!("{} arrivals", told.arrivals.len());
+    };
+    assert_eq!(other.0 - one.0, i64::from(told.gap));
+    for (time, line) in [one, other] {
+        assert!(is_arrival(time, line), "line {line} at {time}");
+    }
+}
+
 /// What is printed is the engine's own, on seeded files: the first line that of `exam mark`,
 /// gaps whose least and sum are the rating, arrivals of the stop's board.
 #[test]
@@ -393,31 +410,13 @@ fn on_seeded_files() {
             (Some(rating.least), rating.sum)
         );
         for (stop, told) in &stops {
-            let change = match told.gap.cmp(&told.key) {
-                std::cmp::Ordering::Less => "loses",
-                std::cmp::Ordering::Equal => "same",
-                std::cmp::Ordering::Greater => "gains",
-            };
-            let least = (told.gap == rating.least).then_some("least");
-            let words: Vec<&str> = [change].into_iter().chain(least).collect();
-            assert_eq!(told.words, words);
-            *seen.entry(change.to_string()).or_default() += 1;
-            let [one, other] = told.arrivals[..] else {
-                panic!("not two arrivals: {ran:?}");
-            };
-            assert_eq!(other.0 - one.0, i64::from(told.gap));
-            for (time, line) in [one, other] {
-                let minute = time as i32;
-                let board = engine::board(&file, &sheet, u32::from(*stop), minute, 1);
-                let board = board.expect("a board");
-                assert!(board.iter().any(|arrival| arrival.line == line), "{ran:?}");
-            }
+            is_so(told, rating.least, |time, line| {
+                let board = engine::board(&file, &sheet, u32::from(*stop), time as i32, 1);
+                board.expect("a board").contains(&Arrival { time, line })
+            });
+            *seen.entry(told.words[0].clone()).or_default() += 1;
         }
     }
-    assert!(
-        ["loses", "same", "gains"]
-            .iter()
-            .all(|word| seen[*word] > 5),
-        "{seen:?}"
-    );
+    let words = ["loses", "same", "gains"];
+    assert!(words.iter().all(|word| seen[*word] > 5), "{seen:?}");
 }

@@ -2,7 +2,7 @@
 
 use crate::common::xml::{checked, Element};
 use crate::common::{command, ended, exam, exam_with, Folder, Ran, HEX, ROOT};
-use engine::{Mark, Sheet};
+use engine::{Mark, Refusal, Sheet};
 use papers::files::{any_sheet, sheet_bytes, Dice};
 use papers::small::small_file_for_gaps;
 use std::ffi::OsStr;
@@ -361,6 +361,25 @@ fn too_many_marks() {
     assert_eq!(words.matches(none).count(), 2, "{words}");
 }
 
+/// A sheet's row behind its name, by the engine's own call.
+fn cells(mark: &Result<Mark, Refusal>) -> Vec<String> {
+    match mark {
+        Ok(Mark::Decided {
+            sheet,
+            equal,
+            hundred,
+            ..
+        }) => {
+            let word = if *equal { "equal" } else { "below" };
+            let numbers = [sheet.least, sheet.sum, hundred.mark, hundred.remainder];
+            let numbers = numbers.map(|number| number.to_string());
+            [word.to_string()].into_iter().chain(numbers).collect()
+        }
+        Ok(Mark::Undecided { .. }) => panic!("a small network"),
+        Err(_) => row(&["refused", "", "", "", ""]),
+    }
+}
+
 /// On seeded networks a sheet has the mark of the engine's own call, a section, and a
 /// picture where it is rated; the page is well-formed every time.
 #[test]
@@ -382,29 +401,12 @@ fn on_seeded_files() {
         assert!(ran.status <= 1, "{ran:?}");
         let pictures = expected.iter().filter(|mark| mark.is_ok()).count();
         assert_eq!(root.named("svg").len(), pictures + 1);
-        let rows = rows(&root);
-        for (place, mark) in expected.iter().enumerate() {
-            let cells = match mark {
-                Ok(Mark::Decided {
-                    sheet,
-                    equal,
-                    hundred,
-                    ..
-                }) => {
-                    let word = if *equal { "equal" } else { "below" };
-                    let numbers = [sheet.least, sheet.sum, hundred.mark, hundred.remainder];
-                    let numbers = numbers.map(|number| number.to_string());
-                    let cells = numbers.iter().map(String::as_str);
-                    row(&[word].into_iter().chain(cells).collect::<Vec<_>>())
-                }
-                Ok(Mark::Undecided { .. }) => panic!("a small network"),
-                Err(_) => row(&["refused", "", "", "", ""]),
-            };
-            assert_eq!(rows[place + 1][1..], cells);
-            rated += usize::from(mark.is_ok());
-            refused += usize::from(mark.is_err());
-        }
         assert_eq!(sections(&root).len(), expected.len());
+        for (row, mark) in rows(&root).iter().skip(1).zip(&expected) {
+            assert_eq!(row[1..], cells(mark));
+        }
+        rated += pictures;
+        refused += expected.len() - pictures;
     }
     assert!(rated > 100 && refused > 10, "{rated} {refused}");
 }
