@@ -74,7 +74,7 @@ fn named_stops(explained: &Explained, names: &Names, which: impl Fn(&Stop) -> bo
     let named = |stop: &u8| named::with(*stop, names.stop(*stop));
     match numbers.split_last() {
         Some((last, [])) => format!("stop {}", named(last)),
-        Some((last, others)) if others.len() < MOST_NAMED => {
+        Some((last, others)) if numbers.len() <= MOST_NAMED => {
             let others: Vec<String> = others.iter().map(named).collect();
             format!("stops {} and {}", others.join(", "), named(last))
         }
@@ -86,5 +86,47 @@ fn minutes(count: u32) -> String {
     match count {
         1 => "1 minute".to_string(),
         _ => format!("{count} minutes"),
+    }
+}
+
+#[cfg(test)]
+mod tests {
+    use super::verdict;
+    use crate::hall::explaining::{explained, Key};
+    use engine::plan::Names;
+    use engine::Sheet;
+
+    /// What is said of a line that calls once at each of so many stops, from stop 3 on.
+    fn said(stops: u8, names: &Names) -> Vec<String> {
+        let calls = (3..3 + stops).map(|stop| format!("4300{stop:02X}0008"));
+        let typed = format!("4C000F {} 45", calls.collect::<Vec<_>>().join(" "));
+        let network = engine::typed::read(typed.as_bytes()).expect("typed");
+        let sheet = Sheet::of_starts(&[0]);
+        let explained = explained(network.bytes(), &sheet, &Key::Unknown);
+        verdict(&explained.expect("a sheet that fits"), names)
+    }
+
+    /// Few stops are named, and of more than eight it is said how many they are.
+    #[test]
+    fn stops_in_a_sentence() {
+        let least = |stops, at: &str| {
+            let undecided = "Undecided: the best timetable isn't known, so that there is no key.";
+            let least = format!("The least gap is 15 minutes, at {at}.");
+            assert_eq!(said(stops, &Names::default()), [undecided, &least]);
+        };
+        least(1, "stop 3");
+        least(2, "stops 3 and 4");
+        least(3, "stops 3, 4 and 5");
+        least(8, "stops 3, 4, 5, 6, 7, 8, 9 and 10");
+        least(9, "9 stops");
+        least(61, "61 stops");
+    }
+
+    #[test]
+    fn stops_by_their_names() {
+        let plan = engine::plan::read(b"stop 3 Mill\nstop 5 Market");
+        let plan = plan.expect("a plan");
+        let least = "The least gap is 15 minutes, at stops 3 'Mill', 4 and 5 'Market'.";
+        assert_eq!(said(3, plan.names())[1], least);
     }
 }

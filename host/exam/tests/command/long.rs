@@ -172,9 +172,12 @@ fn an_interrupted_search_says_what_it_has() {
     let folder = Folder::new();
     let network = long_network(&folder);
     let sheet = folder.file("a.sheet", "0 ".repeat(16));
-    let cases: [(&[&str], &str); 3] = [
+    let page = format!("{}/a.html", folder.name());
+    let cases: [(&[&str], &str); 5] = [
         (&["best", &network], "gap "),
         (&["mark", &network, &sheet], "gap "),
+        (&["explain", &network, &sheet], "gap "),
+        (&["report", &network, &sheet, &page], "gap "),
         (&["wanted", &network, "2"], "tries "),
     ];
     for (words, has) in cases {
@@ -192,6 +195,8 @@ fn an_interrupted_search_says_what_it_has() {
         assert_eq!(said.contains(" starts 0 "), has == "gap ", "{said}");
         assert_eq!((said.lines().count(), status.signal()), (1, Some(2)));
     }
+    // No page was written.
+    assert!(!std::path::Path::new(&page).exists());
 }
 
 /// Nobody wants words then, and the signal does what it always does.
