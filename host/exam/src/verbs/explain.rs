@@ -92,14 +92,16 @@ fn beside_best(request: &Request, network: &Network, sheet: Sheet) -> Result<Sta
     let searched = search(file, Manner::wanted_by(request, "marking".to_string()));
     let row = row.marked(file, &searched);
     let explained = searched.and_then(|found| explained(file, &sheet, &Key::of_search(&found)));
-    match explained {
-        Ok(explained) => put(text(
-            &row.outcome.line(),
-            &explained,
-            (&network.names, None),
-        ))?,
+    let explained = match explained {
+        Ok(explained) => explained,
         Err(refusal) => return refused_sheet(refusal, network, &sheet),
-    }
+    };
+    let of_key = match explained.beside {
+        Some(_) => "The key is the best timetable.\n",
+        None => "",
+    };
+    let line = row.outcome.line();
+    put(text(&line, &explained, (&network.names, of_key)))?;
     let status = row.outcome.status();
     if status == Status::Undecided {
         say(&used_up(network));
@@ -122,11 +124,11 @@ fn beside_key(
     }
     match by_key(network.bytes(), &sheet, key) {
         Ok((line, explained)) => {
-            let caution = format!(
+            let of_key = format!(
                 "The key is {key_name}, which needn't be the best: nothing was searched.\n\
-                 What the sheet has by this key is no mark."
+                 What the sheet has by this key is no mark.\n"
             );
-            put(text(&line, &explained, (&network.names, Some(caution))))?;
+            put(text(&line, &explained, (&network.names, &of_key)))?;
             Ok(Status::Done)
         }
         Err(refusal) => refused_sheet(refusal, network, &sheet),
@@ -145,16 +147,16 @@ fn by_key(file: &[u8], sheet: &Sheet, key: Sheet) -> Result<(String, Explained),
 }
 
 /// All that is printed: the text line, what decides, how to read the stops, and these.
-fn text(line: &str, explained: &Explained, (names, caution): (&Names, Option<String>)) -> String {
-    let sentences = verdict(explained, names).into_iter().chain(caution);
-    let sentences: String = sentences.map(|sentence| format!("{sentence}\n")).collect();
+fn text(line: &str, explained: &Explained, (names, of_key): (&Names, &str)) -> String {
+    let sentences = verdict(explained, names).into_iter();
+    let sentences: String = sentences.map(|sentence| sentence + "\n").collect();
     let legend = match explained.beside {
         Some(_) => LEGEND_BESIDE_KEY,
         None => LEGEND,
     };
     let stops = explained.stops.iter().map(|stop| block(stop, names));
     format!(
-        "{line}\n\n{sentences}\n{legend}\n{}",
+        "{line}\n\n{sentences}{of_key}\n{legend}\n{}",
         stops.collect::<String>()
     )
 }

@@ -44,10 +44,16 @@ fn market(starts: &str, more: &[&str]) -> Ran {
     exam_with(&[&words, more].concat(), MARKET.as_bytes())
 }
 
-/// Demands the text line, the sentences and the stops, beside the key.
+/// Demands the text line, the sentences and the stops, beside a key.
 fn beside_key(ran: &Ran, line: &str, sentences: &str, stops: &str) {
     let text = format!("{line}\n\n{sentences}{LEGEND_BESIDE_KEY}{stops}");
     ran.printed(&text, 0);
+}
+
+/// The same beside the best timetable.
+fn beside_best(ran: &Ran, line: &str, sentences: &str, stops: &str) {
+    let sentences = format!("{sentences}The key is the best timetable.\n");
+    beside_key(ran, line, &sentences, stops);
 }
 
 /// By hand: at 37 and 38 the lines are one minute apart.
@@ -59,7 +65,7 @@ fn the_least_gap_decides() {
     let stops = "stop 0 'Market'  gap 1  key 2  loses  least\n  \
                  time 37  day 0  00:37  line 1  Green\n  \
                  time 38  day 0  00:38  line 0  Red\n";
-    beside_key(&market("0 0", &[]), line, sentences, stops);
+    beside_best(&market("0 0", &[]), line, sentences, stops);
     // The example of help, and the same without names.
     let help = exam(&["explain", "--help"]).out;
     let set_in: String = stops.lines().map(|line| format!("  {line}\n")).collect();
@@ -71,7 +77,7 @@ fn the_least_gap_decides() {
             .replace("  Green", "")
             .replace("  Red", "")
     });
-    beside_key(&exam(&["explain", HEX, &zeros]), line, &sentences, &stops);
+    beside_best(&exam(&["explain", HEX, &zeros]), line, &sentences, &stops);
 }
 
 /// P9: least gaps are equal, so that the mark is 100, and sums decide.
@@ -88,7 +94,7 @@ fn the_sum_decides() {
                  time 47  day 0  00:47  line 0\n  time 50  day 0  00:50  line 1\n\
                  stop 2  gap 4  key 3  gains\n  \
                  time 41  day 0  00:41  line 1\n  time 45  day 0  00:45  line 0\n";
-    beside_key(&typed(P9, "0 3", &[]), line, sentences, stops);
+    beside_best(&typed(P9, "0 3", &[]), line, sentences, stops);
 }
 
 #[test]
@@ -99,7 +105,7 @@ fn equal_to_the_best() {
     let stops = "stop 0 'Market'  gap 2  key 2  same  least\n  \
                  time 38  day 0  00:38  line 0  Red\n  \
                  time 40  day 0  00:40  line 1  Green\n";
-    beside_key(&market("0 3", &[]), line, &sentences, stops);
+    beside_best(&market("0 3", &[]), line, &sentences, stops);
 }
 
 /// A loop meets itself: both arrivals are those of one line, at two minutes or at one.
@@ -111,13 +117,13 @@ fn a_line_by_itself() {
     let stops = "stop 0  gap 2  key 2  same  least\n  \
                  time 3  day 0  00:03  line 0\n  time 5  day 0  00:05  line 0\n";
     let network = "4C000A 4300000003 4300000005 45";
-    beside_key(&typed(network, "0", &[]), line, &sentences, stops);
+    beside_best(&typed(network, "0", &[]), line, &sentences, stops);
     let line = "gap 0 sum 0 best gap 0 sum 0 equal mark 100 remainder 0 tries 1";
     let sentences = format!("{equal}The least gap is 0 minutes, at stop 0.\n");
     let stops = "stop 0  gap 0  key 0  same  least\n  \
                  time 3  day 0  00:03  line 0\n  time 3  day 0  00:03  line 0\n";
     let network = "4C000A 4300000003 430000000D 45";
-    beside_key(&typed(network, "0", &[]), line, &sentences, stops);
+    beside_best(&typed(network, "0", &[]), line, &sentences, stops);
 }
 
 /// Two lines at one minute; the best keeps them half a period apart.
@@ -129,7 +135,7 @@ fn at_one_minute() {
     let stops = "stop 0  gap 0  key 5  loses  least\n  \
                  time 6  day 0  00:06  line 0\n  time 6  day 0  00:06  line 1\n";
     let network = "4C000A 4C000A 4300000000 4301000000 45";
-    beside_key(&typed(network, "6 16", &[]), line, sentences, stops);
+    beside_best(&typed(network, "6 16", &[]), line, sentences, stops);
 }
 
 /// Line 2 is alone at stop 1; its second arrival is behind the cycle.
