@@ -41,7 +41,7 @@ pub fn section(sitting: &Sitting) -> String {
     let rows = sitting.rows.iter().enumerate();
     let rows: String = rows.map(|(place, sheet)| row(place, sheet)).collect();
     let table = format!(
-        "<table id=\"marks\">\n<caption>All sheets, by name</caption>\n<thead>\n<tr>{heads}</tr>\n\
+        "<table id=\"marks\">\n<caption>Sheets and their marks</caption>\n<thead>\n<tr>{heads}</tr>\n\
          </thead>\n<tbody>\n{rows}</tbody>\n</table>\n"
     );
     format!(
