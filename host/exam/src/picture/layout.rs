@@ -2,6 +2,7 @@
 
 use super::text::width;
 use super::timetable::{Stop, Timetable};
+use crate::hall::witness::Window;
 
 pub const WIDTH: f64 = 1_000.0;
 pub const MARGIN: f64 = 16.0;
@@ -70,9 +71,11 @@ impl Layout {
         ABOVE + stop.calls.len() as f64 * self.row + BELOW
     }
 
-    /// How many numbers of minutes have room beside each other, with this one the longest.
-    pub fn room_for(&self, minute: i64, size: f64) -> u32 {
-        let room = (self.right - self.left) / (width(&minute.to_string(), size) + 30.0);
+    /// How many numbers of minutes have room beside each other.
+    pub fn room_for_numbers(&self, window: Window, size: f64) -> u32 {
+        let (first, length) = (i64::from(window.first), i64::from(window.length));
+        let widths = [first, first + length].map(|minute| width(&minute.to_string(), size));
+        let room = (self.right - self.left) / (widths[0].max(widths[1]) + 22.0);
         room as u32
     }
 }

@@ -190,11 +190,10 @@ impl Strips<'_> {
     /// The round minutes over the strips, and below where these are high; and where that ends.
     fn ruler(&self, top: f64, bottom: f64) -> (String, f64) {
         let (layout, window) = (&self.layout, self.timetable.window);
-        let most = layout.room_for(window.first.into(), 11.0);
-        let minutes = round_minutes(window, most);
+        let minutes = round_minutes(window, layout.room_for_numbers(window, 11.0));
         let high = bottom - top > HIGH;
         let [from, to] = [top - 6.0, bottom + if high { 6.0 } else { 0.0 }].map(place);
-        let mut ruler = self.headings(top - 11.0);
+        let mut ruler = self.headings(top - 11.0) + "<g class=\"minutes\">\n";
         for minute in minutes {
             let x = layout.x(minute);
             let label = |y: f64| {
@@ -208,7 +207,7 @@ impl Strips<'_> {
                 ruler += &label(bottom + 19.0);
             }
         }
-        (ruler, bottom + if high { 24.0 } else { 0.0 })
+        (ruler + "</g>\n", bottom + if high { 24.0 } else { 0.0 })
     }
 
     /// What stands in the columns.

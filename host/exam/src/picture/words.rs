@@ -26,7 +26,7 @@ pub fn makes(stop: &Stop, names: &Names) -> Option<String> {
     match (stop.lone_line(), stop.pair) {
         (Some(line), _) => {
             let line = named::line(names, line);
-            Some(format!("one call alone, the gap is the period of {line}"))
+            Some(format!("the period of {line}, the only call here"))
         }
         (None, Some(pair)) => {
             let [one, other] = pair.map(|arrival| arrives(arrival, names));

@@ -222,7 +222,7 @@ fn a_loop_has_two_polygons() {
 #[test]
 fn one_call_alone() {
     let picture = checked(&ring(&["--circle=Mill"]).out);
-    let words = "one call alone, the gap is the period of line 0 'Ring bus'";
+    let words = "the period of line 0 'Ring bus', the only call here";
     assert!(picture
         .named("text")
         .iter()

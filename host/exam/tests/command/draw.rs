@@ -83,7 +83,7 @@ impl Paper {
         }
         // There are no marks but those of strips.
         assert_eq!(picture.of_class("a").len(), count);
-        is_to_scale(picture, length);
+        is_to_scale(picture, first, length);
         self.has_words(picture);
     }
 
@@ -231,32 +231,37 @@ fn marked(strip: &Element) -> Vec<Arrival> {
     arrivals
 }
 
-/// Demands that marks stand by their minutes: equal times apart, equally far apart.
-fn is_to_scale(picture: &Element, length: u32) {
-    let marks = picture.of_class("a");
-    let at = |mark: &Element| (mark.number::<i64>("data-time"), mark.number::<f64>("x"));
-    let Some(first) = marks
-        .iter()
-        .map(|mark| at(mark))
-        .min_by_key(|(time, _)| *time)
-    else {
-        return;
+/// Demands that marks stand under their minutes, as the numbers above them say.
+fn is_to_scale(picture: &Element, first: i32, length: u32) {
+    let numbers = picture.of_class("minutes")[0].named("text").into_iter();
+    let number = |text: &Element| {
+        (
+            text.text().parse::<i64>().expect("a minute"),
+            text.number("x"),
+        )
     };
-    let last = marks
-        .iter()
-        .map(|mark| at(mark))
-        .max_by_key(|(time, _)| *time);
-    let last = last.expect("a mark");
-    let minute = (last.1 - first.1) / (last.0 - first.0).max(1) as f64;
-    assert!(minute * f64::from(length) < 900.0);
-    for (time, x) in marks.iter().map(|mark| at(mark)) {
-        let expected = first.1 + (time - first.0) as f64 * minute;
+    let numbers: Vec<(i64, f64)> = numbers.map(number).collect();
+    let within = i64::from(first)..=i64::from(first) + i64::from(length);
+    assert!(numbers.iter().all(|(minute, _)| within.contains(minute)));
+    let marks = picture.of_class("a").into_iter();
+    let marks = marks.map(|mark| (mark.number::<i64>("data-time"), mark.number::<f64>("x")));
+    let placed: Vec<(i64, f64)> = numbers.iter().copied().chain(marks).collect();
+    let (Some(least), Some(most)) = (
+        placed.iter().min_by_key(|at| at.0),
+        placed.iter().max_by_key(|at| at.0),
+    ) else {
+        return assert_eq!(length, 0);
+    };
+    let minute = (most.1 - least.1) / (most.0 - least.0).max(1) as f64;
+    assert!(minute * f64::from(length) < 900.0 && (most.0 == least.0 || minute > 0.05));
+    for &(time, x) in &placed {
+        let expected = least.1 + (time - least.0) as f64 * minute;
         assert!(
             (x - expected).abs() < 0.02,
             "minute {time} at {x}, not {expected}"
         );
     }
-    assert!(last.0 == first.0 || minute > 0.05);
+    assert!(numbers.len() > 3 || length < 20, "{numbers:?}");
 }
 
 #[test]
@@ -318,6 +323,36 @@ fn seeded_networks_are_drawn() {
         marks > 10_000 && counts.iter().all(|count| *count > 15),
         "{marks} {counts:?}"
     );
+}
+
+/// What is said to those who don't see a picture, word for word.
+#[test]
+fn pictures_in_words() {
+    let words = |network: &str, sheet: &str, more: &[&str]| {
+        let picture = Paper::sample(network, sheet).picture(more);
+        picture.named("desc")[0].text()
+    };
+    assert_eq!(
+        words("loop.plan", "loop/perfect.sheet", &[]),
+        "14 arrivals at 3 stops, one common cycle, 60 minutes from minute 0. \
+         At stop 0 'Market' the gap is 3 minutes, the least, \
+         from line 0 'Ring bus' at minute 43 to line 1 'Station bus' at minute 46. \
+         At stop 1 'Mill' the gap is 30 minutes, the period of line 0 'Ring bus', the only \
+         call here. At stop 2 'Station' the gap is 4 minutes, \
+         from line 1 'Station bus' at minute 14 to line 0 'Ring bus' at minute 18."
+    );
+    // In the minutes that are asked for there may be no such two.
+    assert_eq!(
+        words(
+            "two_lines.hex",
+            "two_lines/perfect.sheet",
+            &["--from=8", "--length=1"]
+        ),
+        "1 arrival at 1 stop, 1 minute from minute 8. At stop 0 the gap is 2 minutes, the least."
+    );
+    let village = words("village.plan", "village/perfect.sheet", &[]);
+    let alike = " The stops 1 'Market', 2 'School' always rate alike.";
+    assert!(village.ends_with(alike), "{village}");
 }
 
 /// Names come out as they are, also where they look like markup, and are cut where they
