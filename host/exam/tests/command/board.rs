@@ -1,6 +1,6 @@
 //! `exam board`.
 
-use crate::common::{exam, exam_with, Folder, Ran, HEX, NET};
+use crate::common::{exam, exam_on, exam_with, Folder, Ran, HEX, NET};
 use papers::files::{any_start, bytes_of, sheet, sheet_bytes, valid_commands, Dice, Stated};
 
 /// Two lines of 15 and 20 that meet at the market, and a stop where none calls.
@@ -16,10 +16,7 @@ line Green every 20
 
 /// A board of a typed network and a sheet.
 fn typed(network: &str, starts: &str, more: &[&str]) -> Ran {
-    let folder = Folder::new();
-    let sheet = folder.file("a.sheet", starts);
-    let words = ["board", "-", &sheet, "--typed"];
-    exam_with(&[&words, more].concat(), network.as_bytes())
+    exam_on("board", (network, "--typed"), starts, more)
 }
 
 /// A board of the two lines and a sheet of zeros.
@@ -30,12 +27,7 @@ fn two_lines(more: &[&str]) -> Ran {
 
 /// A board of the plan and a sheet of zeros.
 fn market(more: &[&str]) -> Ran {
-    let folder = Folder::new();
-    let sheet = folder.file("a.sheet", "0 0");
-    exam_with(
-        &[&["board", "-", &sheet, "--plan"], more].concat(),
-        MARKET.as_bytes(),
-    )
+    exam_on("board", (MARKET, "--plan"), "0 0", more)
 }
 
 #[test]

@@ -1,6 +1,6 @@
 //! `exam explain`.
 
-use crate::common::{exam, exam_with, Folder, Ran, HEX, P9};
+use crate::common::{exam, exam_on, exam_with, Folder, Ran, HEX, P9};
 use engine::{Arrival, Sheet};
 use papers::files::{sheet, sheet_bytes, Dice};
 use papers::small::small_file_for_gaps;
@@ -30,18 +30,12 @@ line Green every 20
 
 /// Explains a sheet of a typed network.
 fn typed(network: &str, starts: &str, more: &[&str]) -> Ran {
-    let folder = Folder::new();
-    let sheet = folder.file("a.sheet", starts);
-    let words = ["explain", "-", &sheet, "--typed"];
-    exam_with(&[&words, more].concat(), network.as_bytes())
+    exam_on("explain", (network, "--typed"), starts, more)
 }
 
 /// Explains a sheet of the plan.
 fn market(starts: &str, more: &[&str]) -> Ran {
-    let folder = Folder::new();
-    let sheet = folder.file("a.sheet", starts);
-    let words = ["explain", "-", &sheet, "--plan"];
-    exam_with(&[&words, more].concat(), MARKET.as_bytes())
+    exam_on("explain", (MARKET, "--plan"), starts, more)
 }
 
 /// Demands the text line, the sentences and the stops, beside a key.

@@ -74,6 +74,15 @@ pub fn exam_with(words: &[&str], input: &[u8]) -> Ran {
     left_by(child)
 }
 
+/// Runs a verb on a network that comes on standard input, in the form of the flag, and a sheet
+/// of these starts.
+pub fn exam_on(verb: &str, (network, flag): (&str, &str), starts: &str, more: &[&str]) -> Ran {
+    let folder = Folder::new();
+    let sheet = folder.file("a.sheet", starts);
+    let words = [verb, "-", &sheet, flag];
+    exam_with(&[&words, more].concat(), network.as_bytes())
+}
+
 /// Waits for the end of a run that has just been started.
 pub fn ended(child: Child) -> Ran {
     left_by(Limited::of(child))

@@ -37,6 +37,16 @@ pub fn bytes_of(commands: &[Command]) -> Vec<u8> {
         .collect()
 }
 
+/// A file of these periods and these calls (line, stop, offset).
+pub fn file_of(periods: &[u16], calls: &[(u8, u8, u16)]) -> Vec<u8> {
+    let lines = periods.iter().map(|&period| Command::Line { period });
+    let calls = calls
+        .iter()
+        .map(|&(line, stop, offset)| Command::Call { line, stop, offset });
+    let commands: Vec<Command> = lines.chain(calls).chain([Command::End]).collect();
+    bytes_of(&commands)
+}
+
 /// What a run of commands, each of them in order, has stated.
 #[derive(Clone, Debug, PartialEq, Eq)]
 pub struct Stated {

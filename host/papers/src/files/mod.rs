@@ -29,7 +29,7 @@ mod windows;
 
 pub use any::any_file;
 pub use bytes::{likely_bytes, random_bytes};
-pub use commands::{bytes_of, Command, Stated};
+pub use commands::{bytes_of, file_of, Command, Stated};
 pub use damaged::damaged_file;
 pub use dice::Dice;
 pub use faulty::{faulty_file, Faulty, GROUNDS, OUTCOMES};

@@ -1,7 +1,7 @@
 //! The cases of the paper, each ground, stopped and deep searches.
 
-use crate::given::{agreed, long_search, network, printed, PAPER, PAPER_LINE, SHORT};
-use papers::files::{faulty_file, Dice, GROUNDS};
+use crate::given::{agreed, long_search, printed, PAPER, PAPER_LINE, SHORT};
+use papers::files::{faulty_file, file_of, Dice, GROUNDS};
 use papers::program;
 use papers::sections::best::best;
 use papers::sections::network::read;
@@ -16,21 +16,21 @@ fn the_line_of_the_paper() {
 fn the_cases_of_the_paper() {
     assert_eq!(agreed(&SHORT), "gap 15 sum 15 tries 1 starts 0\n");
     // P7, P8 and P9.
-    let p7 = network(&[10, 10, 10], &[(0, 0, 0), (1, 0, 0), (2, 0, 0)]);
+    let p7 = file_of(&[10, 10, 10], &[(0, 0, 0), (1, 0, 0), (2, 0, 0)]);
     assert_eq!(agreed(&p7), "gap 3 sum 3 tries 51 starts 0 3 6\n");
-    let p8 = network(&[60, 60, 12], &[(0, 0, 0), (1, 0, 0), (2, 1, 0)]);
+    let p8 = file_of(&[60, 60, 12], &[(0, 0, 0), (1, 0, 0), (2, 1, 0)]);
     assert_eq!(agreed(&p8), "gap 12 sum 42 tries 433 starts 0 30 0\n");
     let calls = [0, 1].map(|line: u8| {
         let offsets = [[0, 7, 5], [0, 17, 8]][usize::from(line)];
         [0, 1, 2].map(|stop: u8| (line, stop, offsets[usize::from(stop)]))
     });
-    let p9 = network(&[20, 30], calls.as_flattened());
+    let p9 = file_of(&[20, 30], calls.as_flattened());
     assert_eq!(agreed(&p9), "gap 3 sum 11 tries 31 starts 0 4\n");
     // A cap by the half of 1, rounded down; without it 89 tries.
-    let halves = network(&[15, 20, 4], &[(0, 0, 0), (1, 0, 0), (2, 0, 0)]);
+    let halves = file_of(&[15, 20, 4], &[(0, 0, 0), (1, 0, 0), (2, 0, 0)]);
     assert_eq!(agreed(&halves), "gap 0 sum 0 tries 25 starts 0 0 0\n");
     // Periods 1,440 and 7: the longest common cycle.
-    agreed(&network(&[1_440, 7], &[(0, 0, 65_535), (1, 0, 0)]));
+    agreed(&file_of(&[1_440, 7], &[(0, 0, 65_535), (1, 0, 0)]));
 }
 
 #[test]
@@ -42,7 +42,7 @@ fn refused_files() {
     assert_eq!(agreed(&[0x4C, 0x05, 0xA1]), "refused 5 at 0\n");
     assert_eq!(agreed(&[0x4C, 0, 0]), "refused 5 at 0\n");
     assert_eq!(agreed(&[0x45]), "refused 13 at 0\n");
-    let long_cycle = network(&[1_440, 11], &[(0, 0, 0), (1, 0, 0)]);
+    let long_cycle = file_of(&[1_440, 11], &[(0, 0, 0), (1, 0, 0)]);
     assert_eq!(agreed(&long_cycle), "refused 6 at 3\n");
     let one_more = [&SHORT[..], &[0x45]].concat();
     assert_eq!(agreed(&one_more), "refused 14 at 9\n");
@@ -107,5 +107,5 @@ pub fn deepest_walk() -> Vec<u8> {
     let calls: Vec<(u8, u8, u16)> = (0..16)
         .flat_map(|line| (0..16).map(move |stop| (line, stop, 0)))
         .collect();
-    network(&[1_440; 16], &calls)
+    file_of(&[1_440; 16], &calls)
 }

@@ -1,6 +1,6 @@
 //! Inputs, and the program's line beside the papers'.
 
-use papers::files::{bytes_of, dense_file, Command, Dice};
+use papers::files::{dense_file, Dice};
 use papers::program;
 use papers::sections::best::best;
 use papers::sections::network::read;
@@ -37,16 +37,6 @@ pub fn shown(input: &[u8]) -> String {
         .map(|byte| format!("{byte:02X}"))
         .collect();
     format!("{} bytes {pairs}", input.len())
-}
-
-/// A file of these periods and calls (line, stop, offset).
-pub fn network(periods: &[u16], calls: &[(u8, u8, u16)]) -> Vec<u8> {
-    let lines = periods.iter().map(|&period| Command::Line { period });
-    let calls = calls
-        .iter()
-        .map(|&(line, stop, offset)| Command::Call { line, stop, offset });
-    let commands: Vec<Command> = lines.chain(calls).chain([Command::End]).collect();
-    bytes_of(&commands)
 }
 
 /// A file from this seed or a later one whose search stops at the budget.

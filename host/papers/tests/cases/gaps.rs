@@ -2,6 +2,7 @@
 //! papers by both of their methods.
 
 use crate::given::{all_ratings, at, file, hex, net, p1, p7, p8, p9, refusal};
+use crate::source::CALLS;
 use engine::Sheet;
 use papers::answers;
 use papers::files::fullest_file;
@@ -61,18 +62,7 @@ fn gaps_of_the_papers_networks() {
 /// Source 000, section 2.3: stops 1 to 4, and none before or behind them.
 #[test]
 fn gaps_of_the_source() {
-    let calls = [
-        (1, 1, 0),
-        (2, 1, 0),
-        (0, 2, 2),
-        (1, 2, 1),
-        (2, 2, 1),
-        (0, 3, 4),
-        (1, 3, 3),
-        (2, 3, 3),
-        (0, 4, 0),
-    ];
-    let source = file(&[15, 10, 20], &calls);
+    let source = file(&[15, 10, 20], &CALLS);
     let gaps = [(1, 4), (2, 2), (3, 2), (4, 15)];
     assert_eq!(served(&source, &[2, 5, 1]), gaps);
     // A start moved by whole periods moves nothing.

@@ -8,7 +8,7 @@ use papers::sections::walk::Answer;
 
 /// Section 2.3, table 2.1. The offsets are the first arrivals of the table less
 /// the starts.
-const CALLS: [(u8, u8, u16); 9] = [
+pub const CALLS: [(u8, u8, u16); 9] = [
     (1, 1, 0),
     (2, 1, 0),
     (0, 2, 2),

@@ -6,9 +6,7 @@ use crate::{
     examination_archive, examination_better, examination_classes, examination_rate,
     examination_read, examination_search, examination_wanted, examination_weighted,
 };
-use papers::files::{
-    any_budget, any_gap, any_sheet_bytes, any_window, bytes_of, Command, Dice, OUTCOMES,
-};
+use papers::files::{any_budget, any_gap, any_sheet_bytes, any_window, file_of, Dice, OUTCOMES};
 use papers::sections::archive::{archive, archive_form};
 use papers::sections::board::{board_bytes, Window, MAX_LENGTH};
 use papers::sections::classes::class_call;
@@ -456,7 +454,6 @@ pub fn compare_all(dice: &mut Dice, file: &[u8], seen: &mut AllSeen) {
 
 /// Three lines that meet at two stops, offsets up to 65,535.
 pub fn three_lines(periods: [u16; 3]) -> Vec<u8> {
-    let lines = periods.map(|period| Command::Line { period });
     let calls = [
         (0, 0, 65_535),
         (1, 0, 0),
@@ -464,6 +461,5 @@ pub fn three_lines(periods: [u16; 3]) -> Vec<u8> {
         (0, 63, 0),
         (2, 63, 65_535),
     ];
-    let calls = calls.map(|(line, stop, offset)| Command::Call { line, stop, offset });
-    bytes_of(&[&lines[..], &calls[..], &[Command::End]].concat())
+    file_of(&periods, &calls)
 }

@@ -5,24 +5,14 @@ use crate::called;
 use crate::compared::{compare_gaps, three_lines, Seen};
 use crate::lent::{answer_row, Lent};
 use papers::files::{
-    any_sheet_bytes, bytes_of, faulty_file, fullest_file, longest_file, openings, random_bytes,
-    sheet, sheet_bytes, valid_file, Command, Dice, GROUNDS,
+    any_sheet_bytes, faulty_file, file_of, fullest_file, longest_file, openings, random_bytes,
+    sheet, sheet_bytes, valid_file, Dice, GROUNDS,
 };
 use papers::sections::gaps::{row_by_counting, NO_GAP};
 use papers::sections::network::{read, Network};
 use papers::sections::rating::whole;
 
 const FILES: usize = 4_000;
-
-/// A file of these periods and these calls (line, stop, offset).
-fn file_of(periods: &[u16], calls: &[(u8, u8, u16)]) -> Vec<u8> {
-    let lines = periods.iter().map(|&period| Command::Line { period });
-    let calls = calls
-        .iter()
-        .map(|&(line, stop, offset)| Command::Call { line, stop, offset });
-    let commands: Vec<Command> = lines.chain(calls).chain([Command::End]).collect();
-    bytes_of(&commands)
-}
 
 /// The row and the answer of a call that isn't refused, each place of them 7 before it.
 fn filled(file: &[u8], sheet: &[u8]) -> ([u16; 64], [u32; 2]) {
