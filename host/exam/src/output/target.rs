@@ -6,7 +6,7 @@ use crate::system;
 use engine::text::shown;
 use std::ffi::OsStr;
 use std::io::{self, ErrorKind};
-use std::path::PathBuf;
+use std::path::{Path, PathBuf};
 
 /// Where a picture or a page goes.
 #[derive(Clone, Debug, PartialEq, Eq)]
@@ -33,6 +33,22 @@ impl Target {
             let name = shown(path.as_os_str().as_encoded_bytes());
             Trouble(format!("{name} can't be written: {}", words(&error)))
         })
+    }
+
+    /// Whether it is a file in this folder, by whatever way both are named.
+    pub fn is_in(&self, folder: &Path) -> bool {
+        let Target::File(path) = self else {
+            return false;
+        };
+        let beside = match path.parent() {
+            Some(parent) if parent != Path::new("") => parent,
+            _ => Path::new("."),
+        };
+        match (beside.canonicalize(), folder.canonicalize()) {
+            (Ok(beside), Ok(folder)) => beside == folder,
+            // A folder that isn't there has no sheets, and no page can be written to it.
+            _ => false,
+        }
     }
 
     /// The file's name as part of a line; nothing where the content itself went to standard

@@ -13,6 +13,7 @@ use crate::line::options::{
 };
 use crate::line::table::{Request, Sheets, Verb};
 use crate::output::fault::{refused, refused_sheet};
+use crate::output::names::shown;
 use crate::output::streams::{put, say};
 use crate::output::target::Target;
 use crate::page::{page, Sitting};
@@ -48,7 +49,8 @@ the search is the one of 'exam mark', once for all sheets. Where its budget is u
 up, there is no key on the page, and the sheets have their ratings and pictures.
 
 OUT.html is written over if it is there; its name has to end in .html, so that no
-slip overwrites a sheet. A file named - is standard output, and then the tally is on
+slip overwrites a sheet, and it doesn't go to the folder of the sheets, where every
+file is taken for one. A file named - is standard output, and then the tally is on
 standard error. No file is written where the network is refused, where there is no
 sheet, or where the one sheet that is named is refused or can't be read.
 ",
@@ -56,6 +58,7 @@ sheet, or where the one sheet that is named is refused or can't be read.
 };
 
 fn run(request: &Request) -> Result<Status, Trouble> {
+    check_place(request)?;
     let [network] = networks(request)?;
     if let Err(refusal) = engine::read(network.bytes()) {
         return refused(refusal, &network);
@@ -66,6 +69,21 @@ fn run(request: &Request) -> Result<Status, Trouble> {
         Rated::Rows(rows) if rows.is_empty() => Ok(of_folders),
         Rated::Rows(rows) => Ok(worse(of_folders, report(request, &network, rows)?)),
         Rated::Refused(status) => Ok(status),
+    }
+}
+
+/// A page among the sheets would be taken for one of them the next time.
+fn check_place(request: &Request) -> Result<(), Trouble> {
+    let target = target(request);
+    let folders = request.sheets.iter().filter_map(|operand| operand.folder());
+    match folders.into_iter().find(|folder| target.is_in(folder)) {
+        Some(folder) => Err(Trouble(format!(
+            "{} would stand among the sheets of {}, where every file is taken for one: \
+             name another folder",
+            target.name().unwrap_or_default(),
+            shown(folder.as_os_str())
+        ))),
+        None => Ok(()),
     }
 }
 

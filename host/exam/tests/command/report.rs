@@ -228,6 +228,35 @@ fn the_file() {
     exam(&["report", network, "samples/village/perfect.sheet", &nowhere]).said("", 2, &words);
 }
 
+/// A page among the sheets would be taken for a sheet the next time.
+#[test]
+fn not_among_the_sheets() {
+    let folder = Folder::new();
+    folder.file("a.sheet", "0 3");
+    let name = folder.name();
+    let other = Folder::new();
+    let link = other.path().join("link");
+    std::os::unix::fs::symlink(folder.path(), &link).expect("a link");
+    let link = link.to_str().expect("a plain name");
+    let pages = [format!("{name}/a.html"), format!("{link}/a.html")];
+    for (sheets, page) in [
+        (&name[..], &pages[0]),
+        (&name[..], &pages[1]),
+        (link, &pages[0]),
+    ] {
+        let words = format!(
+            "exam: {page} would stand among the sheets of {sheets}, where every file is taken \
+             for one: name another folder\n"
+        );
+        exam(&["report", HEX, sheets, page]).said("", 2, &words);
+        assert!(!std::path::Path::new(page).exists());
+    }
+    // Beside one sheet that is named as such it may stand.
+    let sheet = format!("{name}/a.sheet");
+    let printed = format!("{}: 1 sheet: 1 equal\n", pages[0]);
+    exam(&["report", HEX, &sheet, &pages[0]]).printed(&printed, 0);
+}
+
 /// Nothing is written where there is nothing to write of.
 #[test]
 fn no_file() {
