@@ -78,6 +78,18 @@ fn bad_operands() {
             "'wanted' wants NETWORK GAP; GAP is missing",
         ),
         (&["wanted", NET, "3", "4"], "'4' is one too many"),
+        (&["archive"], "'archive' wants NETWORK"),
+        (&["archive", NET, NET], "'archive' wants NETWORK"),
+        (&["same", NET], "'same' wants NETWORK NETWORK"),
+        (&["same", NET, NET, "c.net"], "'c.net' is one too many"),
+        (&["rate", "-", "-"], "one file only"),
+        (&["same", "-", "-", "--typed"], "one file only"),
+    ]);
+}
+
+#[test]
+fn bad_operands_of_an_explanation() {
+    all_are_told(&[
         (
             &["explain", NET],
             "'explain' wants NETWORK SHEET; SHEET is missing",
@@ -86,12 +98,6 @@ fn bad_operands() {
             &["explain", NET, "a.sheet", "b.sheet"],
             "'b.sheet' is one too many",
         ),
-        (&["archive"], "'archive' wants NETWORK"),
-        (&["archive", NET, NET], "'archive' wants NETWORK"),
-        (&["same", NET], "'same' wants NETWORK NETWORK"),
-        (&["same", NET, NET, "c.net"], "'c.net' is one too many"),
-        (&["rate", "-", "-"], "one file only"),
-        (&["same", "-", "-", "--typed"], "one file only"),
     ]);
 }
 
