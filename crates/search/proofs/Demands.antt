@@ -1,17 +1,17 @@
--- The order's demands on the search call: when it refuses, that it answers what document 01's walk does, and that a finished search can't be
--- beaten. Each theorem at the end holds of every call that has returned: of what was lent, `a`, its answer, `r`, and the row at its exit, `s`,
--- where they keep the contract in src/, which every call does. Assumes nothing.
-use Prim.Native.Nat.{ℕ, _+_, _≤_, _<_}
+-- The order's demands on the search call: when it refuses, that it answers what document 01's walk does, that a finished search can't be beaten, and
+-- when it stops with none. Each theorem at the end holds of every call that has returned: of what was lent, `a`, its answer, `r`, and the row at its
+-- exit, `s`, where they keep the contract in src/, which every call does. Assumes nothing.
+use Prim.Native.Nat.{ℕ, _≤_, _<_}
 use mathlib.Core.Path.{_≡_, sym, ap, ap₂, _∙_}
 use mathlib.Core.Bool.{Bool, true, false}
 use mathlib.Core.List.{List, _∷_}
-use mathlib.Core.Logic.{_⊎_}
+use mathlib.Core.Logic.{_⊎_, _↔_}
 use borrow.Fn.World.{ArgsD, ResD}
 use borrow.Fn.Kinds.{endedOf}
 use contract.Lifetimes.{Lfts}
 use denote.Triple.Clauses.{AtExit}
 use lib.IntN.{ℤ, pos}
-use lib.ListN.{length, getD, drop}
+use lib.ListN.{length, getD}
 use Rattle.network.specs.Archive.{SameOffsets}
 use Rattle.network.specs.Lists.{pick}
 use Rattle.network.specs.Network.{Net, maxPeriod}
@@ -22,31 +22,44 @@ use Rattle.network.specs.Rating.{IsStopGap, IsRating, gapOfCalls, callsOfStop, 
 use Rattle.network.proofs.Laws.Gaps.{accepted-valid, rating-is-rating, IsRating-range, IsStopGap-unique}
 use Rattle.search.specs.Caps.{cap}
 use Rattle.search.specs.Walk.{State}
-use Rattle.search.specs.Search.{SearchOutcome, finished, stopped, stoppedWithNone, refusal, searchAnswer, triesOf, productsFrom}
+use Rattle.search.specs.Search.{SearchOutcome, finished, stopped, stoppedWithNone, refusal, searchAnswer, triesOf}
 use Rattle.search.specs.Search.{aboveBest, searched, outcomeOf, searchOutcome, startRowAfter}
 use Rattle.search.proofs.Laws.Caps.{cap-sound, cap-le-own-gap}
 use Rattle.search.proofs.Laws.MoreTries.{walked-with-more, walked-was-due}
 use Rattle.search.proofs.Laws.OnNetwork.{triesBound-products, walked-length, walked-first, walked-below, walked-rating, walked-stopped}
 use Rattle.search.proofs.Laws.Optimal.{searched-some, searched-best}
+use Rattle.search.proofs.Laws.Outcome.{outcomeOf-finished, outcomeOf-stopped, outcomeOf-none}
 use Rattle.search.proofs.Laws.Outcome.{fit-outcome, fit-row, AnswerTells, told-of-finished, told-of-stopped, told-of-none}
 use Rattle.search.proofs.Laws.Outcome.{outcome-tries-le, outcome-tries-le-budget, outcome-finished}
 use Rattle.search.proofs.Laws.Outcome.{searchOutcome-same, startRowAfter-same, search-refuses, search-refuses-only, row-as-found}
 use Rattle.search.proofs.entry.search as search
 use Rattle.search.proofs.entry.search.Kinds as search-kinds
 use Rattle.search.proofs.entry.search.Reads as search-contract
--- ---- What each answer of the call tells
+-- ---- What other pages use: demand 3's bound, when the walk stops with none, and what each answer of the call tells
 
+pub use Rattle.search.specs.Search.{demandedBound}
+pub use Rattle.search.proofs.Laws.Optimal.{searched-none-exactly}
 pub use Rattle.search.proofs.Laws.Answers.{searchAnswer-finished, searchAnswer-stopped, searchAnswer-none, searchAnswer-refused}
 
 -- ---- What is demanded, of an accepted network, the start row and the budget as lent, the answer, and the row afterwards
 
--- 1 + T1 + T1×T2 + .. over the periods after the first
-abbrev pub demandedBound : Net → ℕ
-demandedBound n = 1 + productsFrom 1 (drop 1 (n .periods))
+-- "The search answers one of": what a walk answers at its end, with the walk's own numbers and no definition between
+pub record AnswersByCase (w : State) (answer : SearchOutcome) : Type 0 where
+  -- "finished (best rating, tries)", exactly where the walk hasn't stopped
+  pub finished-exactly : (least sum tries : ℕ)
+      → (answer ≡ finished least sum tries) ↔ ((w .stopped ≡ false) × (w .best .least ≡ least) × (w .best .sum ≡ sum) × (w .tries ≡ tries))
+  -- "stopped with a best (the same)", exactly where it has stopped and has a best
+  pub stopped-exactly : (least sum tries : ℕ)
+      → (answer ≡ stopped least sum tries)
+      ↔ ((w .stopped ≡ true) × (w .best .some ≡ true) × (w .best .least ≡ least) × (w .best .sum ≡ sum) × (w .tries ≡ tries))
+  -- "stopped with none (tries)", exactly where it has stopped and has none
+  pub none-exactly : (tries : ℕ)
+      → (answer ≡ stoppedWithNone tries) ↔ ((w .stopped ≡ true) × (w .best .some ≡ false) × (w .tries ≡ tries))
 
 -- Demand 2, its second half, of a start row with one place for each line: the search's answer, starts and number of tries are those of the walk
 pub record Demand2 (n : Net) (row : List ℤ) (budget : ℕ) (answer : SearchOutcome) (exit : List ℤ) : Type 0 where
   pub answers-the-walk : answer ≡ outcomeOf (searched n budget)
+  pub case-by-case : AnswersByCase (searched n budget) answer
   -- the best starts are written; without a best the row is untouched
   pub writes-the-best : exit ≡ pick (searched n budget .best .some) (searched n budget .starts) row
 
@@ -150,12 +163,45 @@ module _ {file : List ℕ} {row : List ℤ} {budget : ℕ} {answer : SearchOutco
     stopped-rated e =
         let (t, some) = told-of-stopped n (length row) budget (answer-is e) in (are-walked t some, has-its-rating t some)
 
+    answers-walk : length row ≡ length (n .periods) → answer ≡ outcomeOf (searched n budget)
+    answers-walk fits = call .answered ∙ ap (λ (k : Reading). searchOutcome k (length row) budget) reads ∙ fit-outcome n row budget fits
+
+    pub answers-by-case : length row ≡ length (n .periods) → AnswersByCase (searched n budget) answer
+    answers-by-case fits =
+        record {
+          finished-exactly = λ least sum tries. (
+            λ e. let t = told-of-finished n (length row) budget (answer-is e) in (t .stops, t .its-least, t .its-sum, t .its-tries),
+            λ (stops, l, s, t). answers-walk fits ∙ outcomeOf-finished (searched n budget) stops ∙ (cc),
+          );
+          stopped-exactly = λ least sum tries. (
+            λ e. let (t, some) = told-of-stopped n (length row) budget (answer-is e) in (t .stops, some, t .its-least, t .its-sum, t .its-tries),
+            λ (stops, some, l, s, t). answers-walk fits ∙ outcomeOf-stopped (searched n budget) stops some ∙ (cc),
+          );
+          none-exactly = λ tries. (
+            λ e. let (f, stops, none, t) = told-of-none n (length row) budget (answer-is e) in (stops, none, t),
+            λ (stops, none, t). answers-walk fits ∙ outcomeOf-none (searched n budget) stops none ∙ ap stoppedWithNone t,
+          );
+        }
+
     pub demand-2 : length row ≡ length (n .periods) → Demand2 n row budget answer exit
     demand-2 fits =
         record {
-          answers-the-walk = call .answered ∙ ap (λ (k : Reading). searchOutcome k (length row) budget) reads ∙ fit-outcome n row budget fits;
+          answers-the-walk = answers-walk fits;
+          case-by-case = answers-by-case fits;
           writes-the-best = call .left ∙ ap (λ (k : Reading). startRowAfter k budget row) reads ∙ fit-row n row budget fits;
         }
+
+    -- Stopped with none, after as many tries as the budget has, exactly where there isn't one for each line
+    pub stopped-with-none-exactly : length row ≡ length (n .periods) → (tries : ℕ)
+        → (answer ≡ stoppedWithNone tries) ↔ ((budget < length (n .periods)) × (budget ≡ tries))
+    stopped-with-none-exactly fits tries =
+        let cases = answers-by-case fits .none-exactly tries in (
+          λ e.
+              let (stops, none, made) = cases .0 e in
+              (searched-none-exactly valid budget .0 (stops, none), sym (walked-stopped n aboveBest budget stops) ∙ made),
+          λ (few, made).
+              let (stops, none) = searched-none-exactly valid budget .1 few in cases .1 (stops, none, walked-stopped n aboveBest budget stops ∙ made),
+        )
 
     pub demand-3 : Demand3 n row budget answer exit
     demand-3 =
@@ -217,6 +263,11 @@ module _ (κs : Lfts 2) (a : ArgsD search.signature κs) (r : ResD search.signat
     pub search-demand-2 : length (a .1 .0 .now) ≡ length (n .periods)
         → Demand2 n (a .1 .0 .now) (a .1 .1 .0) (searchAnswer r) (s .1 .0 .now)
     search-demand-2 = demand-2 searches reads
+
+    -- Document 01 on `best`: "stopped with none can't occur here, since the first 16 tries or fewer reach a full timetable"
+    pub search-none-exactly : length (a .1 .0 .now) ≡ length (n .periods) → (tries : ℕ)
+        → (searchAnswer r ≡ stoppedWithNone tries) ↔ ((a .1 .1 .0 < length (n .periods)) × (a .1 .1 .0 ≡ tries))
+    search-none-exactly = stopped-with-none-exactly searches reads
 
     pub search-demand-3 : Demand3 n (a .1 .0 .now) (a .1 .1 .0) (searchAnswer r) (s .1 .0 .now)
     search-demand-3 = demand-3 searches reads
@@ -295,7 +346,7 @@ module _ (κs : Lfts 2) (a : ArgsD search.signature κs) (r : ResD search.signat
         left-alike call other reads rows larger ends,
       )
 
--- ---- Caps, with loop routes (document 02, A.2), of every accepted file
+-- ---- Caps, with loop routes (document 02, A.2), of every file that a search call accepts
 
 pub record Capped (n : Net) : Type 0 where
   -- no starts give a stop a gap above its cap
@@ -305,10 +356,12 @@ pub record Capped (n : Net) : Type 0 where
       → getD (callsOfStop n stop) j noCall .line ≡ getD (callsOfStop n stop) k noCall .line
       → cap n stop ≤ gapOfCalls n starts (getD (callsOfStop n stop) j noCall) (getD (callsOfStop n stop) k noCall)
 
-pub caps-bound : (file : List ℕ) {n : Net} → IsBytes file → readFile file ≡ accepted n → Capped n
-caps-bound file {n} bytes reads =
-    let valid = accepted-valid file n bytes reads in
-    record {
-      is-cap = λ starts {stop} g. rw (IsStopGap-unique valid g) (cap-sound valid starts stop);
-      own-pair = cap-le-own-gap n;
-    }
+module _ (κs : Lfts 2) (a : ArgsD search.signature κs) (r : ResD search.signature κs)
+    (s : AtExit (endedOf 2 search-kinds.ps search-kinds.r) κs) (kept : search-contract.Post κs a r s) where
+  pub caps-bound : {n : Net} → readFile (a .0 .now) ≡ accepted n → Capped n
+  caps-bound {n} reads =
+      let valid = accepted-valid (a .0 .now) n (kept .1 .1) reads in
+      record {
+        is-cap = λ starts {stop} g. rw (IsStopGap-unique valid g) (cap-sound valid starts stop);
+        own-pair = cap-le-own-gap n;
+      }

@@ -6,7 +6,7 @@ use Prim.Native.Nat.{ℕ, _≤_, _<_}
 use mathlib.Core.Path.{_≡_, refl, sym, ap, _∙_}
 use mathlib.Core.Bool.{Bool, true, false}
 use mathlib.Core.List.{List}
-use mathlib.Core.Logic.{_⊎_, inl, inr}
+use mathlib.Core.Logic.{_⊎_, inl, inr, _↔_}
 use native.Mathlib.Omega.{arith}
 use borrow.Fn.World.{ArgsD, ResD}
 use borrow.Fn.Kinds.{endedOf}
@@ -25,9 +25,9 @@ use Rattle.network.proofs.Laws.Gaps.{accepted-valid, rating-is-rating}
 use Rattle.network.proofs.Laws.Lists.{zero-ne-one}
 use Rattle.search.specs.Caps.{cap}
 use Rattle.search.specs.Walk.{State, atFirst, tryMade, stop}
-use Rattle.search.specs.Search.{finished, searchAnswer, walked}
+use Rattle.search.specs.Search.{finished, searchAnswer, demandedBound, walked}
 use Rattle.search.specs.Wanted.{atLeast, WantedOutcome, found, none, stopped, refusal, triesOf, wantedAnswer, reachedOf, wantedOutcome, wantedRowAfter}
-use Rattle.search.proofs.Demands.{demandedBound, WalkedStarts, searches, demand-3}
+use Rattle.search.proofs.Demands.{WalkedStarts, searches, demand-3}
 use Rattle.search.proofs.Laws.MoreTries.{walked-with-more, walked-was-due}
 use Rattle.search.proofs.Laws.OnNetwork.{triesBound-products, walked-length, walked-first, walked-below, walked-rating, walked-stopped, walked-finishes, walked-without-budget}
 use Rattle.search.proofs.Laws.Reaches.{reached-by-best, reached-by-none, reached-at-once, above-cap, above-period}
@@ -46,10 +46,18 @@ pub use Rattle.search.proofs.Laws.Reached.{wantedAnswer-found, wantedAn
 
 -- ---- What is asked, of an accepted network, the start row, the wanted gap and the budget as lent, the answer, and the row afterwards
 
+-- What a walk by this rule answers at its end, with the walk's own tries and no definition between: found exactly where it has a timetable, none
+-- exactly where it has none and hasn't stopped, stopped exactly where it has none and has
+pub record ReachesByCase (w : State) (answer : WantedOutcome) : Type 0 where
+  pub found-exactly : (tries : ℕ) → (answer ≡ found tries) ↔ ((w .best .some ≡ true) × (w .tries ≡ tries))
+  pub none-exactly : (tries : ℕ) → (answer ≡ none tries) ↔ ((w .best .some ≡ false) × (w .stopped ≡ false) × (w .tries ≡ tries))
+  pub stopped-exactly : (tries : ℕ) → (answer ≡ stopped tries) ↔ ((w .best .some ≡ false) × (w .stopped ≡ true) × (w .tries ≡ tries))
+
 -- With a start row of one place for each line, answer and row are those of the usual walk with another cut: a try is dropped if its upper least
 -- gap is below the wanted one, and the first full timetable ends it (`atLeast` of specs/Wanted.antt)
 pub record WalksTo (n : Net) (row : List ℤ) (wanted budget : ℕ) (answer : WantedOutcome) (exit : List ℤ) : Type 0 where
   pub answers-the-walk : answer ≡ reachedOf (walked n (atLeast wanted) budget)
+  pub case-by-case : ReachesByCase (walked n (atLeast wanted) budget) answer
   -- the timetable's starts are written; without one the row is untouched
   pub writes-the-first : exit ≡ pick (walked n (atLeast wanted) budget .best .some) (walked n (atLeast wanted) budget .starts) row
 
@@ -109,10 +117,32 @@ module _ {file : List ℕ} {row : List ℤ} {wanted budget : ℕ} {answer : Want
     answer-is : {o : WantedOutcome} → answer ≡ o → wantedOutcome (accepted n) (length row) wanted budget ≡ o
     answer-is e = sym (ap (λ (k : Reading). wantedOutcome k (length row) wanted budget) reads) ∙ sym (call .answered) ∙ e
 
+    answers-walk : length row ≡ length (n .periods) → answer ≡ reachedOf the-walk
+    answers-walk fits =
+        call .answered ∙ ap (λ (k : Reading). wantedOutcome k (length row) wanted budget) reads ∙ fit-reached n row wanted budget fits
+
+    pub reaches-by-case : length row ≡ length (n .periods) → ReachesByCase the-walk answer
+    reaches-by-case fits =
+        record {
+          found-exactly = λ tries. (
+            λ e. let t = told-of-found n (length row) wanted budget (answer-is e) in (t .some, t .its-tries),
+            λ (some, t). answers-walk fits ∙ reachedOf-found the-walk some ∙ ap found t,
+          );
+          none-exactly = λ tries. (
+            λ e. let (t, ends) = told-of-none n (length row) wanted budget (answer-is e) in (t .some, ends, t .its-tries),
+            λ (some, ends, t). answers-walk fits ∙ reachedOf-none the-walk some ends ∙ ap none t,
+          );
+          stopped-exactly = λ tries. (
+            λ e. let (t, ends) = told-of-stopped n (length row) wanted budget (answer-is e) in (t .some, ends, t .its-tries),
+            λ (some, ends, t). answers-walk fits ∙ reachedOf-stopped the-walk some ends ∙ ap stopped t,
+          );
+        }
+
     pub walks-to : length row ≡ length (n .periods) → WalksTo n row wanted budget answer exit
     walks-to fits =
         record {
-          answers-the-walk = call .answered ∙ ap (λ (k : Reading). wantedOutcome k (length row) wanted budget) reads ∙ fit-reached n row wanted budget fits;
+          answers-the-walk = answers-walk fits;
+          case-by-case = reaches-by-case fits;
           writes-the-first = call .left ∙ ap (λ (k : Reading). wantedRowAfter k wanted budget row) reads ∙ fit-reached-row n row wanted budget fits;
         }
 

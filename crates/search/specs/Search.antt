@@ -5,7 +5,7 @@ use mathlib.Core.Bool.{Bool, true, false, not, _&&_, _||_}
 use mathlib.Core.List.{List, [], _∷_}
 use lib.Dec.{eqb, ltb}
 use lib.IntN.{ℤ}
-use lib.ListN.{length}
+use lib.ListN.{length, drop}
 use Rattle.network.specs.declared.Rating.{Rating}
 use Rattle.network.specs.Lists.{pick}
 use Rattle.network.specs.Network.{Net}
@@ -51,8 +51,11 @@ abbrev pub productsFrom : ℕ → List ℕ → ℕ
 productsFrom k [] = 0
 productsFrom k (t ∷ rest) = k * t + productsFrom (k * t) rest
 
--- How many tries the walk can make; it is 1 + T1 + T1×T2 + .. over the periods after the first, `triesBound-products` of
--- proofs/Laws/OnNetwork.antt
+-- Demand 3's bound, 1 + T1 + T1×T2 + .. over the periods after the first
+abbrev pub demandedBound : Net → ℕ
+demandedBound n = 1 + productsFrom 1 (drop 1 (n .periods))
+
+-- How many tries the walk can make; it is demand 3's bound, `triesBound-products` of proofs/Laws/OnNetwork.antt
 unfoldable pub triesBound : Net → ℕ
 triesBound n = mostTries (startCounts (n .periods))
 

@@ -1,6 +1,6 @@
 -- The best of a walk over any parts, by what a law needs of its rule: a best is a choice that wasn't dropped; a walk at its end without a best
--- has dropped every choice; and one that goes on to the end drops every choice beside its best. Each is one induction over the lines, and over
--- the starts of a line. Assumes nothing.
+-- has dropped every choice; one that goes on to the end drops every choice beside its best; and where nothing is dropped before the first, there
+-- is one after a try for each line, and none before. Each is one induction over the lines, and over the starts of a line. Assumes nothing.
 use Prim.Native.Nat.{ℕ, suc, _+_, _≤_, _<_}
 use mathlib.Core.Path.{_≡_, refl, sym, ap, _∙_}
 use mathlib.Core.Bool.{Bool, true, false}
@@ -15,7 +15,8 @@ use Rattle.network.specs.Rating.{noRating}
 use Rattle.network.proofs.Laws.Lists.{zero-ne-one}
 use Rattle.network.proofs.Laws.Members.{All}
 use Rattle.search.specs.Walk.{State, Rule, atFirst, tryMade, stop, becomesBest, oneTry, walk}
-use Rattle.search.proofs.Laws.Walk.{ChosenBelow, none-left, next, eachStart-holds, oneTry-cases, oneTry-over, over-of-ended, walk-keeps}
+use Rattle.search.proofs.Laws.Walk.{ChosenBelow, none-left, next, eachStart-holds, eachStart-after-first, oneTry-cases, made-onward}
+use Rattle.search.proofs.Laws.Walk.{oneTry-over, over-of-stopped, over-of-ended, walk-keeps}
 
 -- ---- what a rule keeps
 
@@ -167,50 +168,79 @@ pub record BestIsChosen (upper : List ℤ → Rating) (counts : List ℕ) (best 
   pub none : best .some ≡ false → starts ≡ []
 
 module _ (upper : List ℤ → Rating) (rule : Rule) (budget : ℕ) (rates : (starts : List ℤ) → upper starts .some ≡ true) where
-  -- By a rule that ends at its first full timetable and drops nothing before it, one try for each line that is left is all
-  module _ (ends : rule .endsAtFirst ≡ true) (free : (starts : List ℤ) (b : Rating) → b .some ≡ false → rule .drops (upper starts) b ≡ false) where
-    -- a line's first start is yet to be tried, or the walk has come to its end
-    unfoldable Descended : State → ℕ → ℕ → State → Type 0
-    Descended s lines x t = ((x ≡ 0) × (t ≡ s)) ⊎ ((t .best .some ≡ true) × (t .tries ≡ s .tries + lines))
+  -- A best stays, or a later one is in its place
+  walk-keeps-best : (counts : List ℕ) (placed : List ℤ) (s : State) → s .best .some ≡ true → walk upper rule budget counts placed s .best .some ≡ true
+  unfolding becomesBest stop tryMade
+  walk-keeps-best counts placed s =
+      walk-keeps upper rule budget (λ t. t .best .some ≡ true) (λ p t. Unit {0}) (λ t e f h. h) (λ t e f h. h) (λ p t e d. tt) counts placed
+      (λ tail c t b h. rates (placed ++ tail)) s (λ z. tt)
 
-    descended-end : (s t : State) (lines count : ℕ) → 0 < count → Descended s lines count t → (t .best .some ≡ true) × (t .tries ≡ s .tries + lines)
-    unfolding Descended
-    descended-end s t lines count h (inl (e, f)) = absurd (omega (arith, e))
-    descended-end s t lines count h (inr d) = d
+  -- By a rule that drops nothing before the first full timetable the walk first places one line after the other, each with one try
+  module _ (free : (starts : List ℤ) → rule .drops (upper starts) noRating ≡ false) where
+    first-stands : (placed : List ℤ) (onward : State → State) (s : State) → s .stopped ≡ false → s .best ≡ noRating → s .tries < budget
+        → oneTry rule budget (upper placed) onward s ≡ onward (tryMade s)
+    first-stands placed onward s unstopped none left =
+        made-onward rule budget (upper placed) onward s (record { unstopped = unstopped; unended = λ e. ap (λ (b : Rating). b .some) none })
+        (λ e. omega arith) (ap (λ (b : Rating). rule .drops (upper placed) b) none ∙ free placed)
 
-    descended-next : (placed : List ℤ) (lines : ℕ) (onward : State → State)
-        → ((u : State) → u .stopped ≡ false → u .best .some ≡ false → u .tries + lines ≤ budget → (onward u .best .some ≡ true) × (onward u .tries ≡ u .tries + lines))
-        → (s : State) → s .stopped ≡ false → s .best .some ≡ false → s .tries + suc lines ≤ budget
-        → (x : ℕ) (t : State) → Descended s (suc lines) x t → Descended s (suc lines) (suc x) (oneTry rule budget (upper placed) onward t)
-    unfolding Descended tryMade
-    descended-next placed lines onward rest s unstopped none enough x t (inl (z, e)) =
-        rw e
-        (oneTry-cases rule budget (Descended s (suc lines) (suc x)) (upper placed) onward s
-        (λ f. absurd (zero-ne-one (cc)))
-        (λ f g. absurd (zero-ne-one (cc)))
-        (λ f g. absurd (omega arith))
-        (λ f g d. absurd (zero-ne-one (cc (free placed (s .best) none))))
-        (λ f g d. let (some, tries) = rest (tryMade s) unstopped none (omega arith) in inr (some, omega (arith, tries))))
-    descended-next placed lines onward rest s unstopped none enough x t (inr d) =
-        rw (oneTry-over rule budget (upper placed) onward t (over-of-ended rule t ends (d .0))) (inr d)
+    -- With a try for each line that is left it has a best ..
+    walk-descends : (counts : List ℕ) → All 0 (λ count. 0 < count) counts → (placed : List ℤ) (s : State) → s .stopped ≡ false
+        → s .best ≡ noRating → s .tries + length counts ≤ budget → walk upper rule budget counts placed s .best .some ≡ true
+    unfolding walk becomesBest stop tryMade
+    walk-descends [] positive placed s unstopped none enough = rates placed
+    walk-descends (count ∷ rest) positive placed s unstopped none enough =
+        let placed′ : List ℤ = placed ++ (pos 0 ∷ []) in
+        eachStart-after-first _ (λ t. t .best .some ≡ true) count s (positive 0 (zero-lt-suc _))
+        (rw (first-stands placed′ (walk upper rule budget rest placed′) s unstopped none (omega arith))
+        (walk-descends rest (λ i h. positive (suc i) (omega arith)) placed′ (tryMade s) unstopped none (omega arith)))
+        (λ x t some. oneTry-cases rule budget (λ u. u .best .some ≡ true) _ _ t (λ e. some) (λ e f. some) (λ e f. some) (λ e f d. some)
+        (λ e f d. walk-keeps-best rest (placed ++ (pos x ∷ [])) (tryMade t) some))
 
-    walk-descends-once : (counts : List ℕ) → All 0 (λ count. 0 < count) counts → (placed : List ℤ) (s : State) → s .stopped ≡ false
-        → s .best .some ≡ false → s .tries + length counts ≤ budget
-        → (walk upper rule budget counts placed s .best .some ≡ true) × (walk upper rule budget counts placed s .tries ≡ s .tries + length counts)
-    unfolding walk becomesBest Descended
-    walk-descends-once [] positive placed s unstopped none enough = (rates placed, omega arith)
-    walk-descends-once (count ∷ rest) positive placed s unstopped none enough =
-        let below : All 0 (λ c. 0 < c) rest = λ i h. positive (suc i) (omega arith) in
-        descended-end s (walk upper rule budget (count ∷ rest) placed s) (length (count ∷ rest)) count (positive 0 (zero-lt-suc _))
-        (eachStart-holds _ (Descended s (length (count ∷ rest))) count s (inl (refl, refl))
-        (λ x l. descended-next (placed ++ (pos x ∷ [])) (length rest) (walk upper rule budget rest (placed ++ (pos x ∷ [])))
-        (walk-descends-once rest below (placed ++ (pos x ∷ []))) s unstopped none enough x))
+    -- .. and with fewer it stops on the way and has none
+    walk-stops-short : (counts : List ℕ) → All 0 (λ count. 0 < count) counts → (placed : List ℤ) (s : State) → s .stopped ≡ false
+        → s .best ≡ noRating → s .tries ≤ budget → budget < s .tries + length counts
+        → (walk upper rule budget counts placed s .stopped ≡ true) × (walk upper rule budget counts placed s .best .some ≡ false)
+    unfolding walk stop tryMade
+    walk-stops-short [] positive placed s unstopped none within few = absurd (omega arith)
+    walk-stops-short (count ∷ rest) positive placed s unstopped none within few =
+        let placed′ : List ℤ = placed ++ (pos 0 ∷ []) in
+        let without : s .best .some ≡ false = ap (λ (b : Rating). b .some) none in
+        eachStart-after-first _ (λ t. (t .stopped ≡ true) × (t .best .some ≡ false)) count s (positive 0 (zero-lt-suc _))
+        (oneTry-cases rule budget (λ t. (t .stopped ≡ true) × (t .best .some ≡ false)) (upper placed′) (walk upper rule budget rest placed′) s
+        (λ e. absurd (zero-ne-one (cc)))
+        (λ e f. absurd (zero-ne-one (cc)))
+        (λ e f. (refl, without))
+        (λ e f d. absurd (zero-ne-one (cc (ap (λ (b : Rating). rule .drops (upper placed′) b) none ∙ free placed′))))
+        (λ e f d. walk-stops-short rest (λ i h. positive (suc i) (omega arith)) placed′ (tryMade s) unstopped none (omega arith) (omega arith)))
+        (λ x t h. rw (oneTry-over rule budget, over-of-stopped rule t (h .0)) h)
 
     -- on the whole
-    pub first-descent-is-all : (counts : List ℕ) → All 0 (λ count. 0 < count) counts → length counts ≤ budget
-        → (walk upper rule budget counts [] atFirst .best .some ≡ true) × (walk upper rule budget counts [] atFirst .tries ≡ length counts)
-    first-descent-is-all counts positive enough =
-        let (some, tries) = walk-descends-once counts positive [] atFirst refl refl (omega arith) in (some, omega (arith, tries))
+    module _ (counts : List ℕ) (positive : All 0 (λ count. 0 < count) counts) where
+      pub first-descent-reaches : length counts ≤ budget → walk upper rule budget counts [] atFirst .best .some ≡ true
+      first-descent-reaches enough = walk-descends counts positive [] atFirst refl refl (omega arith)
+
+      pub first-descent-cut-short : budget < length counts
+          → (walk upper rule budget counts [] atFirst .stopped ≡ true) × (walk upper rule budget counts [] atFirst .best .some ≡ false)
+      first-descent-cut-short few = walk-stops-short counts positive [] atFirst refl refl (omega arith) (omega arith)
+
+    -- Where the rule ends at its first full timetable, these tries are all
+    module _ (ends : rule .endsAtFirst ≡ true) where
+      walk-descends-once : (counts : List ℕ) → All 0 (λ count. 0 < count) counts → (placed : List ℤ) (s : State) → s .stopped ≡ false
+          → s .best ≡ noRating → s .tries + length counts ≤ budget
+          → (walk upper rule budget counts placed s .best .some ≡ true) × (walk upper rule budget counts placed s .tries ≡ s .tries + length counts)
+      unfolding walk becomesBest tryMade
+      walk-descends-once [] positive placed s unstopped none enough = (rates placed, omega arith)
+      walk-descends-once (count ∷ rest) positive placed s unstopped none enough =
+          let placed′ : List ℤ = placed ++ (pos 0 ∷ []) in
+          let (some, tries) = walk-descends-once rest (λ i h. positive (suc i) (omega arith)) placed′ (tryMade s) unstopped none (omega arith) in
+          eachStart-after-first _ (λ t. (t .best .some ≡ true) × (t .tries ≡ s .tries + length (count ∷ rest))) count s (positive 0 (zero-lt-suc _))
+          (rw (first-stands placed′ (walk upper rule budget rest placed′) s unstopped none (omega arith)) (some, omega (arith, tries)))
+          (λ x t h. rw (oneTry-over rule budget, over-of-ended rule t ends (h .0)) h)
+
+      pub first-descent-is-all : (counts : List ℕ) → All 0 (λ count. 0 < count) counts → length counts ≤ budget
+          → (walk upper rule budget counts [] atFirst .best .some ≡ true) × (walk upper rule budget counts [] atFirst .tries ≡ length counts)
+      first-descent-is-all counts positive enough =
+          let (some, tries) = walk-descends-once counts positive [] atFirst refl refl (omega arith) in (some, omega (arith, tries))
 
   module _ (counts : List ℕ) where
     -- Whether the walk stopped or not, and whatever its rule, its best is a choice ..

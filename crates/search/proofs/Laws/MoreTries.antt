@@ -15,28 +15,7 @@ use Rattle.network.proofs.Laws.Lists.{zero-ne-one}
 use Rattle.search.specs.Walk.{State, Rule, atFirst, tryMade, stop, becomesBest, oneTry, eachStart, walk}
 use Rattle.search.specs.Search.{walked}
 use Rattle.search.proofs.Laws.OnNetwork.{walked-stopped}
-use Rattle.search.proofs.Laws.Walk.{Due, oneTry-cases, oneTry-over, over-of-stopped, over-of-ended, walk-tries-rise}
-
--- ---- a try that is made
-
-module _ (rule : Rule) (budget : ℕ) (upper : Rating) (onward : State → State) (s : State) (due : Due rule s) (left : s .tries ≡ budget → ⊥) where
-  made-dropped : rule .drops upper (s .best) ≡ true → oneTry rule budget upper onward s ≡ tryMade s
-  made-dropped d =
-      oneTry-cases rule budget (λ t. t ≡ tryMade s) upper onward s
-      (λ e. absurd (zero-ne-one (cc (due .unstopped))))
-      (λ e f. absurd (zero-ne-one (cc (due .unended e))))
-      (λ e f. absurd (left f))
-      (λ e f g. refl)
-      (λ e f g. absurd (zero-ne-one (cc)))
-
-  made-onward : rule .drops upper (s .best) ≡ false → oneTry rule budget upper onward s ≡ onward (tryMade s)
-  made-onward d =
-      oneTry-cases rule budget (λ t. t ≡ onward (tryMade s)) upper onward s
-      (λ e. absurd (zero-ne-one (cc (due .unstopped))))
-      (λ e f. absurd (zero-ne-one (cc (due .unended e))))
-      (λ e f. absurd (left f))
-      (λ e f g. absurd (zero-ne-one (cc)))
-      (λ e f g. refl)
+use Rattle.search.proofs.Laws.Walk.{Due, oneTry-cases, made-dropped, made-onward, oneTry-over, over-of-stopped, over-of-ended, walk-tries-rise}
 
 -- ---- two budgets
 

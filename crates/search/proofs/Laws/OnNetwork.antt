@@ -16,7 +16,7 @@ use Rattle.network.proofs.Laws.Members.{All}
 use Rattle.network.proofs.Laws.Gaps.{rating-is-rating}
 use Rattle.search.specs.Caps.{cap, upperRating}
 use Rattle.search.specs.Walk.{State, Rule, atFirst, tryMade, stop, oneTry, walk, mostTries}
-use Rattle.search.specs.Search.{startCounts, walked, triesBound, productsFrom}
+use Rattle.search.specs.Search.{startCounts, walked, triesBound, productsFrom, demandedBound}
 use Rattle.search.proofs.Laws.Upper.{upper-full, upperRating-some}
 use Rattle.search.proofs.Laws.Tries.{length-startCounts}
 use Rattle.search.proofs.Laws.Walk.{ChosenBelow, next, ChosenBelow-length, ChosenBelow-at, eachStart-one, oneTry-cases}
@@ -144,7 +144,7 @@ unfolding mostTries
 productsFrom-mostTries k [] = omega arith
 productsFrom-mostTries k (t ∷ rest) = omega (arith, productsFrom-mostTries (k * t) rest)
 
-pub triesBound-products : (n : Net) → 0 < length (n .periods) → triesBound n ≡ 1 + productsFrom 1 (drop 1 (n .periods))
+pub triesBound-products : (n : Net) → 0 < length (n .periods) → triesBound n ≡ demandedBound n
 unfolding triesBound startCounts mostTries
 triesBound-products n = go (n .periods)
   where

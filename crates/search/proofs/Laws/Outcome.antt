@@ -20,6 +20,21 @@ use Rattle.search.proofs.Laws.OnNetwork.{walked-tries-le, walked-tries-
 use Rattle.search.proofs.Laws.Reordered.{walked-same}
 use Rattle.search.proofs.Laws.StartRow.{onStartRow-fit, onStartRow-cases, onStartRow-same, onStartRow-refuses, onStartRow-refuses-only}
 
+-- ---- what a walk at its end gives
+
+module _ (s : State) where
+  pub outcomeOf-finished : s .stopped ≡ false → outcomeOf s ≡ finished (s .best .least) (s .best .sum) (s .tries)
+  unfolding outcomeOf walkOutcome
+  outcomeOf-finished e = ap (λ (a : Bool). walkOutcome a (s .best .some) s) e
+
+  pub outcomeOf-stopped : s .stopped ≡ true → s .best .some ≡ true → outcomeOf s ≡ stopped (s .best .least) (s .best .sum) (s .tries)
+  unfolding outcomeOf walkOutcome
+  outcomeOf-stopped e f = ap₂ (λ (a b : Bool). walkOutcome a b s) e f
+
+  pub outcomeOf-none : s .stopped ≡ true → s .best .some ≡ false → outcomeOf s ≡ stoppedWithNone (s .tries)
+  unfolding outcomeOf walkOutcome
+  outcomeOf-none e f = ap₂ (λ (a b : Bool). walkOutcome a b s) e f
+
 -- ---- a row that fits
 
 module _ (n : Net) (row : List ℤ) (budget : ℕ) (fits : length row ≡ length (n .periods)) where

@@ -21,7 +21,7 @@ use Rattle.search.specs.Wanted.{atLeast}
 use Rattle.search.proofs.Laws.Walk.{ChosenBelow}
 use Rattle.search.proofs.Laws.Bounds.{IsUpper, BoundsEach}
 use Rattle.search.proofs.Laws.Best.{DropsCompletions, Cuts, finished-none-stands, finished-has-best, finished-drops-all}
-use Rattle.search.proofs.Laws.Best.{first-descent-is-all, best-stood, ended-unstopped}
+use Rattle.search.proofs.Laws.Best.{first-descent-reaches, first-descent-cut-short, first-descent-is-all, best-stood, ended-unstopped}
 
 -- ---- document 01's rule
 
@@ -43,6 +43,14 @@ module _ (upper : List ℤ → Rating) (budget : ℕ) (counts : List ℕ) (rates
   aboveBest-stands : (starts : List ℤ) → aboveBest .drops (upper starts) noRating ≡ false
   unfolding aboveBest notAbove
   aboveBest-stands starts = rw (isAbove-none (upper starts) ∙ rates starts) refl
+
+  -- With a try for each line there is a best, with fewer the walk stops without one
+  module _ (positive : All 0 (λ count. 0 < count) counts) where
+    pub aboveBest-reaches : length counts ≤ budget → walked .best .some ≡ true
+    aboveBest-reaches = first-descent-reaches upper aboveBest budget rates aboveBest-stands counts positive
+
+    pub aboveBest-cut-short : budget < length counts → (walked .stopped ≡ true) × (walked .best .some ≡ false)
+    aboveBest-cut-short = first-descent-cut-short upper aboveBest budget rates aboveBest-stands counts positive
 
   -- After a walk that hasn't stopped no choice is above the best; and if there is a choice, there is a best
   module _ (sound : IsUpper upper counts) (finished : walked .stopped ≡ false) (starts : List ℤ) (choice : ChosenBelow counts starts) where
@@ -87,7 +95,7 @@ module _ (upper : List ℤ → Rating) (wanted budget : ℕ) (counts : List ℕ)
       → (found .best .some ≡ true) × (found .tries ≡ length counts)
   unfolding atLeast
   atLeast-0-first-descent e =
-      first-descent-is-all upper (atLeast wanted) budget rates refl (λ starts b n. le-ltb (upper starts .least) wanted (omega arith)) counts
+      first-descent-is-all upper (atLeast wanted) budget rates (λ starts. le-ltb (upper starts .least) wanted (omega arith)) refl counts
 
 -- ---- the rule of request A.11's second pass
 

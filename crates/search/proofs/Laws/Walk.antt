@@ -60,6 +60,14 @@ module _ (step : ℕ → State → State) where
   eachStart-holds P (suc count) s h f =
       rw zero-add (f count (le-refl _) _ (eachStart-holds P count s h (λ x l. f x (omega arith))))
 
+  -- What the first step brings and each further one carries on
+  pub eachStart-after-first : (P : State → Type 0) (count : ℕ) (s : State) → 0 < count → P (step 0 s)
+      → ((x : ℕ) (t : State) → P t → P (step x t)) → P (eachStart step 0 count s)
+  unfolding eachStart
+  eachStart-after-first P zero s h f g = absurd (omega arith)
+  eachStart-after-first P (suc zero) s h f g = f
+  eachStart-after-first P (suc (suc count)) s h f g = g (0 + suc count) _ (eachStart-after-first P (suc count) s (zero-lt-suc count) f g)
+
 -- ---- one try
 
 -- A try is due: the walk hasn't stopped, nor ended at its first full timetable
@@ -133,6 +141,26 @@ module _ (rule : Rule) (budget : ℕ) where
       either : (s .stopped ≡ true) ⊎ ((rule .endsAtFirst ≡ true) × (s .best .some ≡ true)) → Q s
       either (inl e) = f e
       either (inr (e, e′)) = f′ e e′
+
+  -- A try that is made
+  module _ (upper : Rating) (onward : State → State) (s : State) (due : Due rule s) (left : s .tries ≡ budget → ⊥) where
+    pub made-dropped : rule .drops upper (s .best) ≡ true → oneTry rule budget upper onward s ≡ tryMade s
+    made-dropped d =
+        oneTry-cases (λ t. t ≡ tryMade s) upper onward s
+        (λ e. absurd (zero-ne-one (cc (due .unstopped))))
+        (λ e f. absurd (zero-ne-one (cc (due .unended e))))
+        (λ e f. absurd (left f))
+        (λ e f g. refl)
+        (λ e f g. absurd (zero-ne-one (cc)))
+
+    pub made-onward : rule .drops upper (s .best) ≡ false → oneTry rule budget upper onward s ≡ onward (tryMade s)
+    made-onward d =
+        oneTry-cases (λ t. t ≡ onward (tryMade s)) upper onward s
+        (λ e. absurd (zero-ne-one (cc (due .unstopped))))
+        (λ e f. absurd (zero-ne-one (cc (due .unended e))))
+        (λ e f. absurd (left f))
+        (λ e f g. absurd (zero-ne-one (cc)))
+        (λ e f g. refl)
 
   -- ---- a walk that is over stays as it is
 
