@@ -1,5 +1,6 @@
--- The cases P1 to P9 of document 01, as one theorem over a list of cases, and with a wanted gap (document 02, A.3) as another: by the
--- definitions, from the files' bytes. Each side computes. Assumes nothing.
+-- The cases P1 to P9 of document 01, as one theorem over a list of cases, with a wanted gap (document 02, A.3) as another, and two more: tries that
+-- tell one cap from another, and demand 3's bound; and the refusals of both calls. By the definitions, from the files' bytes. Each side computes.
+-- Assumes nothing.
 use Prim.Native.Nat.{ℕ}
 use mathlib.Core.Path.{_≡_, refl}
 use mathlib.Core.List.{List, [], _∷_}
@@ -19,7 +20,7 @@ use Rattle.network.specs.Classes.{ordered, remainder, sameLine, sameRemainder, 
 use Rattle.network.specs.Loops.{ownGap}
 use Rattle.search.specs.Caps.{halfOf, pairCap, pairCaps, evenSpacing, capOfCalls, cap, placedCalls, upperValue, upperRating}
 use Rattle.search.specs.Walk.{isOver, tryMade, stop, becomesBest, unless, stopIf, oneTry, eachStart, walk, mostTries}
-use Rattle.search.specs.Search.{SearchOutcome, finished, stopped, stoppedWithNone, startCounts, notAbove, aboveBest, walked, triesBound, walkOutcome, outcomeOf}
+use Rattle.search.specs.Search.{SearchOutcome, finished, stopped, stoppedWithNone, refusal, demandedBound, startCounts, notAbove, aboveBest, walked, triesBound, walkOutcome, outcomeOf}
 use Rattle.search.specs.Search.{onStartRow, rowAfterWalk, searchOutcome, startRowAfter}
 use Rattle.search.specs.Wanted.{WantedOutcome, atLeast, reachedBy, reachedOf, wantedOutcome, wantedRowAfter}
 use Rattle.search.specs.Wanted as wanted
@@ -46,16 +47,45 @@ p9 = 0x4C ∷ 0 ∷ 20 ∷ 0x4C ∷ 0 ∷ 30 ∷ 0x43 ∷ 0 ∷ 0 ∷ 0 ∷ 0 �
 pub twoStops : List ℕ
 twoStops = 0x4C ∷ 0 ∷ 4 ∷ 0x4C ∷ 0 ∷ 4 ∷ 0x43 ∷ 0 ∷ 0 ∷ 0 ∷ 0 ∷ 0x43 ∷ 1 ∷ 0 ∷ 0 ∷ 0 ∷ 0x43 ∷ 0 ∷ 1 ∷ 0 ∷ 0 ∷ 0x43 ∷ 1 ∷ 1 ∷ 0 ∷ 1 ∷ 0x45 ∷ []
 
--- A case: a sheet that is rated, a search with its budget, a wanted gap with its budget, and the classes and weights of the first stops
+-- Periods 15, 20, 4 at one stop, offsets 0
+pub threeLines : List ℕ
+threeLines = 0x4C ∷ 0 ∷ 15 ∷ 0x4C ∷ 0 ∷ 20 ∷ 0x4C ∷ 0 ∷ 4 ∷ 0x43 ∷ 0 ∷ 0 ∷ 0 ∷ 0 ∷ 0x43 ∷ 1 ∷ 0 ∷ 0 ∷ 0 ∷ 0x43 ∷ 2 ∷ 0 ∷ 0 ∷ 0 ∷ 0x45 ∷ []
+
+-- Three lines of 6: two at stop 1, the third alone at stop 0, twice, a minute apart
+pub loopAlone : List ℕ
+loopAlone = 0x4C ∷ 0 ∷ 6 ∷ 0x4C ∷ 0 ∷ 6 ∷ 0x4C ∷ 0 ∷ 6 ∷ 0x43 ∷ 0 ∷ 1 ∷ 0 ∷ 0 ∷ 0x43 ∷ 1 ∷ 1 ∷ 0 ∷ 0 ∷ 0x43 ∷ 2 ∷ 0 ∷ 0 ∷ 0 ∷ 0x43 ∷ 2 ∷ 0 ∷ 0 ∷ 1 ∷ 0x45 ∷ []
+
+-- Periods 12, 3, 4: at stop 0 the first and, twice, the third, at stop 1 the first and the second
+pub loopBeside : List ℕ
+loopBeside =
+    0x4C ∷ 0 ∷ 12 ∷ 0x4C ∷ 0 ∷ 3 ∷ 0x4C ∷ 0 ∷ 4 ∷ 0x43 ∷ 0 ∷ 0 ∷ 0 ∷ 0 ∷ 0x43 ∷ 0 ∷ 1 ∷ 0 ∷ 0 ∷ 0x43 ∷ 1 ∷ 1 ∷ 0 ∷ 0 ∷ 0x43 ∷ 2 ∷ 0 ∷ 0 ∷ 0 ∷ 0x43 ∷ 2 ∷ 0 ∷ 0 ∷ 2 ∷ 0x45 ∷ []
+
+-- Four lines of 60 at one stop
+pub fourOf60 : List ℕ
+fourOf60 =
+    0x4C ∷ 0 ∷ 60 ∷ 0x4C ∷ 0 ∷ 60 ∷ 0x4C ∷ 0 ∷ 60 ∷ 0x4C ∷ 0 ∷ 60 ∷ 0x43 ∷ 0 ∷ 0 ∷ 0 ∷ 0 ∷ 0x43 ∷ 1 ∷ 0 ∷ 0 ∷ 0 ∷ 0x43 ∷ 2 ∷ 0 ∷ 0 ∷ 0 ∷ 0x43 ∷ 3 ∷ 0 ∷ 0 ∷ 0 ∷ 0x45 ∷ []
+
+-- P1 without its last byte
+pub unended : List ℕ
+unended = 0x4C ∷ 0 ∷ 15 ∷ 0x4C ∷ 0 ∷ 20 ∷ 0x43 ∷ 0 ∷ 0 ∷ 0 ∷ 8 ∷ 0x43 ∷ 1 ∷ 0 ∷ 0 ∷ 17 ∷ []
+
+-- A case: a sheet that is rated, a search with its budget, a wanted gap with its budget, the classes and weights of the first stops, and demand 3's
+-- bound
 pub data Case : Type 0 where
   rates : List ℕ → List ℤ → ℕ → ℕ → Case
   searches : List ℕ → ℕ → SearchOutcome → List ℤ → Case
   wants : List ℕ → ℕ → ℕ → WantedOutcome → List ℤ → Case
   classes : List ℕ → List ℕ → List ℕ → ℕ → Case
+  bounds : List ℕ → ℕ → Case
 
 pub rowsOf : Reading → ℕ → List ℕ × (List ℕ × ℕ)
 rowsOf (refused number place) k = ([], ([], 0))
 rowsOf (accepted n) k = (take k (classRow n), (take k (weightRow n), classCount n))
+
+-- Of the network that a file reads to
+pub boundOf : Reading → ℕ
+boundOf (refused number place) = 0
+boundOf (accepted n) = demandedBound n
 
 pub Holds : Case → Type 0
 Holds (rates file sheet least sum) = rateOutcome (readFile file) sheet ≡ values (least ∷ sum ∷ [])
@@ -64,6 +94,7 @@ Holds (searches file budget outcome starts) =
 Holds (wants file gap budget outcome starts) =
     (wantedOutcome (readFile file) (length starts) gap budget ≡ outcome) × (wantedRowAfter (readFile file) gap budget (replicate (length starts) (pos 77)) ≡ starts)
 Holds (classes file cs ws count) = rowsOf (readFile file) (length cs) ≡ (cs, (ws, count))
+Holds (bounds file most) = boundOf (readFile file) ≡ most
 
 pub Every : List Case → Type 0
 Every [] = Unit {0}
@@ -113,3 +144,46 @@ pub wanted-cases-hold : Every wantedCases
 unfolding opened p1 p8 p9 twoStops rowsOf Holds Every wantedCases
 wanted-cases-hold =
     ((refl, refl), ((refl, refl), ((refl, refl), ((refl, refl), ((refl, refl), ((refl, refl), ((refl, refl), ((refl, refl), ((refl, refl), ((refl, refl), ((refl, refl), ((refl, refl), ((refl, refl), ((refl, refl), ((refl, refl), ((refl, refl), tt))))))))))))))))
+
+-- Caps, by the tries of a finished search. Half of g rounded down, where the whole g, or the half rounded up, takes 89; an own pair's exact gap, where
+-- half the period takes 37; one term for each call, where one for each line takes 16
+pub capCases : List Case
+capCases =
+    searches threeLines 1000000 (finished 0 0 25) (pos 0 ∷ pos 0 ∷ pos 0 ∷ []) ∷
+    searches loopAlone 1000000 (finished 1 4 31) (pos 0 ∷ pos 3 ∷ pos 0 ∷ []) ∷
+    searches loopBeside 1000000 (finished 1 2 12) (pos 0 ∷ pos 1 ∷ pos 1 ∷ []) ∷
+    []
+
+pub caps-by-tries : Every capCases
+unfolding opened threeLines loopAlone loopBeside rowsOf boundOf Holds Every capCases
+caps-by-tries = ((refl, refl), ((refl, refl), ((refl, refl), tt)))
+
+-- Demand 3's bound, 1 + T1 + T1×T2 + .. over the periods after the first
+pub boundCases : List Case
+boundCases = bounds p1 21 ∷ bounds p7 111 ∷ bounds p8 781 ∷ bounds fourOf60 219661 ∷ []
+
+pub bounds-by-periods : Every boundCases
+unfolding opened p1 p7 p8 fourOf60 rowsOf boundOf Holds Every boundCases
+bounds-by-periods = (refl, (refl, (refl, (refl, tt))))
+
+-- Ground 16 at place 0 where the start row hasn't one place for each line, and a refused file's own ground before it; the row is as found
+pub refusedCases : List Case
+refusedCases =
+    searches p1 1000000 (refusal 16 0) (pos 77 ∷ []) ∷
+    searches p1 1000000 (refusal 16 0) (pos 77 ∷ pos 77 ∷ pos 77 ∷ []) ∷
+    searches p1 0 (refusal 16 0) [] ∷
+    searches unended 1000000 (refusal 1 16) (pos 77 ∷ []) ∷
+    searches unended 1000000 (refusal 1 16) (pos 77 ∷ pos 77 ∷ []) ∷
+    searches unended 1000000 (refusal 1 16) (pos 77 ∷ pos 77 ∷ pos 77 ∷ []) ∷
+    wants p1 2 1000000 (wanted.refusal 16 0) (pos 77 ∷ []) ∷
+    wants p1 2 1000000 (wanted.refusal 16 0) (pos 77 ∷ pos 77 ∷ pos 77 ∷ []) ∷
+    wants p1 0 0 (wanted.refusal 16 0) [] ∷
+    wants unended 2 1000000 (wanted.refusal 1 16) (pos 77 ∷ []) ∷
+    wants unended 2 1000000 (wanted.refusal 1 16) (pos 77 ∷ pos 77 ∷ []) ∷
+    wants unended 2 1000000 (wanted.refusal 1 16) (pos 77 ∷ pos 77 ∷ pos 77 ∷ []) ∷
+    []
+
+pub refused-by-ground : Every refusedCases
+unfolding opened p1 unended rowsOf boundOf Holds Every refusedCases
+refused-by-ground =
+    ((refl, refl), ((refl, refl), ((refl, refl), ((refl, refl), ((refl, refl), ((refl, refl), ((refl, refl), ((refl, refl), ((refl, refl), ((refl, refl), ((refl, refl), ((refl, refl), tt))))))))))))
