@@ -1,5 +1,5 @@
--- The cases P1 to P9 of document 01, as one theorem over a list of cases, with a wanted gap (document 02, A.3) as another, and two more: tries that
--- tell one cap from another, and demand 3's bound; and the refusals of both calls. By the definitions, from the files' bytes. Each side computes.
+-- The cases P1 to P9 of document 01, as one theorem over a list of cases; and as one each, cases with a wanted gap (document 02, A.3), caps by the
+-- tries they lead to, demand 3's bounds, and start rows that both calls refuse: by the definitions, from the files' bytes. Each side computes.
 -- Assumes nothing.
 use Prim.Native.Nat.{ℕ}
 use mathlib.Core.Path.{_≡_, refl}
@@ -155,7 +155,7 @@ capCases =
     []
 
 pub caps-by-tries : Every capCases
-unfolding opened threeLines loopAlone loopBeside rowsOf boundOf Holds Every capCases
+unfolding opened threeLines loopAlone loopBeside Holds Every capCases
 caps-by-tries = ((refl, refl), ((refl, refl), ((refl, refl), tt)))
 
 -- Demand 3's bound, 1 + T1 + T1×T2 + .. over the periods after the first
@@ -163,7 +163,7 @@ pub boundCases : List Case
 boundCases = bounds p1 21 ∷ bounds p7 111 ∷ bounds p8 781 ∷ bounds fourOf60 219661 ∷ []
 
 pub bounds-by-periods : Every boundCases
-unfolding opened p1 p7 p8 fourOf60 rowsOf boundOf Holds Every boundCases
+unfolding opened p1 p7 p8 fourOf60 boundOf Holds Every boundCases
 bounds-by-periods = (refl, (refl, (refl, (refl, tt))))
 
 -- Ground 16 at place 0 where the start row hasn't one place for each line, and a refused file's own ground before it; the row is as found
@@ -183,7 +183,7 @@ refusedCases =
     wants unended 2 1000000 (wanted.refusal 1 16) (pos 77 ∷ pos 77 ∷ pos 77 ∷ []) ∷
     []
 
-pub refused-by-ground : Every refusedCases
-unfolding opened p1 unended rowsOf boundOf Holds Every refusedCases
-refused-by-ground =
+pub start-rows-refused : Every refusedCases
+unfolding opened p1 unended Holds Every refusedCases
+start-rows-refused =
     ((refl, refl), ((refl, refl), ((refl, refl), ((refl, refl), ((refl, refl), ((refl, refl), ((refl, refl), ((refl, refl), ((refl, refl), ((refl, refl), ((refl, refl), ((refl, refl), tt))))))))))))
