@@ -4,3 +4,4 @@ pub mod Chosen
 pub mod Hundred
 pub mod Refusals
 pub mod BoardBytes
+pub mod Alike

@@ -31,7 +31,7 @@ use Rattle.search.proofs.Laws.Optimal.{searched-some, searched-best}
 use Rattle.search.proofs.Laws.Outcome.{outcomeOf-finished, outcomeOf-stopped, outcomeOf-none}
 use Rattle.search.proofs.Laws.Outcome.{fit-outcome, fit-row, AnswerTells, told-of-finished, told-of-stopped, told-of-none}
 use Rattle.search.proofs.Laws.Outcome.{outcome-tries-le, outcome-tries-le-budget, outcome-finished}
-use Rattle.search.proofs.Laws.Outcome.{searchOutcome-same, startRowAfter-same, search-refuses, search-refuses-only, row-as-found}
+use Rattle.search.proofs.Laws.Outcome.{search-refuses, search-refuses-only, row-as-found}
 use Rattle.search.proofs.entry.search as search
 use Rattle.search.proofs.entry.search.Kinds as search-kinds
 use Rattle.search.proofs.entry.search.Reads as search-contract
@@ -40,6 +40,9 @@ use Rattle.search.proofs.entry.search.Reads as search-contract
 pub use Rattle.search.specs.Search.{demandedBound}
 pub use Rattle.search.proofs.Laws.Optimal.{searched-none-exactly}
 pub use Rattle.search.proofs.Laws.Answers.{searchAnswer-finished, searchAnswer-stopped, searchAnswer-none, searchAnswer-refused}
+-- ---- What it answers and leaves on two networks with the same periods and offsets
+
+pub use Rattle.search.proofs.Laws.Outcome.{searchOutcome-same, startRowAfter-same}
 
 -- ---- What is demanded, of an accepted network, the start row and the budget as lent, the answer, and the row afterwards
 

@@ -31,7 +31,7 @@ use Rattle.search.proofs.Demands.{WalkedStarts, searches, demand-3}
 use Rattle.search.proofs.Laws.MoreTries.{walked-with-more, walked-was-due}
 use Rattle.search.proofs.Laws.OnNetwork.{triesBound-products, walked-length, walked-first, walked-below, walked-rating, walked-stopped, walked-finishes, walked-without-budget}
 use Rattle.search.proofs.Laws.Reaches.{reached-by-best, reached-by-none, reached-at-once, above-cap, above-period}
-use Rattle.search.proofs.Laws.Reached.{reachedOf-found, reachedOf-none, reachedOf-stopped, fit-reached, fit-reached-row, wantedOutcome-same, wantedRowAfter-same}
+use Rattle.search.proofs.Laws.Reached.{reachedOf-found, reachedOf-none, reachedOf-stopped, fit-reached, fit-reached-row}
 use Rattle.search.proofs.Laws.Reached.{ReachedTells, told-of-found, told-of-none, told-of-stopped, reached-tries-le, reached-tries-le-budget}
 use Rattle.search.proofs.Laws.Reached.{wanted-refuses, wanted-refuses-only, row-as-found}
 use Rattle.search.proofs.entry.search as search
@@ -43,6 +43,9 @@ use Rattle.search.proofs.wanted.wanted.Reads as wanted-contract
 -- ---- What each answer of the call tells
 
 pub use Rattle.search.proofs.Laws.Reached.{wantedAnswer-found, wantedAnswer-none, wantedAnswer-stopped, wantedAnswer-refused}
+-- ---- What it answers and leaves on two networks with the same periods and offsets
+
+pub use Rattle.search.proofs.Laws.Reached.{wantedOutcome-same, wantedRowAfter-same}
 
 -- ---- What is asked, of an accepted network, the start row, the wanted gap and the budget as lent, the answer, and the row afterwards
 
