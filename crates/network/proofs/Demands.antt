@@ -4,7 +4,7 @@ use Prim.Native.Nat.{ℕ, _+_, _*_, _≤_, _<_}
 use mathlib.Core.Path.{_≡_, refl, sym, ap, ap₂, subst, _∙_}
 use mathlib.Core.Bool.{true, false}
 use mathlib.Core.List.{List, [], _∷_, _++_}
-use mathlib.Core.Logic.{_↔_}
+use mathlib.Core.Logic.{_⊎_, _↔_}
 use native.Mathlib.Omega.{arith}
 use borrow.Fn.World.{ArgsD, ResD}
 use borrow.Fn.Kinds.{endedOf}
@@ -13,16 +13,14 @@ use denote.Triple.Clauses.{AtExit}
 use lib.Dec.{eqb}
 use lib.IntN.{ℤ}
 use lib.ListN.{length, getD, take, drop}
-use lib.Seq.{take-at}
-use Rattle.network.specs.Lists.{pick, countBelow}
+use Rattle.network.specs.Lists.{countBelow}
 use Rattle.network.specs.Divisor.{Divides}
-use Rattle.network.specs.Network.{Net, firstEdition, maxLines, maxPeriod, maxCycle, maxStop, stopCount, maxCalls, isServed, servedStops, cycle}
+use Rattle.network.specs.Network.{Net, maxLines, maxPeriod, maxCycle, maxStop, stopCount, maxCalls, isServed, servedStops, cycle, word}
 use Rattle.network.specs.Reading.{Reading, Outcome, values, refusal, readFile, accepted, refused, readAnswer, readOutcome}
 use Rattle.network.specs.Gives.{Gives}
 use Rattle.network.specs.Refusals.{Refuses, Unfit, Not64, TooShort, Demand1}
-use Rattle.network.specs.Tidy.{notAfter}
-use Rattle.network.specs.Archive.{tidied, archive, archiveLength, SameOffsets, SameNetwork, archiveAnswer}
-use Rattle.network.specs.Valid.{IsBytes, Valid}
+use Rattle.network.specs.Archive.{editionBytes, tidied, archive, archiveLength, SameOffsets, SameNetwork, archiveAnswer}
+use Rattle.network.specs.Valid.{IsBytes, noCall, Valid}
 use Rattle.network.specs.Rating.{IsRatingOver, IsRating, rating, ratingOver}
 use Rattle.network.specs.ByLines.{IsRatingOfLines}
 use Rattle.network.specs.Rate.{rateAnswer, rateOutcome}
@@ -35,9 +33,11 @@ use Rattle.network.proofs.Laws.Valid.{accepted-valid, cycle-multiple, c
 use Rattle.network.proofs.Laws.Reading.{gives-what-is-read, readFile-gives}
 use Rattle.network.proofs.Laws.Refusals.{read-refuses, read-refuses-only, sheet-refuses, sheet-refuses-only, sheet-answers}
 use Rattle.network.proofs.Laws.Refusals.{class-refuses, class-refuses-only, classes-as-found, weights-as-found, class-answers}
-use Rattle.network.proofs.Laws.Tidy.{Sorted, tidy-sorted}
-use Rattle.network.proofs.Laws.Archive.{read-archive, same-tidied, archive-tidied, archive-of-same, same-of-archive, length-archive, archive-bytes}
+use Rattle.network.proofs.Laws.Tidy.{length-tidy, tidy-in-words}
+use Rattle.network.proofs.Laws.Archive.{read-archive, same-tidied, archive-tidied, length-edition, length-archive, archive-bytes}
+use Rattle.network.proofs.Laws.ArchiveBytes.{edition-bytes-by-first, archive-line-bytes, archive-call-bytes, archive-end-byte}
 use Rattle.network.proofs.Laws.ArchiveCall.{archiveLength-le, archive-refuses, archive-refuses-only, archive-row-as-found, archive-answers}
+use Rattle.network.proofs.Laws.ArchiveCall.{archive-rows-equal, archive-of-written}
 use Rattle.network.proofs.Laws.SameNetwork.{AnswersAlike, same-answers-alike}
 use Rattle.network.proofs.Laws.ByLines.{rating-by-lines}
 use Rattle.network.proofs.Laws.Rating.{rating-is-rating, IsRating-unique}
@@ -265,27 +265,49 @@ module _ (κs : Lfts 3) (a : ArgsD classes.signature κs) (r : ResD classes.sign
 
 -- ---- The archive call: a row that is long enough
 
--- The archive form of an accepted file's network (document 02, A.1 and A.6)
+-- The archive form of an accepted file's network (document 02, A.1 and A.6): its bytes from place to place, and what reading it gives
 pub record IsArchive (n : Net) (form : List ℕ) : Type 0 where
-  pub length-is : length form ≡ pick (eqb (n .edition) firstEdition) 0 2 + 3 * length (n .periods) + 5 * length (n .calls) + 1
+  -- no byte states edition 1, and two state any other; no 46, no 56 in edition 1, and in any other its 56 first
+  pub edition-bytes : ℕ
+  pub edition-bytes-are : (n .edition ≡ 1 → edition-bytes ≡ 0) × ((n .edition ≡ 1 → ⊥) → edition-bytes ≡ 2)
+  pub edition-stated : ArchivedEdition n form
+  pub length-is : length form ≡ edition-bytes + 3 * length (n .periods) + 5 * length (n .calls) + 1
   pub length-range : (9 ≤ length form) × (length form ≤ 1331)
   pub is-bytes : IsBytes form
   -- reading it gives the same periods, offsets and edition ..
   pub read-back : Net
   pub reads : Gives form (accepted read-back)
   pub same-network : SameNetwork read-back n
-  -- .. with the calls by line, then stop, then offset
-  pub in-order : Sorted notAfter (read-back .calls)
+  pub as-many-calls : length (read-back .calls) ≡ length (n .calls)
+  -- .. with the calls by line, then stop, then offset: of two calls the line of the first is smaller; or equal, and the stop smaller; or both are equal, and
+  -- the offset no larger
+  pub in-order : (j k : ℕ) → j < k → k < length (n .calls)
+      → let c = getD (read-back .calls) j noCall in
+      let d = getD (read-back .calls) k noCall in
+      (c .line < d .line)
+      ⊎ (((c .line ≡ d .line) × (c .stop < d .stop)) ⊎ ((c .line ≡ d .line) × (c .stop ≡ d .stop) × (c .offset ≤ d .offset)))
+  -- lines in order: behind the edition 4C and the period of each ..
+  pub lines-stand : (i : ℕ) → i < length (n .periods)
+      → (getD form (edition-bytes + 3 * i) 0 ≡ 0x4C) × (word form (edition-bytes + 3 * i + 1) ≡ getD (n .periods) i 0)
+  -- .. then the calls in that order, all as 43, with line, stop and offset ..
+  pub calls-stand : (k : ℕ) → k < length (n .calls)
+      → (getD form (edition-bytes + 3 * length (n .periods) + 5 * k) 0 ≡ 0x43)
+      × (getD form (edition-bytes + 3 * length (n .periods) + 5 * k + 1) 0 ≡ getD (read-back .calls) k noCall .line)
+      × (getD form (edition-bytes + 3 * length (n .periods) + 5 * k + 2) 0 ≡ getD (read-back .calls) k noCall .stop)
+      × (word form (edition-bytes + 3 * length (n .periods) + 5 * k + 3) ≡ getD (read-back .calls) k noCall .offset)
+  -- .. then 45
+  pub end-stands : getD form (edition-bytes + 3 * length (n .periods) + 5 * length (n .calls)) 0 ≡ 0x45
   -- the archive form of an archive form is itself
   pub again : archive read-back ≡ form
-  -- no 46, no 56 in edition 1, and in any other its 56 first
-  pub edition-stated : ArchivedEdition n form
 
 pub is-archive : {n : Net} → Valid n → IsArchive n (archive n)
 unfolding archiveLength tidied
 is-archive {n} valid =
     record {
-      length-is = length-archive n;
+      edition-bytes = length (editionBytes (n .edition));
+      edition-bytes-are = edition-bytes-by-first (n .edition);
+      edition-stated = archived-edition n;
+      length-is = omega (arith, length-archive n, length-edition (n .edition));
       length-range = (
         omega (arith, length-archive n, valid .some-line, calls-some valid),
         omega (arith, length-archive n, archiveLength-le valid),
@@ -294,9 +316,12 @@ is-archive {n} valid =
       read-back = tidied n;
       reads = subst (Gives (archive n)) (read-archive valid) (readFile-gives (archive n));
       same-network = same-tidied n;
-      in-order = tidy-sorted (n .calls);
+      as-many-calls = length-tidy (n .calls);
+      in-order = λ j k h l. tidy-in-words (n .calls) j k h (omega (arith, l, length-tidy (n .calls)));
+      lines-stand = archive-line-bytes n;
+      calls-stand = archive-call-bytes n;
+      end-stands = archive-end-byte n;
       again = archive-tidied n;
-      edition-stated = archived-edition n;
     }
 
 -- What the call answers and leaves in the row
@@ -343,15 +368,17 @@ module _ (κs : Lfts 2) (a : ArgsD archive-call.signature κs) (r : ResD archive
   pub equal-archives : {m n : Net} → readFile (a .0 .now) ≡ accepted m → readFile (a′ .0 .now) ≡ accepted n → archiveLength m ≤ length (a .1 .0 .now)
       → archiveLength n ≤ length (a′ .1 .0 .now) → (take (archiveLength m) (s .1 .0 .now) ≡ take (archiveLength n) (s′ .1 .0 .now)) ↔ SameNetwork m n
   equal-archives {m} {n} reads reads′ room room′ =
-      let one : take (archiveLength m) (s .1 .0 .now) ≡ archive m =
-      ap (take (archiveLength m)) (kept .1 .0 ∙ archive-answers (a .0 .now) (a .1 .0 .now) reads room .1) ∙ take-at (archive m) _ _ (length-archive m) in
-      let other : take (archiveLength n) (s′ .1 .0 .now) ≡ archive n =
-      ap (take (archiveLength n)) (kept′ .1 .0 ∙ archive-answers (a′ .0 .now) (a′ .1 .0 .now) reads′ room′ .1) ∙ take-at (archive n) _ _ (length-archive n) in (
-        λ e.
-            same-of-archive (accepted-valid (a .0 .now) m (kept .1 .1) reads) (accepted-valid (a′ .0 .now) n (kept′ .1 .1) reads′)
-            (sym one ∙ e ∙ other),
-        λ same. one ∙ archive-of-same same ∙ sym other,
-      )
+      rw (kept .1 .0, kept′ .1 .0)
+      (archive-rows-equal (a .0 .now) (a .1 .0 .now) (kept .1 .1) reads room (a′ .0 .now) (a′ .1 .0 .now) (kept′ .1 .1) reads′ room′)
+
+  -- The archive form of an archive form is itself: lent what the first call wrote, the second answers the same length and writes the same bytes
+  pub archive-again : {n : Net} → readFile (a .0 .now) ≡ accepted n → archiveLength n ≤ length (a .1 .0 .now)
+      → a′ .0 .now ≡ take (archiveLength n) (s .1 .0 .now) → archiveLength n ≤ length (a′ .1 .0 .now)
+      → (archiveAnswer r′ ≡ archiveAnswer r) × (take (archiveLength n) (s′ .1 .0 .now) ≡ take (archiveLength n) (s .1 .0 .now))
+  archive-again {n} reads room lent room′ =
+      let again = archive-of-written (a .0 .now) (a .1 .0 .now) (kept .1 .1) reads room (a′ .0 .now) (a′ .1 .0 .now)
+      (lent ∙ ap (take (archiveLength n)) (kept .1 .0)) room′ in
+      (kept′ .0 ∙ again .0 ∙ sym (kept .0), rw (kept .1 .0, kept′ .1 .0) (again .1))
 
 -- Two files with the same periods and offsets, in either edition, a file and its archive form among them, are answered alike
 pub alike-of-bytes : (one other : List ℕ) {m n : Net} → IsBytes one → IsBytes other → readFile one ≡ accepted m → readFile other ≡ accepted n

@@ -41,6 +41,7 @@ pub mod Sorted
 pub mod Archive
 pub mod ArchiveCall
 pub mod ArchiveCommands
+pub mod ArchiveBytes
 pub mod Representatives
 pub mod Alike
 pub mod AlikeGap

@@ -254,6 +254,10 @@ length-archive n =
       length-tidy (n .calls),
     )
 
+-- .. the same for the network with its calls in order
+pub archiveLength-tidied : (n : Net) → archiveLength (tidied n) ≡ archiveLength n
+archiveLength-tidied n = sym (length-archive (tidied n)) ∙ ap length (archive-tidied n) ∙ length-archive n
+
 -- ---- every byte is below 256
 
 bytes-append : (xs ys : List ℕ) → IsBytes xs → IsBytes ys → IsBytes (xs ++ ys)

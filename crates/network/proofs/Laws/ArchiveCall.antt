@@ -1,19 +1,22 @@
 -- The archive call: what the answer and the row are in each case, and when it refuses, both ways: the definitions go by the reading and by one test of
--- the row's length. Assumes nothing.
+-- the row's length; and what two calls write, since the archive form settles the network and is read back as it. Assumes nothing.
 use Prim.Native.Nat.{ℕ, _+_, _*_, _≤_, _<_}
-use mathlib.Core.Path.{_≡_, refl, ap, _∙_}
+use mathlib.Core.Path.{_≡_, refl, sym, ap, _∙_}
 use mathlib.Core.Bool.{Bool, true, false}
 use mathlib.Core.List.{List, [], _∷_, _++_}
+use mathlib.Core.Logic.{_↔_}
 use native.Mathlib.Omega.{arith}
 use borrow.Author.Tests.{le-leb, lt-leb, leb-false}
 use lib.Dec.{eqb, leb}
-use lib.ListN.{length, drop}
-use Rattle.network.specs.Archive.{archive, archiveLength, archiveOutcome, archiveRowAfter}
+use lib.ListN.{length, take, drop}
+use lib.Seq.{take-at}
+use Rattle.network.specs.Archive.{tidied, archive, archiveLength, SameNetwork, archiveOutcome, archiveRowAfter}
 use Rattle.network.specs.Lists.{pick}
 use Rattle.network.specs.Network.{Net, firstEdition}
 use Rattle.network.specs.Reading.{Reading, accepted, refused, Outcome, values, refusal, readFile}
 use Rattle.network.specs.Refusals.{Refuses, by-file, after-file, TooShort}
 use Rattle.network.specs.Valid.{IsBytes, Valid}
+use Rattle.network.proofs.Laws.Archive.{read-archive, archive-tidied, archive-of-same, same-of-archive, length-archive, archiveLength-tidied}
 use Rattle.network.proofs.Laws.Lists.{zero-ne-one}
 use Rattle.network.proofs.Laws.Refusals.{same-refusal}
 use Rattle.network.proofs.Laws.Valid.{accepted-valid}
@@ -101,3 +104,35 @@ module _ (file row : List ℕ) where
       × (archiveRowAfter (readFile file) row ≡ archive n ++ drop (archiveLength n) row)
   unfolding archiveOutcome archiveRowAfter
   archive-answers {n} e h = rw (e, le-leb (archiveLength n) (length row) h) (refl, refl)
+
+  -- .. and has the archive form at its beginning
+  pub archive-in-row : {n : Net} → readFile file ≡ accepted n → archiveLength n ≤ length row
+      → take (archiveLength n) (archiveRowAfter (readFile file) row) ≡ archive n
+  archive-in-row {n} e h = ap (take (archiveLength n)) (archive-answers e h .1) ∙ take-at (archive n) _ (archiveLength n) (length-archive n)
+
+-- ---- two calls
+
+module _ (file row : List ℕ) {m : Net} (is-bytes : IsBytes file) (reads : readFile file ≡ accepted m) (room : archiveLength m ≤ length row)
+    (file′ row′ : List ℕ) where
+  -- on two files
+  pub archive-rows-equal : {n : Net} → IsBytes file′ → readFile file′ ≡ accepted n → archiveLength n ≤ length row′
+      → (take (archiveLength m) (archiveRowAfter (readFile file) row) ≡ take (archiveLength n) (archiveRowAfter (readFile file′) row′)) ↔ SameNetwork m n
+  archive-rows-equal {n} is-bytes′ reads′ room′ =
+      let one = archive-in-row file row reads room in
+      let other = archive-in-row file′ row′ reads′ room′ in (
+        λ e. same-of-archive (accepted-valid file m is-bytes reads) (accepted-valid file′ n is-bytes′ reads′) (sym one ∙ e ∙ other),
+        λ same. one ∙ archive-of-same same ∙ sym other,
+      )
+
+  -- on a file and on what the first call wrote
+  pub archive-of-written : file′ ≡ take (archiveLength m) (archiveRowAfter (readFile file) row) → archiveLength m ≤ length row′
+      → (archiveOutcome (readFile file′) (length row′) ≡ archiveOutcome (readFile file) (length row))
+      × (take (archiveLength m) (archiveRowAfter (readFile file′) row′) ≡ take (archiveLength m) (archiveRowAfter (readFile file) row))
+  archive-of-written lent room′ =
+      let one = archive-in-row file row reads room in
+      let reads′ = ap readFile (lent ∙ one) ∙ read-archive (accepted-valid file m is-bytes reads) in
+      let long = archiveLength-tidied m in
+      let fits : archiveLength (tidied m) ≤ length row′ = rw long room′ in (
+        archive-answers file′ row′ reads′ fits .0 ∙ ap (λ (k : ℕ). values (k ∷ [])) long ∙ sym (archive-answers file row reads room .0),
+        ap (λ (k : ℕ). take k (archiveRowAfter (readFile file′) row′)) (sym long) ∙ archive-in-row file′ row′ reads′ fits ∙ archive-tidied m ∙ sym one,
+      )

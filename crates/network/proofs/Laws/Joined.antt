@@ -1,12 +1,12 @@
--- What elements give, written one behind the other: one element more is a part more, and a part written behind others leaves what stands behind
--- it. Each follows from the laws of lists. Assumes nothing.
-use Prim.Native.Nat.{ℕ, _+_, _*_, _<_, _≤_}
+-- What elements give, written one behind the other: one element more is a part more, parts of one length stand where their number says, and a part
+-- written behind others leaves what stands behind it. Each follows from the laws of lists. Assumes nothing.
+use Prim.Native.Nat.{ℕ, zero, suc, _+_, _*_, _<_, _≤_}
 use mathlib.Core.Path.{_≡_, refl, sym, ap, ap₂, _∙_}
 use mathlib.Core.List.{List, [], _∷_, _++_, append-assoc, append-nil}
 use native.Mathlib.Numerals.{add-one}
 use native.Mathlib.Omega.{arith}
-use lib.ListN.{length, getD, take, drop, length-append, length-drop}
-use lib.Seq.{take-suc, take-at, drop-append-add, drop-drop, sets, sets-eq}
+use lib.ListN.{length, getD, take, drop, length-append, length-drop, List·getD-append}
+use lib.Seq.{take-suc, take-at, drop-append-add, drop-drop, getD-append-add, sets, sets-eq}
 use Rattle.network.specs.Lists.{joined}
 
 module _ {A : Type 0} (f : A → List ℕ) where
@@ -32,6 +32,29 @@ module _ {A : Type 0} (f : A → List ℕ) where
   unfolding joined
   length-joined k each [] = omega arith
   length-joined k each (x ∷ xs) = length-append (f x) (joined f xs) ∙ omega (arith, each x, length-joined k each xs)
+
+  -- .. `k * i` numbers stand before those of element `i`
+  getD-joined : (k : ℕ) → ((a : A) → length (f a) ≡ k) → (d : A) (xs : List A) (rest : List ℕ) (i j : ℕ) → i < length xs → j < k
+      → getD (joined f xs ++ rest) (k * i + j) 0 ≡ getD (f (getD xs i d)) j 0
+  unfolding joined
+  getD-joined k each d [] rest i j h l = absurd (omega (arith, h))
+  getD-joined k each d (x ∷ xs) rest zero j h l =
+      ap₂ (λ (bytes : List ℕ) (p : ℕ). getD bytes p 0) (append-assoc (f x) (joined f xs) rest) (omega arith)
+      ∙ List·getD-append (f x) (joined f xs ++ rest) 0 j (omega (arith, each x, l))
+  getD-joined k each d (x ∷ xs) rest (suc i) j h l =
+      let further : k * suc i + j ≡ length (f x) + (k * i + j) = omega (arith, each x) in
+      ap₂ (λ (bytes : List ℕ) (p : ℕ). getD bytes p 0) (append-assoc (f x) (joined f xs) rest) further
+      ∙ getD-append-add (f x) (joined f xs ++ rest) (k * i + j) 0
+      ∙ getD-joined k each d xs rest i j (omega (arith, h)) l
+
+  -- .. and so many more where others stand before them all
+  pub getD-joined-behind : (k : ℕ) → ((a : A) → length (f a) ≡ k) → (d : A) (before : List ℕ) (at : ℕ) → length before ≡ at → (xs : List A) (rest : List ℕ)
+      (i j : ℕ) → i < length xs → j < k → getD (before ++ (joined f xs ++ rest)) (at + k * i + j) 0 ≡ getD (f (getD xs i d)) j 0
+  getD-joined-behind k each d before at e xs rest i j h l =
+      let there : at + k * i + j ≡ length before + (k * i + j) = omega (arith, e) in
+      ap (λ (p : ℕ). getD (before ++ (joined f xs ++ rest)) p 0) there
+      ∙ getD-append-add before (joined f xs ++ rest) (k * i + j) 0
+      ∙ getD-joined k each d xs rest i j h l
 
 -- Behind what has been written stands what stood there
 module _ (xs row : List ℕ) (at size : ℕ) (e : length xs ≡ at) where
