@@ -5,6 +5,7 @@
 use Prim.Native.Nat.{ℕ, _*_, _<_, _≤_}
 use mathlib.Core.Path.{_≡_, refl, sym, ap, ap₂, _∙_}
 use mathlib.Core.List.{List, [], _∷_}
+use mathlib.Core.Logic.{_↔_}
 use native.Mathlib.Omega.{arith}
 use borrow.Author.Tests.{eq-eqb}
 use borrow.Fn.World.{ArgsD, ResD}
@@ -12,12 +13,12 @@ use borrow.Fn.Kinds.{endedOf}
 use contract.Lifetimes.{Lfts}
 use denote.Triple.Clauses.{AtExit}
 use lib.IntN.{ℤ}
-use lib.ListN.{length}
+use lib.ListN.{length, take}
 use Rattle.network.specs.declared.Rating.{Rating}
 use Rattle.network.specs.Network.{Net, stopCount}
 use Rattle.network.specs.Gives.{Gives}
 use Rattle.network.specs.Reading.{Reading, Outcome, values, refusal, accepted, refused, readFile, readOutcome}
-use Rattle.network.specs.Archive.{archiveLength}
+use Rattle.network.specs.Archive.{archiveLength, SameNetwork, archiveOutcome}
 use Rattle.network.specs.Refusals.{Refuses, Not64, TooShort, Demand1}
 use Rattle.network.specs.Rating.{rating}
 use Rattle.network.specs.Rate.{ratedOnSheet, rateOutcome}
@@ -25,6 +26,7 @@ use Rattle.network.specs.ClassCall.{weightedRating, weightedOutcome}
 use Rattle.network.specs.Valid.{IsBytes}
 use Rattle.network.proofs.Demands.{ReadValues, read-values-of, RatedAs, rated-as, Classified, classified, Archives, archives}
 use Rattle.network.proofs.Laws.ArchiveCall.{archive-refuses, archive-refuses-only, archive-row-as-found, archive-answers, archive-answer-le}
+use Rattle.network.proofs.Laws.ArchiveCall.{archive-rows-equal, archive-of-written}
 use Rattle.network.proofs.Laws.Gaps.{accepted-valid}
 use Rattle.network.proofs.Laws.Reading.{gives-what-is-read, refused-number-range, refused-place}
 use Rattle.network.proofs.Laws.Refusals.{read-refuses, read-refuses-only, sheet-answers, class-refuses, class-refuses-only}
@@ -214,6 +216,12 @@ module _ (κs : Lfts 4) (a : ArgsD classes.signature κs) (r : ResD classes.sign
 
 -- ---- The archive call
 
+-- On a row that is long enough the return value is the archive form's length
+length-returned : (file row : List ℕ) {n : Net} → readFile file ≡ accepted n → archiveLength n ≤ length row → {returned : ℕ}
+    → returned ≡ archiveStatus (archiveOutcome (readFile file) (length row)) → returned ≡ archiveLength n
+unfolding archiveStatus
+length-returned file row reads room e = e ∙ ap archiveStatus (archive-answers file row reads room .0)
+
 module _ (κs : Lfts 2) (a : ArgsD archiving.signature κs) (r : ResD archiving.signature κs)
     (s : AtExit (endedOf 2 archive-kinds.ps archive-kinds.r) κs) (kept : archive-contract.Post κs a r s) where
   pub archive-export-demand-1 : Demand1 (TellsRefusal r) (Refuses (a .0 .now) 18 (TooShort (a .1 .0 .now))) (s .1 .0 .now ≡ a .1 .0 .now)
@@ -230,8 +238,34 @@ module _ (κs : Lfts 2) (a : ArgsD archiving.signature κs) (r : ResD archiving.
   -- A row that is long enough: the return value is the length of the archive form, which stands at the row's beginning
   pub archive-export-writes : {n : Net} → readFile (a .0 .now) ≡ accepted n → archiveLength n ≤ length (a .1 .0 .now)
       → Archives n (values (r ∷ [])) (a .1 .0 .now) (s .1 .0 .now)
-  unfolding archiveStatus
   archive-export-writes {n} reads room =
-      let e = archive-answers (a .0 .now) (a .1 .0 .now) reads room in
-      let is : r ≡ archiveLength n = kept .0 ∙ ap archiveStatus (e .0) in
-      rw (is, kept .1 .0 ∙ e .1) (archives (accepted-valid (a .0 .now) n (kept .1 .1) reads) (a .1 .0 .now))
+      rw (length-returned (a .0 .now) (a .1 .0 .now) reads room (kept .0), kept .1 .0 ∙ archive-answers (a .0 .now) (a .1 .0 .now) reads room .1)
+      (archives (accepted-valid (a .0 .now) n (kept .1 .1) reads) (a .1 .0 .now))
+
+module _ (κs : Lfts 2) (a : ArgsD archiving.signature κs) (r : ResD archiving.signature κs)
+    (s : AtExit (endedOf 2 archive-kinds.ps archive-kinds.r) κs) (kept : archive-contract.Post κs a r s) (κs′ : Lfts 2)
+    (a′ : ArgsD archiving.signature κs′) (r′ : ResD archiving.signature κs′) (s′ : AtExit (endedOf 2 archive-kinds.ps archive-kinds.r) κs′)
+    (kept′ : archive-contract.Post κs′ a′ r′ s′) where
+  -- Two files have equal archive bytes, of each row as many as its call returned, exactly when their periods, offsets and edition are equal
+  pub archive-export-equal : {m n : Net} → readFile (a .0 .now) ≡ accepted m → readFile (a′ .0 .now) ≡ accepted n
+      → archiveLength m ≤ length (a .1 .0 .now) → archiveLength n ≤ length (a′ .1 .0 .now)
+      → (take r (s .1 .0 .now) ≡ take r′ (s′ .1 .0 .now)) ↔ SameNetwork m n
+  archive-export-equal {m} {n} reads reads′ room room′ =
+      rw (
+        length-returned (a .0 .now) (a .1 .0 .now) reads room (kept .0),
+        length-returned (a′ .0 .now) (a′ .1 .0 .now) reads′ room′ (kept′ .0),
+        kept .1 .0,
+        kept′ .1 .0,
+      )
+      (archive-rows-equal (a .0 .now) (a .1 .0 .now) (kept .1 .1) reads room (a′ .0 .now) (a′ .1 .0 .now) (kept′ .1 .1) reads′ room′)
+
+  -- The archive form of an archive form is itself: lent as many bytes of the first call's row as it returned, the second returns the same and writes
+  -- the same bytes
+  pub archive-export-again : {n : Net} → readFile (a .0 .now) ≡ accepted n → archiveLength n ≤ length (a .1 .0 .now)
+      → a′ .0 .now ≡ take r (s .1 .0 .now) → r ≤ length (a′ .1 .0 .now) → (r′ ≡ r) × (take r′ (s′ .1 .0 .now) ≡ take r (s .1 .0 .now))
+  archive-export-again {n} reads room lent room′ =
+      let is : r ≡ archiveLength n = length-returned (a .0 .now) (a .1 .0 .now) reads room (kept .0) in
+      let again = archive-of-written (a .0 .now) (a .1 .0 .now) (kept .1 .1) reads room (a′ .0 .now) (a′ .1 .0 .now)
+      (lent ∙ ap₂ take is (kept .1 .0)) (omega (arith, is, room′)) in
+      let same : r′ ≡ r = kept′ .0 ∙ ap archiveStatus (again .0) ∙ sym (kept .0) in
+      (same, ap₂ take (same ∙ is) (kept′ .1 .0) ∙ again .1 ∙ ap₂ take (sym is) (sym (kept .1 .0)))
