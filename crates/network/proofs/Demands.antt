@@ -35,7 +35,7 @@ use Rattle.network.proofs.Laws.Refusals.{read-refuses, read-refuses-onl
 use Rattle.network.proofs.Laws.Refusals.{class-refuses, class-refuses-only, classes-as-found, weights-as-found, class-answers}
 use Rattle.network.proofs.Laws.Tidy.{length-tidy, tidy-in-words}
 use Rattle.network.proofs.Laws.Archive.{read-archive, same-tidied, archive-tidied, length-edition, length-archive, archive-bytes}
-use Rattle.network.proofs.Laws.ArchiveBytes.{edition-bytes-by-first, archive-line-bytes, archive-call-bytes, archive-end-byte}
+use Rattle.network.proofs.Laws.ArchiveBytes.{length-edition-by-first, archive-line-bytes, archive-call-bytes, archive-end-byte}
 use Rattle.network.proofs.Laws.ArchiveCall.{archiveLength-le, archive-refuses, archive-refuses-only, archive-row-as-found, archive-answers}
 use Rattle.network.proofs.Laws.ArchiveCall.{archive-rows-equal, archive-of-written}
 use Rattle.network.proofs.Laws.SameNetwork.{AnswersAlike, same-answers-alike}
@@ -279,8 +279,8 @@ pub record IsArchive (n : Net) (form : List ℕ) : Type 0 where
   pub reads : Gives form (accepted read-back)
   pub same-network : SameNetwork read-back n
   pub as-many-calls : length (read-back .calls) ≡ length (n .calls)
-  -- .. with the calls by line, then stop, then offset: of two calls the line of the first is smaller; or equal, and the stop smaller; or both are equal, and
-  -- the offset no larger
+  -- .. with the calls by line, then stop, then offset: of two calls the line of the first is smaller; or equal, and the stop smaller; or both are
+  -- equal, and the offset no larger
   pub in-order : (j k : ℕ) → j < k → k < length (n .calls)
       → let c = getD (read-back .calls) j noCall in
       let d = getD (read-back .calls) k noCall in
@@ -305,7 +305,7 @@ unfolding archiveLength tidied
 is-archive {n} valid =
     record {
       edition-bytes = length (editionBytes (n .edition));
-      edition-bytes-are = edition-bytes-by-first (n .edition);
+      edition-bytes-are = length-edition-by-first (n .edition);
       edition-stated = archived-edition n;
       length-is = omega (arith, length-archive n, length-edition (n .edition));
       length-range = (

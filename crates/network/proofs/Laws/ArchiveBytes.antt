@@ -17,8 +17,8 @@ use Rattle.network.proofs.Laws.Joined.{length-joined, getD-joined-behin
 use Rattle.network.proofs.Laws.Tidy.{length-tidy}
 
 -- How many bytes state an edition
-pub edition-bytes-by-first : (edition : ℕ) → (edition ≡ 1 → length (editionBytes edition) ≡ 0) × ((edition ≡ 1 → ⊥) → length (editionBytes edition) ≡ 2)
-edition-bytes-by-first edition =
+pub length-edition-by-first : (edition : ℕ) → (edition ≡ 1 → length (editionBytes edition) ≡ 0) × ((edition ≡ 1 → ⊥) → length (editionBytes edition) ≡ 2)
+length-edition-by-first edition =
     editionBytes-by-first (λ bytes k. (edition ≡ 1 → length bytes ≡ 0) × ((edition ≡ 1 → ⊥) → length bytes ≡ 2)) edition
     (λ e. (λ _. refl, λ h. absurd (h e))) (λ h. (λ e. absurd (h e), λ _. refl))
 
