@@ -1,7 +1,7 @@
 -- Document 02, A.7, on the export of the board call, said of what a host sees: what its return value, its number and both rows mean. Each theorem holds of every
 -- call that has returned, where it keeps the contract in src/exports.rt, which every call does. Assumes nothing.
 use Prim.Native.Nat.{ℕ, _*_, _<_, _≤_}
-use mathlib.Core.Path.{_≡_, refl, ap, _∙_}
+use mathlib.Core.Path.{_≡_, refl, _∙_}
 use mathlib.Core.List.{List, [], _∷_, _++_}
 use native.Mathlib.Omega.{arith}
 use borrow.Fn.World.{ArgsD, ResD}
@@ -18,12 +18,13 @@ use Rattle.network.specs.Valid.{Valid}
 use Rattle.network.proofs.StopBoard.{Lists, lists, board-length-le}
 use Rattle.network.proofs.Laws.BoardCall.{board-answers}
 use Rattle.network.proofs.Laws.Gaps.{accepted-valid}
-use Rattle.examination.specs.Bytes.{starts, BytesFit, boardBytes, timeRowBytes, lineRowBytes}
+use Rattle.examination.specs.Bytes.{starts, IsSheet, BytesFit}
 use Rattle.examination.specs.Exports.{TellsRefusal}
 use Rattle.examination.proofs.Codes.{export-demand-1, status-tells, status-code}
 use Rattle.examination.proofs.ExportDemands.{row-as-found, answered, on-its-bytes}
+use Rattle.examination.proofs.Laws.Bytes.{length-starts-fit}
 use Rattle.examination.proofs.Laws.BoardBytes.{board-refuses-range, board-bytes-refuse, board-bytes-refuse-only, board-bytes-rows-as-found}
-use Rattle.examination.proofs.SheetBytes.{All32, bytesOf}
+use Rattle.examination.proofs.SheetBytes.{bytes-are-a-sheet}
 use Rattle.examination.proofs.exports.examination_board as exported
 use Rattle.examination.proofs.exports.examination_board.Kinds as board-kinds
 use Rattle.examination.proofs.exports.examination_board.Reads as board-contract
@@ -93,7 +94,7 @@ module _ (κs : Lfts 5) (a : ArgsD exported.signature κs) (r : ResD exported.si
       Demand1 (TellsRefusal r) (BoardRefuses (file κs a) (BytesFit (bytes κs a)) (starts (bytes κs a)) (asked κs a) (timeRow κs a) (lineRow κs a))
       ((timesAfter κs s ≡ timeRow κs a) × (linesAfter κs s ≡ lineRow κs a) × (answerAfter κs s ≡ answerRow κs a))
   board-export-demand-1 =
-      let is-bytes = kept .1 .1 .1 .1 in
+      let is-bytes = kept .1 .1 .1 .1 .0 in
       export-demand-1
       (record {
         faulty-is-refused = λ number place f. board-bytes-refuse (file κs a) is-bytes (bytes κs a) (asked κs a) (timeRow κs a) (lineRow κs a) f;
@@ -104,34 +105,36 @@ module _ (κs : Lfts 5) (a : ArgsD exported.signature κs) (r : ResD exported.si
       })
       (λ number place f. omega (arith, board-refuses-range f)) (status-code (kept .0)) (status-tells _ (kept .0))
 
+  -- Whatever 4 bytes for each line are lent, they are a sheet's
+  pub board-export-sheet : {lines : ℕ} → length (bytes κs a) ≡ 4 * lines → IsSheet lines (bytes κs a)
+  board-export-sheet = bytes-are-a-sheet (kept .1 .1 .1 .1 .1)
+
   -- Every arrival in the window under the sheet whose bytes are lent, in rows that are long enough
-  pub board-export-lists : {n : Net} → readFile (file κs a) ≡ accepted n → (sheet : List ℤ) → All32 sheet → length sheet ≡ length (n .periods)
-      → bytes κs a ≡ bytesOf sheet → asked κs a .stop ≤ maxStop → asked κs a .minutes ≤ maxMinutes
-      → length (board n sheet (asked κs a)) ≤ length (timeRow κs a) → length (board n sheet (asked κs a)) ≤ length (lineRow κs a)
-      → HallBoard n sheet (asked κs a) r (answerAfter κs s) (timeRow κs a) (lineRow κs a) (timesAfter κs s) (linesAfter κs s)
-  board-export-lists {n} reads sheet in32 fit lent low within timesFit linesFit =
+  pub board-export-lists : {n : Net} → readFile (file κs a) ≡ accepted n → BytesFit (bytes κs a) n
+      → asked κs a .stop ≤ maxStop → asked κs a .minutes ≤ maxMinutes
+      → length (board n (starts (bytes κs a)) (asked κs a)) ≤ length (timeRow κs a)
+      → length (board n (starts (bytes κs a)) (asked κs a)) ≤ length (lineRow κs a)
+      → HallBoard n (starts (bytes κs a)) (asked κs a) r (answerAfter κs s) (timeRow κs a) (lineRow κs a) (timesAfter κs s) (linesAfter κs s)
+  board-export-lists {n} reads fit low within timesFit linesFit =
       let read = readFile (file κs a) in
-      let long = length (timeRow κs a) in
-      let (answers, times-are, lines-are) = board-answers (file κs a) sheet (asked κs a) (timeRow κs a) (lineRow κs a) reads fit low within timesFit linesFit in
-      let told = ap (boardBytes (asked κs a) long (length (lineRow κs a)) read) lent
-      ∙ on-its-bytes (boardOutcome (asked κs a) long (length (lineRow κs a))) refusal read reads sheet in32 fit
-      ∙ answers in
+      let sheet = starts (bytes κs a) in
+      let (answers, times-are, lines-are) = board-answers (file κs a) sheet (asked κs a) (timeRow κs a) (lineRow κs a) reads
+      (length-starts-fit (bytes κs a) fit) low within timesFit linesFit in
+      let told = on-its-bytes (boardOutcome (asked κs a) (length (timeRow κs a)) (length (lineRow κs a))) refusal read reads (bytes κs a) fit ∙ answers in
       let q = answered (answerRow κs a) (kept .0) (kept .1 .0) told in
       let times-left = kept .1 .1 .0
-      ∙ ap (timeRowBytes (asked κs a) (timeRow κs a) (lineRow κs a) read) lent
-      ∙ on-its-bytes (timeRowAfter (asked κs a) (timeRow κs a) (lineRow κs a)) (λ (number place : ℕ). timeRow κs a) read reads sheet in32 fit
+      ∙ on-its-bytes (timeRowAfter (asked κs a) (timeRow κs a) (lineRow κs a)) (λ (number place : ℕ). timeRow κs a) read reads (bytes κs a) fit
       ∙ times-are in
       let lines-left = kept .1 .1 .1 .0
-      ∙ ap (lineRowBytes (asked κs a) (timeRow κs a) (lineRow κs a) read) lent
-      ∙ on-its-bytes (lineRowAfter (asked κs a) (timeRow κs a) (lineRow κs a)) (λ (number place : ℕ). lineRow κs a) read reads sheet in32 fit
+      ∙ on-its-bytes (lineRowAfter (asked κs a) (timeRow κs a) (lineRow κs a)) (λ (number place : ℕ). lineRow κs a) read reads (bytes κs a) fit
       ∙ lines-are in
       rw (q .0, number-of (q .1 ∙ told), times-left, lines-left)
-      (hall-board (accepted-valid (file κs a) n (kept .1 .1 .1 .1) reads) sheet (asked κs a) within (timeRow κs a) (lineRow κs a))
+      (hall-board (accepted-valid (file κs a) n (kept .1 .1 .1 .1 .0) reads) sheet (asked κs a) within (timeRow κs a) (lineRow κs a))
 
   -- Rows of 32 places for each minute are long enough
   pub board-export-room : {n : Net} → readFile (file κs a) ≡ accepted n → (sheet : List ℤ)
       → 32 * asked κs a .minutes ≤ length (timeRow κs a) → 32 * asked κs a .minutes ≤ length (lineRow κs a)
       → (length (board n sheet (asked κs a)) ≤ length (timeRow κs a)) × (length (board n sheet (asked κs a)) ≤ length (lineRow κs a))
   board-export-room {n} reads sheet timesFit linesFit =
-      let few = board-length-le (accepted-valid (file κs a) n (kept .1 .1 .1 .1) reads) sheet (asked κs a) in
+      let few = board-length-le (accepted-valid (file κs a) n (kept .1 .1 .1 .1 .0) reads) sheet (asked κs a) in
       (omega (arith, few, timesFit), omega (arith, few, linesFit))

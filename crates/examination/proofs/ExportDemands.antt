@@ -32,12 +32,12 @@ use Rattle.network.proofs.Laws.Reading.{gives-what-is-read, refused-number-rang
 use Rattle.network.proofs.Laws.Refusals.{read-refuses, read-refuses-only, sheet-answers, class-refuses, class-refuses-only}
 use Rattle.network.proofs.Laws.Refusals.{classes-as-found, weights-as-found, class-answers}
 use Rattle.network.proofs.Laws.Weighted.{weighted-is-rate}
-use Rattle.examination.specs.Bytes.{bytesFit, byBytes, BytesUnfit}
+use Rattle.examination.specs.Bytes.{starts, IsSheet, bytesFit, byBytes, BytesFit, BytesUnfit}
 use Rattle.examination.specs.Exports.{placeLimit, TellsRefusal, status, rowAfter, archiveStatus}
 use Rattle.examination.proofs.Codes.{export-demand-1, status-tells, status-code, archive-status-tells, archive-status-code}
-use Rattle.examination.proofs.Laws.Bytes.{rated-on-bytes}
+use Rattle.examination.proofs.Laws.Bytes.{length-starts-fit, rated-on-bytes}
 use Rattle.examination.proofs.Laws.Refusals.{refuses-range, sheet-bytes-refuse, sheet-bytes-refuse-only}
-use Rattle.examination.proofs.SheetBytes.{All32, bytesOf, starts-of-bytes, length-of-lent}
+use Rattle.examination.proofs.SheetBytes.{bytes-are-a-sheet}
 use Rattle.examination.proofs.exports.examination_read as read
 use Rattle.examination.proofs.exports.examination_read.Kinds as read-kinds
 use Rattle.examination.proofs.exports.examination_read.Reads as read-contract
@@ -113,12 +113,11 @@ module _ (κs : Lfts 2) (a : ArgsD read.signature κs) (r : ResD read.signature 
 
 -- ---- Rate and the weighted rating, on a sheet's bytes
 
--- On the bytes of a sheet with one start of 32 bits for each line a call answers what it does on the sheet
-pub on-its-bytes : {A : Type 0} (call : Reading → List ℤ → A) (refuses : ℕ → ℕ → A) (read : Reading) {n : Net} → read ≡ accepted n → (sheet : List ℤ)
-    → All32 sheet → length sheet ≡ length (n .periods) → byBytes call refuses read (bytesOf sheet) ≡ call read sheet
+-- On 4 bytes for each line a call answers what it does on the starts that they mean
+pub on-its-bytes : {A : Type 0} (call : Reading → List ℤ → A) (refuses : ℕ → ℕ → A) (read : Reading) {n : Net} → read ≡ accepted n → (bytes : List ℕ)
+    → BytesFit bytes n → byBytes call refuses read bytes ≡ call read (starts bytes)
 unfolding byBytes bytesFit
-on-its-bytes call refuses read {n} reads sheet in32 fit =
-    rw (reads, eq-eqb (length (bytesOf sheet)) (4 * length (n .periods)) (length-of-lent sheet refl fit), starts-of-bytes sheet in32) refl
+on-its-bytes call refuses read {n} reads bytes fit = rw (reads, eq-eqb (length bytes) (4 * length (n .periods)) fit) refl
 
 -- Of the answer on the bytes: when it refuses, and the row
 sheet-demand-1 : (rates : Net → List ℤ → Rating) (file : List ℕ) → IsBytes file → (bytes row : List ℕ) {returned : ℕ} {after : List ℕ}
@@ -138,36 +137,43 @@ module _ (κs : Lfts 3) (a : ArgsD rate.signature κs) (r : ResD rate.signature 
     (kept : rate-contract.Post κs a r s) where
   pub rate-export-demand-1 : Demand1 (TellsRefusal r) (Refuses (a .0 .now) 15 (BytesUnfit (a .1 .0 .now))) (s .1 .1 .0 .now ≡ a .1 .1 .0 .now)
   unfolding rateOutcome
-  rate-export-demand-1 = sheet-demand-1 rating (a .0 .now) (kept .1 .1) (a .1 .0 .now) (a .1 .1 .0 .now) (kept .0) (kept .1 .0)
+  rate-export-demand-1 = sheet-demand-1 rating (a .0 .now) (kept .1 .1 .0) (a .1 .0 .now) (a .1 .1 .0 .now) (kept .0) (kept .1 .0)
+
+  -- Whatever 4 bytes for each line are lent, they are a sheet's
+  pub rate-export-sheet : {lines : ℕ} → length (a .1 .0 .now) ≡ 4 * lines → IsSheet lines (a .1 .0 .now)
+  rate-export-sheet = bytes-are-a-sheet (kept .1 .1 .1)
 
   -- Demand 2: the rating over all trips of the sheet whose bytes are lent
-  pub rate-export-demand-2 : {n : Net} → readFile (a .0 .now) ≡ accepted n → (sheet : List ℤ) → All32 sheet → length sheet ≡ length (n .periods)
-      → a .1 .0 .now ≡ bytesOf sheet → (r ≡ 0) × RatedAs n sheet (values (s .1 .1 .0 .now))
+  pub rate-export-demand-2 : {n : Net} → readFile (a .0 .now) ≡ accepted n → BytesFit (a .1 .0 .now) n
+      → (r ≡ 0) × RatedAs n (starts (a .1 .0 .now)) (values (s .1 .1 .0 .now))
   unfolding rateOutcome
-  rate-export-demand-2 {n} reads sheet in32 fit lent =
-      let told = ap (byBytes (ratedOnSheet rating) refusal (readFile (a .0 .now))) lent
-      ∙ on-its-bytes (ratedOnSheet rating) refusal (readFile (a .0 .now)) reads sheet in32 fit
-      ∙ sheet-answers rating (a .0 .now) sheet reads fit in
+  rate-export-demand-2 {n} reads fit =
+      let sheet = starts (a .1 .0 .now) in
+      let told = on-its-bytes (ratedOnSheet rating) refusal (readFile (a .0 .now)) reads (a .1 .0 .now) fit
+      ∙ sheet-answers rating (a .0 .now) sheet reads (length-starts-fit (a .1 .0 .now) fit) in
       let q = answered (a .1 .1 .0 .now) (kept .0) (kept .1 .0) told in
-      (q .0, rw (q .1 ∙ told) (rated-as (accepted-valid (a .0 .now) n (kept .1 .1) reads) sheet))
+      (q .0, rw (q .1 ∙ told) (rated-as (accepted-valid (a .0 .now) n (kept .1 .1 .0) reads) sheet))
 
 module _ (κs : Lfts 3) (a : ArgsD weighted.signature κs) (r : ResD weighted.signature κs)
     (s : AtExit (endedOf 3 weighted-kinds.ps weighted-kinds.r) κs) (kept : weighted-contract.Post κs a r s) where
   pub weighted-export-demand-1 : Demand1 (TellsRefusal r) (Refuses (a .0 .now) 15 (BytesUnfit (a .1 .0 .now))) (s .1 .1 .0 .now ≡ a .1 .1 .0 .now)
   unfolding weightedOutcome
-  weighted-export-demand-1 = sheet-demand-1 weightedRating (a .0 .now) (kept .1 .1) (a .1 .0 .now) (a .1 .1 .0 .now) (kept .0) (kept .1 .0)
+  weighted-export-demand-1 = sheet-demand-1 weightedRating (a .0 .now) (kept .1 .1 .0) (a .1 .0 .now) (a .1 .1 .0 .now) (kept .0) (kept .1 .0)
+
+  pub weighted-export-sheet : {lines : ℕ} → length (a .1 .0 .now) ≡ 4 * lines → IsSheet lines (a .1 .0 .now)
+  weighted-export-sheet = bytes-are-a-sheet (kept .1 .1 .1)
 
   -- The same rating as rate's, over all trips of the sheet whose bytes are lent
-  pub weighted-export-demand-2 : {n : Net} → readFile (a .0 .now) ≡ accepted n → (sheet : List ℤ) → All32 sheet → length sheet ≡ length (n .periods)
-      → a .1 .0 .now ≡ bytesOf sheet → (r ≡ 0) × RatedAs n sheet (values (s .1 .1 .0 .now))
+  pub weighted-export-demand-2 : {n : Net} → readFile (a .0 .now) ≡ accepted n → BytesFit (a .1 .0 .now) n
+      → (r ≡ 0) × RatedAs n (starts (a .1 .0 .now)) (values (s .1 .1 .0 .now))
   unfolding weightedOutcome rateOutcome
-  weighted-export-demand-2 {n} reads sheet in32 fit lent =
-      let told = ap (byBytes (ratedOnSheet weightedRating) refusal (readFile (a .0 .now))) lent
-      ∙ on-its-bytes (ratedOnSheet weightedRating) refusal (readFile (a .0 .now)) reads sheet in32 fit
-      ∙ weighted-is-rate (a .0 .now) (kept .1 .1) sheet
-      ∙ sheet-answers rating (a .0 .now) sheet reads fit in
+  weighted-export-demand-2 {n} reads fit =
+      let sheet = starts (a .1 .0 .now) in
+      let told = on-its-bytes (ratedOnSheet weightedRating) refusal (readFile (a .0 .now)) reads (a .1 .0 .now) fit
+      ∙ weighted-is-rate (a .0 .now) (kept .1 .1 .0) sheet
+      ∙ sheet-answers rating (a .0 .now) sheet reads (length-starts-fit (a .1 .0 .now) fit) in
       let q = answered (a .1 .1 .0 .now) (kept .0) (kept .1 .0) told in
-      (q .0, rw (q .1 ∙ told) (rated-as (accepted-valid (a .0 .now) n (kept .1 .1) reads) sheet))
+      (q .0, rw (q .1 ∙ told) (rated-as (accepted-valid (a .0 .now) n (kept .1 .1 .0) reads) sheet))
 
   -- Demand 3, (6): on every file and every sheet's bytes both exports return the same, and leave the same in rows that were the same
   pub weighted-export-as-rate : (κs′ : Lfts 3) (a′ : ArgsD rate.signature κs′) (r′ : ResD rate.signature κs′)
@@ -177,9 +183,9 @@ module _ (κs : Lfts 3) (a : ArgsD weighted.signature κs) (r : ResD weighted.si
   unfolding weightedOutcome rateOutcome
   weighted-export-as-rate κs′ a′ r′ s′ kept′ file sheet row =
       let same : byBytes weightedOutcome refusal (readFile (a .0 .now)) (a .1 .0 .now) ≡ byBytes rateOutcome refusal (readFile (a′ .0 .now)) (a′ .1 .0 .now) =
-      sym (rated-on-bytes weightedRating (a .0 .now) (kept .1 .1) (a .1 .0 .now))
-      ∙ weighted-is-rate (a .0 .now) (kept .1 .1) _
-      ∙ rated-on-bytes rating (a .0 .now) (kept .1 .1) (a .1 .0 .now)
+      sym (rated-on-bytes weightedRating (a .0 .now) (kept .1 .1 .0) (a .1 .0 .now))
+      ∙ weighted-is-rate (a .0 .now) (kept .1 .1 .0) _
+      ∙ rated-on-bytes rating (a .0 .now) (kept .1 .1 .0) (a .1 .0 .now)
       ∙ ap₂ (λ (f b : List ℕ). byBytes rateOutcome refusal (readFile f) b) file sheet in (
         kept .0 ∙ ap status same ∙ sym (kept′ .0),
         kept .1 .0 ∙ ap₂ rowAfter same row ∙ sym (kept′ .1 .0),

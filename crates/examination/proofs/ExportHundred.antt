@@ -23,7 +23,7 @@ use Rattle.network.specs.Rating.{IsRating}
 use Rattle.network.specs.Valid.{Valid}
 use Rattle.network.proofs.Laws.Gaps.{accepted-valid, IsRating-range}
 use Rattle.search.proofs.Demands.{WalkedStarts}
-use Rattle.examination.specs.Bytes.{starts, bytesFit, markBytes, keyBytes, BytesUnfit, EitherBytesUnfit}
+use Rattle.examination.specs.Bytes.{starts, In32, All32, bytesOf, IsSheet, bytesFit, markBytes, keyBytes, BytesFit, BytesUnfit, EitherBytesUnfit}
 use Rattle.examination.specs.ByKey.{besideKey}
 use Rattle.examination.specs.Exports.{TellsRefusal, refusalCode, markStatus, markRow, hundredRow}
 use Rattle.examination.specs.Hundred.{markOf, remainderOf, PairBelow}
@@ -35,11 +35,12 @@ use Rattle.examination.proofs.ExportDemands.{own-ground-range, row-as-f
 use Rattle.examination.proofs.ExportSearch.{HallMark, hall-mark-of, mark-told, mark-row-as-found, fit-answers}
 use Rattle.examination.proofs.ExportSearch.{HallSearch, search-export-demand-1, search-export-demand-3}
 use Rattle.examination.proofs.HundredMark.{Divided, divided, MarkOutOfHundred, out-of-hundred, marked-out-of-hundred, one-best, ranked, beside-key-is}
+use Rattle.examination.proofs.Laws.Bytes.{length-starts-fit}
 use Rattle.examination.proofs.Laws.Hundred.{ranks}
 use Rattle.examination.proofs.Laws.Refusals.{mark-bytes-refuse, mark-bytes-refuse-only, mark-refuses-only, refuses-range}
 use Rattle.examination.proofs.Laws.Refusals.{key-bytes-refuse, key-bytes-refuse-only, decided-bytes-accepted, decided-on-starts}
 use Rattle.examination.proofs.Mark.{MarkMeans, mark-means, neither-above, least-not-above}
-use Rattle.examination.proofs.SheetBytes.{In32, All32, all32, bytesOf, starts-of-lent, length-of-lent}
+use Rattle.examination.proofs.SheetBytes.{all32, starts-of-lent, length-of-lent, bytes-are-a-sheet}
 use Rattle.examination.proofs.exports.examination_search as searching
 use Rattle.examination.proofs.exports.examination_search.Kinds as search-kinds
 use Rattle.examination.proofs.exports.examination_search.Reads as search-contract
@@ -99,8 +100,8 @@ module _ (κs : Lfts 4) (a : ArgsD hundred.signature κs) (r : ResD hundred.sign
   hundred-export-demand-1 =
       export-demand-1
       (record {
-        faulty-is-refused = λ number place f. mark-bytes-refuse (a .0 .now) (kept .1 .1 .1) (a .1 .0 .now) (a .1 .1 .0) f;
-        no-other-is-refused = λ number place e. mark-bytes-refuse-only (a .0 .now) (kept .1 .1 .1) (a .1 .0 .now) (a .1 .1 .0) e;
+        faulty-is-refused = λ number place f. mark-bytes-refuse (a .0 .now) (kept .1 .1 .1 .0) (a .1 .0 .now) (a .1 .1 .0) f;
+        no-other-is-refused = λ number place e. mark-bytes-refuse-only (a .0 .now) (kept .1 .1 .1 .0) (a .1 .0 .now) (a .1 .1 .0) e;
         rows-as-found = λ number place e. (
           kept .1 .0 ∙ mark-row-as-found (a .1 .1 .1 .0 .now) e,
           kept .1 .1 .0 ∙ hundred-row-as-found (a .1 .1 .1 .1 .0 .now) e,
@@ -122,7 +123,7 @@ module _ (κs : Lfts 4) (a : ArgsD hundred.signature κs) (r : ResD hundred.sign
             number,
             place,
             hundred-export-demand-1
-                .faulty-is-refused number place (mark-bytes-refuse-only (a .0 .now) (kept .1 .1 .1) (a .1 .0 .now) (a .1 .1 .0) e),
+                .faulty-is-refused number place (mark-bytes-refuse-only (a .0 .now) (kept .1 .1 .1 .0) (a .1 .0 .now) (a .1 .1 .0) e),
           ))
 
   -- It returns what the export of mark does, and leaves the same in rows of six places that were the same
@@ -136,18 +137,22 @@ module _ (κs : Lfts 4) (a : ArgsD hundred.signature κs) (r : ResD hundred.sign
       ∙ ap₂ (λ (f b : List ℕ). markBytes (a′ .1 .1 .0) (readFile f) b) file sheet in
       (kept .0 ∙ ap markStatus same ∙ sym (kept′ .0), λ row. kept .1 .0 ∙ ap₂ markRow same row ∙ sym (kept′ .1 .0))
 
+  -- Whatever 4 bytes for each line are lent, they are a sheet's
+  pub hundred-export-sheet : {lines : ℕ} → length (a .1 .0 .now) ≡ 4 * lines → IsSheet lines (a .1 .0 .now)
+  hundred-export-sheet = bytes-are-a-sheet (kept .1 .1 .1 .1)
+
   -- What it means, of the sheet whose bytes are lent
-  pub hundred-export-means : {n : Net} → readFile (a .0 .now) ≡ accepted n → (sheet : List ℤ) → All32 sheet → length sheet ≡ length (n .periods)
-      → a .1 .0 .now ≡ bytesOf sheet → HallHundred n sheet (a .1 .1 .0) r (s .1 .1 .1 .0 .now) (s .1 .1 .1 .1 .0 .now)
-  hundred-export-means {n} reads sheet in32 fit lent =
+  pub hundred-export-means : {n : Net} → readFile (a .0 .now) ≡ accepted n → BytesFit (a .1 .0 .now) n
+      → HallHundred n (starts (a .1 .0 .now)) (a .1 .1 .0) r (s .1 .1 .1 .0 .now) (s .1 .1 .1 .1 .0 .now)
+  hundred-export-means {n} reads fit =
+      let sheet = starts (a .1 .0 .now) in
       let o : MarkOutcome = markBytes (a .1 .1 .0) (readFile (a .0 .now)) (a .1 .0 .now) in
-      let means : MarkMeans n sheet (a .1 .1 .0) o =
-      mark-means (record { bytes = kept .1 .1 .1; answered = mark-told (a .0 .now) reads sheet in32 fit lent (a .1 .1 .0) }) reads in
-      let told = mark-told (a .0 .now) reads sheet in32 fit lent (a .1 .1 .0) in
+      let told = mark-told (a .0 .now) reads (a .1 .0 .now) fit (a .1 .1 .0) in
+      let means : MarkMeans n sheet (a .1 .1 .0) o = mark-means (record { bytes = kept .1 .1 .1 .0; answered = told }) reads in
       let answers : (number place : ℕ) → o ≡ sheets.refusal number place → ⊥ =
-      λ number place e. fit-answers sheet reads fit (mark-refuses-only (a .0 .now) sheet (a .1 .1 .0) (kept .1 .1 .1) (sym told ∙ e)) in
+      λ number place e. fit-answers sheet reads (length-starts-fit (a .1 .0 .now) fit) (mark-refuses-only (a .0 .now) sheet (a .1 .1 .0) (kept .1 .1 .1 .0) (sym told ∙ e)) in
       record {
-        marked = hall-mark-of (a .0 .now) (kept .1 .1 .1) reads sheet in32 fit lent (a .1 .1 .0) (a .1 .1 .1 .0 .now) (kept .0) (kept .1 .0);
+        marked = hall-mark-of (a .0 .now) (kept .1 .1 .1 .0) reads (a .1 .0 .now) fit (a .1 .1 .0) (a .1 .1 .1 .0 .now) (kept .0) (kept .1 .0);
         decided-has-a-mark = λ e.
             rw (kept .1 .0, kept .1 .1 .0) (decided-numbers o (a .1 .1 .1 .0 .now) (a .1 .1 .1 .1 .0 .now) answers means (sym (kept .0) ∙ e));
         undecided-has-none = λ e. rw (kept .1 .1 .0) (undecided-numbers o (a .1 .1 .1 .1 .0 .now) answers (sym (kept .0) ∙ e));
@@ -194,7 +199,7 @@ module _ (κs : Lfts 4) (a : ArgsD hundred.signature κs) (r : ResD hundred.sign
       × (markBytes (a .1 .1 .0) (readFile (a .0 .now)) (a .1 .0 .now) ≡ decided least sum bestLeast bestSum equal mark remainder tries)
   outcome-is =
       decided-of-zero (markBytes (a .1 .1 .0) (readFile (a .0 .now)) (a .1 .0 .now))
-      (λ number place e. refuses-range (mark-bytes-refuse-only (a .0 .now) (kept .1 .1 .1) (a .1 .0 .now) (a .1 .1 .0) e) (omega arith) (omega arith) .0)
+      (λ number place e. refuses-range (mark-bytes-refuse-only (a .0 .now) (kept .1 .1 .1 .0) (a .1 .0 .now) (a .1 .1 .0) e) (omega arith) (omega arith) .0)
       (sym (kept .0) ∙ ends)
 
   decided-reads : (n : Net) × (readFile (a .0 .now) ≡ accepted n)
@@ -217,7 +222,7 @@ module _ (κs : Lfts 4) (a : ArgsD hundred.signature κs) (r : ResD hundred.sign
         tries = t;
         is = is;
         fits = on-starts .0;
-        means = mark-means (record { bytes = kept .1 .1 .1; answered = on-starts .1 }) reads;
+        means = mark-means (record { bytes = kept .1 .1 .1 .0; answered = on-starts .1 }) reads;
         has-least = ap (λ (row : List ℕ). getD row 0 0) (kept .1 .0) ∙ rows .0;
         has-best = ap (λ (row : List ℕ). getD row 2 0) (kept .1 .0) ∙ rows .1;
         has-pair = kept .1 .1 .0 ∙ rows .2;
@@ -259,8 +264,8 @@ module _ (κs : Lfts 4) (a : ArgsD by-key.signature κs) (r : ResD by-key.signat
   by-key-export-demand-1 =
       export-demand-1
       (record {
-        faulty-is-refused = λ number place f. key-bytes-refuse (a .0 .now) (kept .1 .1) (a .1 .0 .now) (a .1 .1 .0 .now) f;
-        no-other-is-refused = λ number place e. key-bytes-refuse-only (a .0 .now) (kept .1 .1) (a .1 .0 .now) (a .1 .1 .0 .now) e;
+        faulty-is-refused = λ number place f. key-bytes-refuse (a .0 .now) (kept .1 .1 .0) (a .1 .0 .now) (a .1 .1 .0 .now) f;
+        no-other-is-refused = λ number place e. key-bytes-refuse-only (a .0 .now) (kept .1 .1 .0) (a .1 .0 .now) (a .1 .1 .0 .now) e;
         rows-as-found = λ number place e. kept .1 .0 ∙ row-as-found (a .1 .1 .1 .0 .now) e;
       })
       (own-ground-range (omega arith) (omega arith)) (status-code (kept .0)) (status-tells _ (kept .0))
@@ -277,32 +282,30 @@ module _ (κs : Lfts 4) (a : ArgsD by-key.signature κs) (r : ResD by-key.signat
             number,
             place,
             by-key-export-demand-1
-                .faulty-is-refused number place (key-bytes-refuse-only (a .0 .now) (kept .1 .1) (a .1 .0 .now) (a .1 .1 .0 .now) e),
+                .faulty-is-refused number place (key-bytes-refuse-only (a .0 .now) (kept .1 .1 .0) (a .1 .0 .now) (a .1 .1 .0 .now) e),
           )
 
-  module _ {n : Net} (reads : readFile (a .0 .now) ≡ accepted n) (key : List ℤ) (in32 : All32 key) (key-fits : length key ≡ length (n .periods))
-      (key-lent : a .1 .1 .0 .now ≡ bytesOf key) where
-    valid : Valid n
-    valid = accepted-valid (a .0 .now) n (kept .1 .1) reads
+  -- Whatever 4 bytes for each line are lent, they are a sheet's
+  pub by-key-export-sheets : (lines : ℕ) → (length (a .1 .0 .now) ≡ 4 * lines → IsSheet lines (a .1 .0 .now))
+      × (length (a .1 .1 .0 .now) ≡ 4 * lines → IsSheet lines (a .1 .1 .0 .now))
+  by-key-export-sheets lines = (bytes-are-a-sheet (kept .1 .1 .1 .0), bytes-are-a-sheet (kept .1 .1 .1 .1))
 
-    -- Of whatever bytes of a sheet that fit
-    told : length (a .1 .0 .now) ≡ 4 * length (n .periods) → {least sum best bestSum : ℕ} → IsRating n (starts (a .1 .0 .now)) least sum
-        → IsRating n key best bestSum → (r ≡ 0) × (s .1 .1 .1 .0 .now ≡ markOf least best ∷ remainderOf least best ∷ [])
-    told fits {least} {sum} {best} {bestSum} p q =
-        let is = key-told (a .0 .now) reads (a .1 .0 .now) (a .1 .1 .0 .now) fits (length-of-lent key key-lent key-fits)
-        ∙ ap (besideKey n (starts (a .1 .0 .now))) (starts-of-lent key key-lent in32)
-        ∙ beside-key-is valid p q in
+  module _ {n : Net} (reads : readFile (a .0 .now) ≡ accepted n) (fits : BytesFit (a .1 .0 .now) n) (key-fits : BytesFit (a .1 .1 .0 .now) n) where
+    valid : Valid n
+    valid = accepted-valid (a .0 .now) n (kept .1 .1 .0) reads
+
+    told : {least sum best bestSum : ℕ} → IsRating n (starts (a .1 .0 .now)) least sum → IsRating n (starts (a .1 .1 .0 .now)) best bestSum
+        → (r ≡ 0) × (s .1 .1 .1 .0 .now ≡ markOf least best ∷ remainderOf least best ∷ [])
+    told p q =
+        let is = key-told (a .0 .now) reads (a .1 .0 .now) (a .1 .1 .0 .now) fits key-fits ∙ beside-key-is valid p q in
         let (e, row) = answered (a .1 .1 .1 .0 .now) (kept .0) (kept .1 .0) is in
         (e, same-values (row ∙ is))
 
-    -- It divides the least gap of the sheet whose bytes are lent by that of the key, both over all trips
-    pub by-key-export-divides : (sheet : List ℤ) → All32 sheet → length sheet ≡ length (n .periods) → a .1 .0 .now ≡ bytesOf sheet
-        → {least sum best bestSum : ℕ} → IsRating n sheet least sum → IsRating n key best bestSum
+    -- It divides the least gap of the sheet whose bytes are lent by that of the key whose bytes are, both over all trips
+    pub by-key-export-divides : {least sum best bestSum : ℕ} → IsRating n (starts (a .1 .0 .now)) least sum → IsRating n (starts (a .1 .1 .0 .now)) best bestSum
         → (r ≡ 0) × Divided least best (getD (s .1 .1 .1 .0 .now) 0 0) (getD (s .1 .1 .1 .0 .now) 1 0)
-    by-key-export-divides sheet in32′ fits lent {least} {sum} {best} {bestSum} p q =
-        let p′ : IsRating n (starts (a .1 .0 .now)) least sum = rw (starts-of-lent sheet lent in32′) p in
-        let (e, row) = told (length-of-lent sheet lent fits) p′ q in
-        (e, rw row (divided least best (IsRating-range valid p .0) (IsRating-range valid q .0)))
+    by-key-export-divides {least} {sum} {best} {bestSum} p q =
+        let (e, row) = told p q in (e, rw row (divided least best (IsRating-range valid p .0) (IsRating-range valid q .0)))
 
 -- ---- A hall's sheets by one search
 
@@ -317,12 +320,9 @@ walked-in32 {n} {starts} w = all32 starts each
 pub record SheetBeside (n : Net) (file : List ℕ) (key : List ℤ) (least : ℕ) (file-bytes sheet-bytes key-bytes : List ℕ) : Type 0 where
   pub on-file : file ≡ file-bytes
   pub key-lent : key-bytes ≡ bytesOf key
-  pub sheet : List ℤ
-  pub in32 : All32 sheet
-  pub fit : length sheet ≡ length (n .periods)
-  pub lent : sheet-bytes ≡ bytesOf sheet
+  pub fit : BytesFit sheet-bytes n
   pub sum : ℕ
-  pub rated : IsRating n sheet least sum
+  pub rated : IsRating n (starts sheet-bytes) least sum
 
 -- A search that finishes has a start row that fits
 finished-fits : (κs : Lfts 3) (a : ArgsD searching.signature κs) (r : ResD searching.signature κs)
@@ -345,25 +345,24 @@ module _ (κs : Lfts 3) (a : ArgsD searching.signature κs) (r : ResD searching.
   -- What the export by a key leaves beside the starts of that search, of whatever bytes of a sheet that fit
   beside-search : (κs′ : Lfts 4) (a′ : ArgsD by-key.signature κs′) (r′ : ResD by-key.signature κs′)
       (s′ : AtExit (endedOf 4 by-key-kinds.ps by-key-kinds.r) κs′) → by-key-contract.Post κs′ a′ r′ s′ → a .0 .now ≡ a′ .0 .now
-      → a′ .1 .1 .0 .now ≡ bytesOf (s .1 .0 .now) → length (a′ .1 .0 .now) ≡ 4 * length (n .periods) → {least sum : ℕ}
+      → a′ .1 .1 .0 .now ≡ bytesOf (s .1 .0 .now) → BytesFit (a′ .1 .0 .now) n → {least sum : ℕ}
       → IsRating n (starts (a′ .1 .0 .now)) least sum
       → (r′ ≡ 0)
       × (s′ .1 .1 .1 .0 .now ≡ markOf least (getD (s .1 .1 .1 .0 .now) 0 0) ∷ remainderOf least (getD (s .1 .1 .1 .0 .now) 0 0) ∷ [])
   beside-search κs′ a′ r′ s′ kept′ file key-lent fits p =
       let (key-fits, key-rated) = hall .finished-has-its-rating finished in
-      told κs′ a′ r′ s′ kept′ (sym (ap readFile file) ∙ reads) (s .1 .0 .now) (walked-in32 (hall .starts-in-range (inl finished))) key-fits key-lent fits
-      p key-rated
+      let q : IsRating n (starts (a′ .1 .1 .0 .now)) (getD (s .1 .1 .1 .0 .now) 0 0) (getD (s .1 .1 .1 .0 .now) 1 0)
+      = rw (starts-of-lent (s .1 .0 .now) key-lent (walked-in32 (hall .starts-in-range (inl finished)))) key-rated in
+      told κs′ a′ r′ s′ kept′ (sym (ap readFile file) ∙ reads) fits (length-of-lent (s .1 .0 .now) key-lent key-fits) p q
 
   module _ (κs′ : Lfts 4) (a′ : ArgsD by-key.signature κs′) (r′ : ResD by-key.signature κs′)
       (s′ : AtExit (endedOf 4 by-key-kinds.ps by-key-kinds.r) κs′) (kept′ : by-key-contract.Post κs′ a′ r′ s′) {least : ℕ}
       (is : SheetBeside n (a .0 .now) (s .1 .0 .now) least (a′ .0 .now) (a′ .1 .0 .now) (a′ .1 .1 .0 .now)) where
     not-above : least ≤ getD (s .1 .1 .1 .0 .now) 0 0
-    not-above = least-not-above (hall .finished-is-best finished (is .sheet) (is .fit) (is .rated))
+    not-above = least-not-above (hall .finished-is-best finished (starts (a′ .1 .0 .now)) (length-starts-fit (a′ .1 .0 .now) (is .fit)) (is .rated))
 
     row-is : (r′ ≡ 0) × (s′ .1 .1 .1 .0 .now ≡ markOf least (getD (s .1 .1 .1 .0 .now) 0 0) ∷ remainderOf least (getD (s .1 .1 .1 .0 .now) 0 0) ∷ [])
-    row-is =
-        let p : IsRating n (starts (a′ .1 .0 .now)) least (is .sum) = rw (starts-of-lent (is .sheet) (is .lent) (is .in32)) (is .rated) in
-        beside-search κs′ a′ r′ s′ kept′ (is .on-file) (is .key-lent) (length-of-lent (is .sheet) (is .lent) (is .fit)) p
+    row-is = beside-search κs′ a′ r′ s′ kept′ (is .on-file) (is .key-lent) (is .fit) (is .rated)
 
     -- Beside the starts of a finished search a sheet has its mark out of a hundred, by the best least gap that the search reports
     pub by-key-export-of-search : (r′ ≡ 0)

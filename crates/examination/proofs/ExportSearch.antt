@@ -1,7 +1,7 @@
 -- The order's demands on the exports of the search and of mark, said of what a host sees, as ExportDemands.antt says those of the network's calls: what a
 -- search and a mark mean by their return value and numbers. Each theorem holds of every call that has returned, where it keeps the contract in
 -- src/exports.rt, which every call does. Assumes nothing.
-use Prim.Native.Nat.{ℕ, _<_, _≤_}
+use Prim.Native.Nat.{ℕ, _*_, _<_, _≤_}
 use mathlib.Core.Path.{_≡_, refl, sym, ap, _∙_}
 use mathlib.Core.Bool.{true, false}
 use mathlib.Core.List.{List}
@@ -22,14 +22,15 @@ use Rattle.network.proofs.Laws.Lists.{zero-ne-one}
 use Rattle.search.specs.Search.{SearchOutcome, finished, stopped, stoppedWithNone, searchOutcome}
 use Rattle.search.specs.Search as search
 use Rattle.search.proofs.Demands.{Searches, demandedBound, Demand3, WalkedStarts, Answers, demand-1, demand-3, answers, answered-alike, left-alike}
-use Rattle.examination.specs.Bytes.{markBytes, BytesUnfit}
+use Rattle.examination.specs.Bytes.{starts, IsSheet, markBytes, BytesFit, BytesUnfit}
 use Rattle.examination.specs.Exports.{TellsRefusal, searchStatus, searchRow, oneIf, markStatus, markRow}
 use Rattle.examination.specs.Sheets.{MarkOutcome, decided, undecided, markOutcome}
 use Rattle.examination.specs.Sheets as sheets
 use Rattle.examination.proofs.Codes.{export-demand-1, search-status-tells, search-status-code, mark-status-tells, mark-status-code}
+use Rattle.examination.proofs.Laws.Bytes.{length-starts-fit}
 use Rattle.examination.proofs.Laws.Refusals.{mark-bytes-refuse, mark-bytes-refuse-only, mark-refuses-only}
 use Rattle.examination.proofs.Mark.{MarkMeans, mark-means}
-use Rattle.examination.proofs.SheetBytes.{All32, bytesOf}
+use Rattle.examination.proofs.SheetBytes.{bytes-are-a-sheet}
 use Rattle.examination.proofs.exports.examination_search as searching
 use Rattle.examination.proofs.exports.examination_search.Kinds as search-kinds
 use Rattle.examination.proofs.exports.examination_search.Reads as search-contract
@@ -283,23 +284,23 @@ pub mark-row-as-found : {o : MarkOutcome} {number place : ℕ} (row : List ℕ) 
 unfolding markRow
 mark-row-as-found row e = rw e refl
 
--- On the bytes of a sheet that fits, the answer is that on the sheet
-pub mark-told : (file : List ℕ) {n : Net} → readFile file ≡ accepted n → (sheet : List ℤ) → All32 sheet → length sheet ≡ length (n .periods) → {bytes : List ℕ}
-    → bytes ≡ bytesOf sheet → (budget : ℕ) → markBytes budget (readFile file) bytes ≡ markOutcome (readFile file) sheet budget
-mark-told file reads sheet in32 fit lent budget =
-    ap (markBytes budget (readFile file)) lent
-    ∙ on-its-bytes (λ (read : Reading) (starts : List ℤ). markOutcome read starts budget) sheets.refusal (readFile file) reads sheet in32 fit
+-- On 4 bytes for each line the answer is that on the starts that they mean
+pub mark-told : (file : List ℕ) {n : Net} → readFile file ≡ accepted n → (bytes : List ℕ) → BytesFit bytes n → (budget : ℕ)
+    → markBytes budget (readFile file) bytes ≡ markOutcome (readFile file) (starts bytes) budget
+mark-told file reads bytes fit budget =
+    on-its-bytes (λ (read : Reading) (sheet : List ℤ). markOutcome read sheet budget) sheets.refusal (readFile file) reads bytes fit
 
 -- Of every export that returns a mark's status and leaves its row
-pub hall-mark-of : (file : List ℕ) → IsBytes file → {n : Net} → readFile file ≡ accepted n → (sheet : List ℤ) → All32 sheet → length sheet ≡ length (n .periods)
-    → {bytes : List ℕ} → bytes ≡ bytesOf sheet → (budget : ℕ) (before : List ℕ) {returned : ℕ} {answer : List ℕ}
+pub hall-mark-of : (file : List ℕ) → IsBytes file → {n : Net} → readFile file ≡ accepted n → (bytes : List ℕ) → BytesFit bytes n
+    → (budget : ℕ) (before : List ℕ) {returned : ℕ} {answer : List ℕ}
     → returned ≡ markStatus (markBytes budget (readFile file) bytes) → answer ≡ markRow (markBytes budget (readFile file) bytes) before
-    → HallMark n sheet budget returned answer
-hall-mark-of file is-bytes reads sheet in32 fit lent budget before e f =
-    let told = mark-told file reads sheet in32 fit lent budget in
+    → HallMark n (starts bytes) budget returned answer
+hall-mark-of file is-bytes {n} reads bytes fit budget before e f =
+    let told = mark-told file reads bytes fit budget in
+    let one-for-each : length (starts bytes) ≡ length (n .periods) = length-starts-fit bytes fit in
     rw (e ∙ ap markStatus told, f ∙ ap (λ (o : MarkOutcome). markRow o before) told)
-    (hall-mark fit (markOutcome (readFile file) sheet budget) before
-    (λ number place g. fit-answers sheet reads fit (mark-refuses-only file sheet budget is-bytes g))
+    (hall-mark one-for-each (markOutcome (readFile file) (starts bytes) budget) before
+    (λ number place g. fit-answers (starts bytes) reads one-for-each (mark-refuses-only file (starts bytes) budget is-bytes g))
     (mark-means (record { bytes = is-bytes; answered = refl }) reads))
 
 module _ (κs : Lfts 3) (a : ArgsD mark.signature κs) (r : ResD mark.signature κs) (s : AtExit (endedOf 3 mark-kinds.ps mark-kinds.r) κs)
@@ -308,14 +309,18 @@ module _ (κs : Lfts 3) (a : ArgsD mark.signature κs) (r : ResD mark.signature 
   mark-export-demand-1 =
       export-demand-1
       (record {
-        faulty-is-refused = λ number place f. mark-bytes-refuse (a .0 .now) (kept .1 .1) (a .1 .0 .now) (a .1 .1 .0) f;
-        no-other-is-refused = λ number place e. mark-bytes-refuse-only (a .0 .now) (kept .1 .1) (a .1 .0 .now) (a .1 .1 .0) e;
+        faulty-is-refused = λ number place f. mark-bytes-refuse (a .0 .now) (kept .1 .1 .0) (a .1 .0 .now) (a .1 .1 .0) f;
+        no-other-is-refused = λ number place e. mark-bytes-refuse-only (a .0 .now) (kept .1 .1 .0) (a .1 .0 .now) (a .1 .1 .0) e;
         rows-as-found = λ number place e. kept .1 .0 ∙ mark-row-as-found (a .1 .1 .1 .0 .now) e;
       })
       (own-ground-range (omega arith) (omega arith)) (mark-status-code (kept .0)) (mark-status-tells _ (kept .0))
 
+  -- Whatever 4 bytes for each line are lent, they are a sheet's
+  pub mark-export-sheet : {lines : ℕ} → length (a .1 .0 .now) ≡ 4 * lines → IsSheet lines (a .1 .0 .now)
+  mark-export-sheet = bytes-are-a-sheet (kept .1 .1 .1)
+
   -- What a mark means, of the sheet whose bytes are lent
-  pub mark-export-means : {n : Net} → readFile (a .0 .now) ≡ accepted n → (sheet : List ℤ) → All32 sheet → length sheet ≡ length (n .periods)
-      → a .1 .0 .now ≡ bytesOf sheet → HallMark n sheet (a .1 .1 .0) r (s .1 .1 .1 .0 .now)
-  mark-export-means {n} reads sheet in32 fit lent =
-      hall-mark-of (a .0 .now) (kept .1 .1) reads sheet in32 fit lent (a .1 .1 .0) (a .1 .1 .1 .0 .now) (kept .0) (kept .1 .0)
+  pub mark-export-means : {n : Net} → readFile (a .0 .now) ≡ accepted n → BytesFit (a .1 .0 .now) n
+      → HallMark n (starts (a .1 .0 .now)) (a .1 .1 .0) r (s .1 .1 .1 .0 .now)
+  mark-export-means reads fit =
+      hall-mark-of (a .0 .now) (kept .1 .1 .0) reads (a .1 .0 .now) fit (a .1 .1 .0) (a .1 .1 .1 .0 .now) (kept .0) (kept .1 .0)

@@ -1,47 +1,28 @@
--- The bytes of a sheet mean the integers that they should: every list of integers of 32 bits comes back from its bytes, both ends included.
--- Assumes nothing.
+-- The bytes of a sheet mean the integers that they should: every list of integers of 32 bits comes back from its bytes, both ends included, and every row of
+-- 4 bytes for each start is a sheet's, since a number below 2^32 is the complement of one integer of 32 bits. Assumes nothing.
 use Prim.Native.Nat.{ℕ, suc, _+_, _*_, _-_, _/_, _%_, _<_}
-use mathlib.Core.Path.{_≡_, refl, ap, ap₂, _∙_}
-use mathlib.Core.Bool.{Bool}
+use mathlib.Core.Path.{_≡_, refl, sym, ap, ap₂, _∙_}
+use mathlib.Core.Bool.{Bool, true, false}
 use mathlib.Core.List.{List, [], _∷_}
 use native.Mathlib.Omega.{arith}
-use borrow.Author.Tests.{lt-ltb, le-ltb}
-use lib.IntN.{ℤ, pos, negsuc, _-ℤ_}
+use borrow.Author.Tests.{ltb-true, ltb-false}
+use lib.Dec.{ltb}
+use lib.IntN.{ℤ, pos, negsuc}
 use lib.ListN.{length, getD}
-use Rattle.network.specs.Lists.{pick}
-use Rattle.network.proofs.Laws.Integers.{difference, difference-pos, difference-sub, eq-of-difference}
-use Rattle.examination.specs.Bytes.{signed, starts}
+use Rattle.network.specs.Valid.{IsBytes}
+use Rattle.examination.specs.Bytes.{signed, starts, In32, complement, All32, none, next, bytesOf, IsSheet}
+use Rattle.examination.proofs.Laws.Bytes.{signed-low, signed-high, length-starts-fit}
 
--- A number of 32 bits, both ends included: at least -2^31 and below 2^31
-abbrev pub In32 : ℤ → Type 0
-In32 (pos m) = m < 2147483648
-In32 (negsuc m) = m < 2147483648
-
--- Its two's complement in 32 bits, and the four bytes of that, most significant first
-abbrev pub complement : ℤ → ℕ
-complement (pos m) = m
-complement (negsuc m) = 4294967295 - m
-
-unfoldable pub bytesOf : List ℤ → List ℕ
-bytesOf [] = []
-bytesOf (x ∷ rest) =
-    complement x / 16777216 ∷ complement x / 65536 % 256 ∷ complement x / 256 % 256 ∷ complement x % 256 ∷ bytesOf rest
+-- ---- A sheet comes back from its bytes
 
 signed-complement : (x : ℤ) → In32 x → signed (complement x) ≡ x
-unfolding signed
-signed-complement (pos m) h = ap (λ (b : Bool). pick b (pos m) (pos m -ℤ pos 4294967296)) (lt-ltb m 2147483648 h)
-signed-complement (negsuc m) h =
-    ap (λ (b : Bool). pick b (pos (4294967295 - m)) (pos (4294967295 - m) -ℤ pos 4294967296)) (le-ltb (4294967295 - m) 2147483648 (omega arith))
-    ∙ eq-of-difference (difference-sub (difference-pos (4294967295 - m)) (difference-pos 4294967296)) (difference (negsuc m)) (omega arith)
+signed-complement (pos m) h = signed-low m h
+signed-complement (negsuc m) h = signed-high (4294967295 - m) (omega arith) (omega arith) ∙ ap negsuc (omega arith)
 
 joined : (m : ℕ) → ((m / 16777216 * 256 + m / 65536 % 256) * 256 + m / 256 % 256) * 256 + m % 256 ≡ m
 joined m = omega arith
 
-pub data All32 : List ℤ → Type 0 where
-  none : All32 []
-  next : {x : ℤ} {rest : List ℤ} → In32 x → All32 rest → All32 (x ∷ rest)
-
--- .. place by place
+-- Of 32 bits, place by place
 pub all32 : (sheet : List ℤ) → ((i : ℕ) → i < length sheet → In32 (getD sheet i (pos 0))) → All32 sheet
 all32 [] each = none
 all32 (x ∷ rest) each = next (each 0 (omega arith)) (all32 rest (λ i h. each (suc i) (omega (arith, h))))
@@ -69,3 +50,38 @@ starts-of-lent sheet lent in32 = ap starts lent ∙ starts-of-bytes sheet in32
 
 pub length-of-lent : (sheet : List ℤ) {bytes : List ℕ} {lines : ℕ} → bytes ≡ bytesOf sheet → length sheet ≡ lines → length bytes ≡ 4 * lines
 length-of-lent sheet lent fit = ap length lent ∙ length-bytesOf sheet ∙ ap (λ (k : ℕ). 4 * k) fit
+
+-- ---- Every row of 4 bytes for each start is a sheet's
+
+-- A number below 2^32 is the complement of what it stands for, which has 32 bits
+complement-signed : (m : ℕ) → m < 4294967296 → In32 (signed m) × (complement (signed m) ≡ m)
+complement-signed m h = go (ltb m 2147483648) refl
+  where
+    go : (b : Bool) → ltb m 2147483648 ≡ b → In32 (signed m) × (complement (signed m) ≡ m)
+    go true e = let low = ltb-true m 2147483648 e in rw (signed-low m low) (low, refl)
+    go false e = let high = ltb-false m 2147483648 e in rw (signed-high m high h) (omega (arith, high), omega (arith, h))
+
+taken-apart : (a b c d : ℕ) → a < 256 → b < 256 → c < 256 → d < 256 → {m : ℕ} → m ≡ ((a * 256 + b) * 256 + c) * 256 + d
+    → (m / 16777216 ≡ a) × (m / 65536 % 256 ≡ b) × (m / 256 % 256 ≡ c) × (m % 256 ≡ d)
+taken-apart a b c d ha hb hc hd e = (omega arith, omega arith, omega arith, omega arith)
+
+-- Its starts have 32 bits each, and these bytes
+in32-and-bytes : (bytes : List ℕ) → IsBytes bytes → length bytes % 4 ≡ 0 → All32 (starts bytes) × (bytes ≡ bytesOf (starts bytes))
+unfolding starts bytesOf IsBytes
+in32-and-bytes [] is e = (none, refl)
+in32-and-bytes (a ∷ []) is e = absurd (omega (arith, e))
+in32-and-bytes (a ∷ b ∷ []) is e = absurd (omega (arith, e))
+in32-and-bytes (a ∷ b ∷ c ∷ []) is e = absurd (omega (arith, e))
+in32-and-bytes (a ∷ b ∷ c ∷ d ∷ rest) is e =
+    let (in32, same) = complement-signed (((a * 256 + b) * 256 + c) * 256 + d) (omega (arith, is 0, is 1, is 2, is 3)) in
+    let (p, q, r, s) = taken-apart a b c d (is 0) (is 1) (is 2) (is 3) same in
+    let (others, left) = in32-and-bytes rest (λ i. is (suc (suc (suc (suc i))))) (omega (arith, e)) in
+    (next in32 others, sym (rw (p, q, r, s, ← left) refl))
+
+pub bytes-are-a-sheet : {bytes : List ℕ} {k : ℕ} → IsBytes bytes → length bytes ≡ 4 * k → IsSheet k bytes
+bytes-are-a-sheet {bytes} is e =
+    let (in32, same) = in32-and-bytes bytes is (omega (arith, e)) in (in32, length-starts-fit bytes e, same)
+
+pub sheet-of-bytes : {bytes : List ℕ} {k : ℕ} → IsBytes bytes → length bytes ≡ 4 * k
+    → (sheet : List ℤ) × All32 sheet × (length sheet ≡ k) × (bytes ≡ bytesOf sheet)
+sheet-of-bytes {bytes} is e = let (in32, one-for-each, same) = bytes-are-a-sheet is e in (starts bytes, in32, one-for-each, same)

@@ -1,12 +1,12 @@
 -- Document 01, "Sheets", the host program: a sheet as 4 bytes for each start, two's complement, most significant first; a byte count other
 -- than 4×lines is ground 15, after the file's grounds.
-use Prim.Native.Nat.{ℕ, _+_, _*_}
+use Prim.Native.Nat.{ℕ, _+_, _*_, _-_, _/_, _%_, _<_}
 use mathlib.Core.Path.{_≡_}
 use mathlib.Core.Bool.{Bool, _&&_}
 use mathlib.Core.List.{List, [], _∷_}
 use mathlib.Core.Logic.{_⊎_}
 use lib.Dec.{eqb, ltb}
-use lib.IntN.{ℤ, pos, _-ℤ_}
+use lib.IntN.{ℤ, pos, negsuc, _-ℤ_}
 use lib.ListN.{length}
 use Rattle.network.specs.Lists.{pick}
 use Rattle.network.specs.Network.{Net}
@@ -29,6 +29,30 @@ starts [] = []
 starts (a ∷ []) = []
 starts (a ∷ b ∷ []) = []
 starts (a ∷ b ∷ c ∷ []) = []
+
+-- And back. A number of 32 bits, both ends included: at least -2^31 and below 2^31
+abbrev pub In32 : ℤ → Type 0
+In32 (pos m) = m < 2147483648
+In32 (negsuc m) = m < 2147483648
+
+pub data All32 : List ℤ → Type 0 where
+  none : All32 []
+  next : {x : ℤ} {rest : List ℤ} → In32 x → All32 rest → All32 (x ∷ rest)
+
+-- Its two's complement in 32 bits: a number below 0 is held as itself and 2^32
+abbrev pub complement : ℤ → ℕ
+complement (pos m) = m
+complement (negsuc m) = 4294967295 - m
+
+-- The bytes of a sheet, those of each start's complement, most significant first
+unfoldable pub bytesOf : List ℤ → List ℕ
+bytesOf [] = []
+bytesOf (x ∷ rest) =
+    complement x / 16777216 ∷ complement x / 65536 % 256 ∷ complement x / 256 % 256 ∷ complement x % 256 ∷ bytesOf rest
+
+-- Bytes that are a sheet's of so many starts: of 32 bits each, and with these bytes
+abbrev pub IsSheet : ℕ → List ℕ → Type 0
+IsSheet lines bytes = All32 (starts bytes) × (length (starts bytes) ≡ lines) × (bytes ≡ bytesOf (starts bytes))
 
 -- There are 4 bytes for each line
 unfoldable pub bytesFit : Net → List ℕ → Bool

@@ -99,6 +99,7 @@ pub extern "C" fn examination_rate(file: &[u8], sheet: &[u8], answer: &mut [u32;
     ensures returned { λ r. ⌜ r ≡ export.status (bytes.byBytes rateOutcome refusal (readFile (now (file .entry))) (now (sheet .entry))) ⌝ }
     ensures row { λ _. ⌜ now (answer .exit) ≡ export.rowAfter (bytes.byBytes rateOutcome refusal (readFile (now (file .entry))) (now (sheet .entry))) (now (answer .entry)) ⌝ }
     ensures bytes { λ _. ⌜ IsBytes (now (file .entry)) ⌝ }
+    ensures sheet { λ _. ⌜ IsBytes (now (sheet .entry)) ⌝ }
 {
     let taken = sheet_of(sheet);
     let starts = taken.starts;
@@ -113,6 +114,7 @@ pub extern "C" fn examination_weighted(file: &[u8], sheet: &[u8], answer: &mut [
     ensures returned { λ r. ⌜ r ≡ export.status (bytes.byBytes call.weightedOutcome refusal (readFile (now (file .entry))) (now (sheet .entry))) ⌝ }
     ensures row { λ _. ⌜ now (answer .exit) ≡ export.rowAfter (bytes.byBytes call.weightedOutcome refusal (readFile (now (file .entry))) (now (sheet .entry))) (now (answer .entry)) ⌝ }
     ensures bytes { λ _. ⌜ IsBytes (now (file .entry)) ⌝ }
+    ensures sheet { λ _. ⌜ IsBytes (now (sheet .entry)) ⌝ }
 {
     let taken = sheet_of(sheet);
     let starts = taken.starts;
@@ -133,6 +135,7 @@ pub extern "C" fn examination_gaps(
     ensures row { λ _. ⌜ now (answer .exit) ≡ export.rowAfter (bytes.byBytes rateOutcome refusal (readFile (now (file .entry))) (now (sheet .entry))) (now (answer .entry)) ⌝ }
     ensures gaps { λ _. ⌜ now («gap_row» .exit) ≡ bytes.gapRowBytes (now («gap_row» .entry)) (readFile (now (file .entry))) (now (sheet .entry)) ⌝ }
     ensures bytes { λ _. ⌜ IsBytes (now (file .entry)) ⌝ }
+    ensures sheet { λ _. ⌜ IsBytes (now (sheet .entry)) ⌝ }
 {
     let taken = sheet_of(sheet);
     let starts = taken.starts;
@@ -196,6 +199,7 @@ pub extern "C" fn examination_board(
     ensures times { λ _. ⌜ now («time_row» .exit) ≡ bytes.timeRowBytes (window stop from minutes) (now («time_row» .entry)) (now («line_row» .entry)) (readFile (now (file .entry))) (now (sheet .entry)) ⌝ }
     ensures lines { λ _. ⌜ now («line_row» .exit) ≡ bytes.lineRowBytes (window stop from minutes) (now («time_row» .entry)) (now («line_row» .entry)) (readFile (now (file .entry))) (now (sheet .entry)) ⌝ }
     ensures bytes { λ _. ⌜ IsBytes (now (file .entry)) ⌝ }
+    ensures sheet { λ _. ⌜ IsBytes (now (sheet .entry)) ⌝ }
 {
     let taken = sheet_of(sheet);
     let starts = taken.starts;
@@ -286,6 +290,8 @@ pub extern "C" fn examination_wanted(
 pub extern "C" fn examination_better(file: &[u8], first: &[u8], second: &[u8]) -> u32
     ensures returned { λ r. ⌜ r ≡ export.betterStatus (bytes.betterBytes (readFile (now (file .entry))) (now (first .entry)) (now (second .entry))) ⌝ }
     ensures bytes { λ _. ⌜ IsBytes (now (file .entry)) ⌝ }
+    ensures first { λ _. ⌜ IsBytes (now (first .entry)) ⌝ }
+    ensures second { λ _. ⌜ IsBytes (now (second .entry)) ⌝ }
 {
     let one = sheet_of(first);
     let one_starts = one.starts;
@@ -376,6 +382,7 @@ pub extern "C" fn examination_mark(
     ensures returned { λ r. ⌜ r ≡ export.markStatus (bytes.markBytes budget (readFile (now (file .entry))) (now (sheet .entry))) ⌝ }
     ensures row { λ _. ⌜ now (answer .exit) ≡ export.markRow (bytes.markBytes budget (readFile (now (file .entry))) (now (sheet .entry))) (now (answer .entry)) ⌝ }
     ensures bytes { λ _. ⌜ IsBytes (now (file .entry)) ⌝ }
+    ensures sheet { λ _. ⌜ IsBytes (now (sheet .entry)) ⌝ }
 {
     let told = mark_bytes(file, sheet, budget);
     put_mark(told, answer)
@@ -395,6 +402,7 @@ pub extern "C" fn examination_hundred(
     ensures row { λ _. ⌜ now (answer .exit) ≡ export.markRow (bytes.markBytes budget (readFile (now (file .entry))) (now (sheet .entry))) (now (answer .entry)) ⌝ }
     ensures hundred { λ _. ⌜ now (hundred .exit) ≡ export.hundredRow (bytes.markBytes budget (readFile (now (file .entry))) (now (sheet .entry))) (now (hundred .entry)) ⌝ }
     ensures bytes { λ _. ⌜ IsBytes (now (file .entry)) ⌝ }
+    ensures sheet { λ _. ⌜ IsBytes (now (sheet .entry)) ⌝ }
 {
     let told = mark_bytes(file, sheet, budget);
     put_hundred(told, hundred);
@@ -412,6 +420,8 @@ pub extern "C" fn examination_by_key(
     ensures returned { λ r. ⌜ r ≡ export.status (bytes.keyBytes (readFile (now (file .entry))) (now (sheet .entry)) (now (key .entry))) ⌝ }
     ensures row { λ _. ⌜ now (hundred .exit) ≡ export.rowAfter (bytes.keyBytes (readFile (now (file .entry))) (now (sheet .entry)) (now (key .entry))) (now (hundred .entry)) ⌝ }
     ensures bytes { λ _. ⌜ IsBytes (now (file .entry)) ⌝ }
+    ensures sheet { λ _. ⌜ IsBytes (now (sheet .entry)) ⌝ }
+    ensures key { λ _. ⌜ IsBytes (now (key .entry)) ⌝ }
 {
     let taken = sheet_of(sheet);
     let starts = taken.starts;

@@ -1,13 +1,13 @@
--- A sheet's bytes taken apart: the starts stand at every fourth byte, a sheet of bytes fits a network where its starts do, and so a call on the
+-- A sheet's bytes taken apart: the starts stand at every fourth byte, by two's complement, a sheet of bytes fits a network where its starts do, and so a call on the
 -- starts answers what document 01 wants on the bytes. Assumes nothing.
-use Prim.Native.Nat.{ℕ, zero, suc, _+_, _*_, _/_, _%_, _<_, _≤_}
+use Prim.Native.Nat.{ℕ, zero, suc, _+_, _*_, _-_, _/_, _%_, _<_, _≤_}
 use mathlib.Core.Path.{_≡_, refl, ap, ap₂, _∙_}
 use mathlib.Core.Bool.{Bool, true, false, _&&_}
 use mathlib.Core.List.{List, [], _∷_}
 use native.Mathlib.Omega.{arith}
-use borrow.Author.Tests.{eqb-true, eqb-false, eq-eqb, ne-eqb, lt-ltb}
+use borrow.Author.Tests.{eqb-true, eqb-false, eq-eqb, ne-eqb, lt-ltb, le-ltb}
 use lib.Dec.{eqb, ltb}
-use lib.IntN.{ℤ, pos}
+use lib.IntN.{ℤ, pos, negsuc, _-ℤ_}
 use lib.ListN.{length, getD, replicate}
 use Rattle.network.specs.Lists.{pick}
 use Rattle.network.specs.Network.{Net, word}
@@ -18,11 +18,24 @@ use Rattle.network.specs.GapRow.{gapRow, gapRowAfter}
 use Rattle.network.specs.Reading.{Reading, accepted, refused, refusal, readFile}
 use Rattle.network.specs.Valid.{IsBytes}
 use Rattle.network.proofs.Laws.Gaps.{accepted-valid}
+use Rattle.network.proofs.Laws.Integers.{difference, difference-pos, difference-sub, eq-of-difference}
 use Rattle.examination.specs.Bytes.{signed, starts, bytesFit, byBytes, markBytes, betterBytes, keyBytes, gapRowBytes}
 use Rattle.examination.specs.ByKey.{besideKey, keyOutcome}
 use Rattle.examination.specs.Sheets.{fits, betterBy, betterOf, markOutcome}
 use Rattle.examination.specs.Sheets as sheets
 use Rattle.examination.specs.Engine.Taken.{startAt, isWhole, sheetOf}
+
+-- ---- what a number of 32 bits stands for
+
+pub signed-low : (m : ℕ) → m < 2147483648 → signed m ≡ pos m
+unfolding signed
+signed-low m h = ap (λ (b : Bool). pick b (pos m) (pos m -ℤ pos 4294967296)) (lt-ltb m 2147483648 h)
+
+pub signed-high : (m : ℕ) → 2147483648 ≤ m → m < 4294967296 → signed m ≡ negsuc (4294967295 - m)
+unfolding signed
+signed-high m h k =
+    ap (λ (b : Bool). pick b (pos m) (pos m -ℤ pos 4294967296)) (le-ltb m 2147483648 h)
+    ∙ eq-of-difference (difference-sub (difference-pos m) (difference-pos 4294967296)) (difference (negsuc (4294967295 - m))) (omega arith)
 
 -- ---- the starts, place by place
 
@@ -33,6 +46,9 @@ length-starts (a ∷ []) = refl
 length-starts (a ∷ b ∷ []) = refl
 length-starts (a ∷ b ∷ c ∷ []) = refl
 length-starts (a ∷ b ∷ c ∷ d ∷ rest) = omega (arith, length-starts rest)
+
+pub length-starts-fit : (bytes : List ℕ) {lines : ℕ} → length bytes ≡ 4 * lines → length (starts bytes) ≡ lines
+length-starts-fit bytes e = omega (arith, length-starts bytes, e)
 
 pub start-is-at : (bytes : List ℕ) (i : ℕ) → i * 4 + 3 < length bytes → getD (starts bytes) i (pos 0) ≡ startAt bytes (i * 4)
 unfolding starts startAt word

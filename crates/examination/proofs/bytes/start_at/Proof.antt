@@ -1,20 +1,18 @@
 -- `examination::bytes::start_at` meets its contract: a number below 2^31 stands for itself, a larger one for -1 less what it lacks of
 -- 2^32 - 1. Assumes nothing.
-use Prim.Native.Nat.{ℕ, _+_, _*_, _-_, _^_, _<_, _≤_}
-use mathlib.Core.Path.{_≡_, sym, ap, ap₂, _∙_}
-use mathlib.Core.Bool.{Bool}
+use Prim.Native.Nat.{ℕ, _+_, _*_, _-_, _<_}
+use mathlib.Core.Path.{_≡_, sym, ap₂, _∙_}
 use native.Mathlib.Omega.{arith}
 use borrow.Author.Needs.{needs}
-use borrow.Author.Tests.{lt-ltb, le-ltb}
 use lib.IntN.{ℤ, pos, negsuc, _-ℤ_}
 use mir.Syntax.{w32}
 use mir.Val.{SFits, toZ}
 use mir.Facts.{toZ-ofZ, toZ-pos}
-use Rattle.network.specs.Lists.{pick}
 use Rattle.network.specs.Network.{word}
 use Rattle.network.proofs.Laws.Integers.{difference, difference-pos, difference-sub, eq-of-difference}
 use Rattle.examination.specs.Bytes.{signed}
 use Rattle.examination.specs.Engine.Taken.{startAt}
+use Rattle.examination.proofs.Laws.Bytes.{signed-low, signed-high}
 use Rattle.examination.proofs.bytes.start_at.Statement.{statement}
 use Rattle.examination.proofs.bytes.start_at.Tie as tie
 
@@ -22,7 +20,7 @@ use Rattle.examination.proofs.bytes.start_at.Tie as tie
 abbrev number : tie.After-word2 → ℕ
 number c = c .before .word .result * 65536 + c .word2 .result
 
-below : (c : tie.After-word2) → number c < 2 ^ 32
+below : (c : tie.After-word2) → number c < 4294967296
 below c = omega (arith, c .before .word .ok, c .word2 .ok)
 
 reads : (c : tie.After-word2) → startAt (c .before .before .before .args .bytes .now) (c .before .before .before .args .at) ≡ signed (number c)
@@ -30,22 +28,13 @@ unfolding startAt
 reads c =
     ap₂ (λ (high low : ℕ). signed (high * 65536 + low)) (sym (c .before .word .ensures)) (sym (c .word2 .ensures))
 
-signed-low : (m : ℕ) → m < 2147483648 → signed m ≡ pos m
-unfolding signed
-signed-low m h = ap (λ (b : Bool). pick b (pos m) (pos m -ℤ pos 4294967296)) (lt-ltb m 2147483648 h)
+-- -1 less a number
+minus-one : (m : ℕ) → negsuc m ≡ negsuc 0 -ℤ pos m
+minus-one m = eq-of-difference (difference (negsuc m)) (difference-sub (difference (negsuc 0)) (difference-pos m)) (omega arith)
 
-signed-high : (m : ℕ) → 2147483648 ≤ m → m < 2 ^ 32 → signed m ≡ negsuc 0 -ℤ pos (4294967295 - m)
-unfolding signed
-signed-high m h k =
-    ap (λ (b : Bool). pick b (pos m) (pos m -ℤ pos 4294967296)) (le-ltb m 2147483648 h)
-    ∙ eq-of-difference (difference-sub (difference-pos m) (difference-pos 4294967296))
-    (difference-sub (difference (negsuc 0)) (difference-pos (4294967295 - m))) (omega arith)
-
--- -1 less a number below 2^31 is within 32 bits
+-- .. below 2^31 is within 32 bits
 minus-one-fits : (m : ℕ) → m < 2147483648 → SFits w32 (negsuc 0 -ℤ pos m)
-minus-one-fits m h =
-    subst-fits (eq-of-difference (difference (negsuc m)) (difference-sub (difference (negsuc 0)) (difference-pos m)) (omega arith))
-    (record { sfits = h })
+minus-one-fits m h = subst-fits (minus-one m) (record { sfits = h })
   where
     subst-fits : {x y : ℤ} → x ≡ y → SFits w32 x → SFits w32 y
     subst-fits e f = rw (sym e) f
@@ -94,7 +83,8 @@ sub-result-2 c = rw (missing c) (fits c)
 
 returns-2 : tie.Need-returns-2
 returns-2 c =
-    rw (missing c, toZ-ofZ {w = w32} (fits c)) (sym (reads (c .before) ∙ signed-high (number (c .before)) (c .if1 .left) (below (c .before))))
+    rw (missing c, toZ-ofZ {w = w32} (fits c))
+    (sym (reads (c .before) ∙ signed-high (number (c .before)) (c .if1 .left) (below (c .before)) ∙ minus-one (4294967295 - number (c .before))))
 
 pub start-at-spec : {M : Type 1} → statement M
 start-at-spec =

@@ -6,6 +6,7 @@ use borrow.Author.Needs.{needs}
 use lib.IntN.{ℤ}
 use lib.Seq.{length-take-le}
 use Rattle.network.specs.Reading.{readFile}
+use Rattle.network.specs.Valid.{IsBytes}
 use Rattle.examination.specs.Bytes.{betterBytes}
 use Rattle.examination.specs.Exports.{betterStatus}
 use Rattle.examination.specs.Sheets.{choiceOf, betterOf}
@@ -22,6 +23,22 @@ chosen c =
     c .choose .ensures .0
     ∙ ap₂ (λ (one other : List ℤ). betterOf (readFile (s .args .file .now)) one other) (c .before .before .before .before .before .before .sheet-of .ensures .1) (c .before .before .before .before .sheet-of2 .ensures .1)
     ∙ better-on-bytes (s .args .file .now) (c .choose .ensures .1) (s .args .first .now) (s .args .second .now)
+
+-- What was lent as sheets are bytes
+first-bytes : (c : tie.After-sheet-of) → IsBytes (c .before .before .before .before .args .first .now)
+unfolding IsBytes
+first-bytes c i = c .before .before .shared-slice-known2 .given i .fits
+
+second-bytes : (c : tie.After-sheet-of) → IsBytes (c .before .before .before .before .args .second .now)
+unfolding IsBytes
+second-bytes c i = c .before .shared-slice-known3 .given i .fits
+
+bytes-here : (c : tie.After-choose)
+    → IsBytes (c .before .before .before .before .before .before .before .before .before .before .args .file .now)
+    × (IsBytes (c .before .before .before .before .before .before .before .before .before .before .args .first .now)
+    × IsBytes (c .before .before .before .before .before .before .before .before .before .before .args .second .now))
+bytes-here c =
+    let t = c .before .before .before .before .before .before in (c .choose .ensures .1, (first-bytes t, second-bytes t))
 
 sheet-of-requires : tie.Need-sheet-of-requires
 sheet-of-requires c κs = search needs
@@ -59,15 +76,15 @@ enum-told-3 c = search needs
 
 returns : tie.Need-returns
 unfolding betterStatus choiceOf
-returns c = (ap betterStatus (sym (ap choiceOf (c .enum-told .given .1)) ∙ chosen (c .before .before)), c .before .before .choose .ensures .1)
+returns c = (ap betterStatus (sym (ap choiceOf (c .enum-told .given .1)) ∙ chosen (c .before .before)), bytes-here (c .before .before))
 
 returns-2 : tie.Need-returns-2
 unfolding betterStatus choiceOf
-returns-2 c = (ap betterStatus (sym (ap choiceOf (c .enum-told2 .given .1)) ∙ chosen (c .before .before)), c .before .before .choose .ensures .1)
+returns-2 c = (ap betterStatus (sym (ap choiceOf (c .enum-told2 .given .1)) ∙ chosen (c .before .before)), bytes-here (c .before .before))
 
 returns-3 : tie.Need-returns-3
 unfolding betterStatus choiceOf
-returns-3 c = (ap betterStatus (sym (ap choiceOf (c .enum-told3 .given .1)) ∙ chosen (c .before .before)), c .before .before .choose .ensures .1)
+returns-3 c = (ap betterStatus (sym (ap choiceOf (c .enum-told3 .given .1)) ∙ chosen (c .before .before)), bytes-here (c .before .before))
 
 pub examination-better-spec : {M : Type 1} → statement M
 examination-better-spec =

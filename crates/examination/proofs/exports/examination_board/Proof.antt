@@ -44,6 +44,10 @@ module _ (b : tie.After-board) where
   bytes-here : IsBytes (start .args .file .now)
   bytes-here = b .board .ensures .1 .1 .1
 
+  sheet-bytes : IsBytes (start .args .sheet .now)
+  unfolding IsBytes
+  sheet-bytes i = b .before .before .before .before .before .before .before .shared-slice-known2 .given i .fits
+
   -- What is lent to the call is the sheet that the bytes stand for, and the first minute
   sheet-is : held (b .before .before .before .before .before .sheet-of .result) ≡ sheetOf (start .args .sheet .now)
   sheet-is = b .before .before .before .before .before .sheet-of .ensures .1
@@ -117,7 +121,7 @@ returns c =
     let b = k .before .before .before .before .before .before in
     let told = refused-here k in (
       c .refusal-code .ensures ∙ ap status told,
-      (ap (λ (o : Outcome). rowAfter o (start b .args .answer .now)) told, (times-left b, (lines-left b, bytes-here b))),
+      (ap (λ (o : Outcome). rowAfter o (start b .args .answer .now)) told, (times-left b, (lines-left b, (bytes-here b, sheet-bytes b)))),
     )
 
 same-length-3 : tie.Need-same-length-3
@@ -132,7 +136,7 @@ returns-2 c =
     let b = c .before .before .before .before .before .before .before in
     let told = sym (ap boardAnswer (c .before .before .told2 .given .1)) ∙ answered b in (
       ap status told,
-      (ap (λ (o : Outcome). rowAfter o (start b .args .answer .now)) told, (times-left b, (lines-left b, bytes-here b))),
+      (ap (λ (o : Outcome). rowAfter o (start b .args .answer .now)) told, (times-left b, (lines-left b, (bytes-here b, sheet-bytes b)))),
     )
 
 pub examination-board-spec : {M : Type 1} → statement M

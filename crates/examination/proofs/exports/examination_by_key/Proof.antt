@@ -6,6 +6,7 @@ use borrow.Author.Needs.{needs}
 use lib.IntN.{ℤ}
 use lib.Seq.{length-take-le}
 use Rattle.network.specs.Reading.{Outcome, refusal, readFile}
+use Rattle.network.specs.Valid.{IsBytes}
 use Rattle.examination.specs.Bytes.{keyBytes}
 use Rattle.examination.specs.Exports.{status, rowAfter}
 use Rattle.examination.specs.ByKey.{keyAnswer, keyOutcome}
@@ -35,6 +36,19 @@ refused-here : (c : tie.After-known-told)
     → refusal (c .before .told .given .0 .0) (c .before .told .given .0 .1 .0) ≡ due (start (c .before .before .before))
 unfolding keyAnswer
 refused-here c = sym (ap keyAnswer (c .before .told .given .1)) ∙ answered (c .before .before .before)
+
+-- What was lent as sheet and key are bytes
+sheet-bytes : (c : tie.After-sheet-of) → IsBytes (c .before .before .before .before .args .sheet .now)
+unfolding IsBytes
+sheet-bytes c i = c .before .before .shared-slice-known2 .given i .fits
+
+key-bytes : (c : tie.After-sheet-of) → IsBytes (c .before .before .before .before .args .key .now)
+unfolding IsBytes
+key-bytes c i = c .before .shared-slice-known3 .given i .fits
+
+bytes-here : (c : tie.After-by-key) → IsBytes (start c .args .file .now) × (IsBytes (start c .args .sheet .now) × IsBytes (start c .args .key .now))
+bytes-here c =
+    let t = c .before .before .before .before .before .before in (c .by-key .ensures .1, (sheet-bytes t, key-bytes t))
 
 sheet-of-requires : tie.Need-sheet-of-requires
 sheet-of-requires c κs = search needs
@@ -78,14 +92,14 @@ unfolding status rowAfter
 returns c =
     let t = c .before .before .before .before in
     let told = refused-here (c .before) in
-    (c .refusal-code .ensures ∙ ap status told, (ap (λ (o : Outcome). rowAfter o (start t .args .hundred .now)) told, t .by-key .ensures .1))
+    (c .refusal-code .ensures ∙ ap status told, (ap (λ (o : Outcome). rowAfter o (start t .args .hundred .now)) told, bytes-here t))
 
 returns-2 : tie.Need-returns-2
 unfolding status rowAfter keyAnswer
 returns-2 c =
     let t = c .before .before .before .before in
     let told = sym (ap keyAnswer (c .before .before .told2 .given .1)) ∙ answered t in
-    (ap status told, (ap (λ (o : Outcome). rowAfter o (start t .args .hundred .now)) told, t .by-key .ensures .1))
+    (ap status told, (ap (λ (o : Outcome). rowAfter o (start t .args .hundred .now)) told, bytes-here t))
 
 pub examination-by-key-spec : {M : Type 1} → statement M
 examination-by-key-spec =

@@ -10,6 +10,7 @@ use Rattle.network.specs.Rating.{rating}
 use Rattle.network.specs.Rate.{rateAnswer, ratedOnSheet, rateOutcome}
 use Rattle.network.specs.GapRow.{gapRowAfter}
 use Rattle.network.specs.Reading.{Outcome, refusal, readFile}
+use Rattle.network.specs.Valid.{IsBytes}
 use Rattle.examination.specs.Bytes.{byBytes, gapRowBytes}
 use Rattle.examination.specs.Exports.{status, rowAfter}
 use Rattle.examination.specs.Engine.Taken.{held}
@@ -41,6 +42,11 @@ module _ (g : tie.After-gaps) where
       ∙ ap (λ (sheet : List ℤ). gapRowAfter (start .args .gap-row .now) (readFile file) sheet) (g .before .before .before .before .sheet-of .ensures .1)
       ∙ gap-row-on-bytes (start .args .gap-row .now) file (g .gaps .ensures .1 .1) (start .args .sheet .now)
 
+-- What was lent as a sheet are bytes
+sheet-bytes : (c : tie.After-sheet-of) → IsBytes (c .before .before .before .args .sheet .now)
+unfolding IsBytes
+sheet-bytes c i = c .before .shared-slice-known2 .given i .fits
+
 sheet-of-requires : tie.Need-sheet-of-requires
 sheet-of-requires c κs = search needs
 
@@ -66,7 +72,7 @@ returns c =
       c .put-rating .ensures .0 ∙ ap status told,
       (
         c .put-rating .ensures .1 ∙ ap (λ (o : Outcome). rowAfter o (start g .args .answer .now)) told,
-        (row-left g, g .gaps .ensures .1 .1),
+        (row-left g, (g .gaps .ensures .1 .1, sheet-bytes (g .before .before .before .before))),
       ),
     )
 

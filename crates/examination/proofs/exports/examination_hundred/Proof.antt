@@ -2,11 +2,17 @@
 -- rows. Assumes nothing.
 use mathlib.Core.Path.{sym, ap, _∙_}
 use borrow.Author.Needs.{needs}
+use Rattle.network.specs.Valid.{IsBytes}
 use Rattle.examination.specs.Exports.{markStatus, markRow, hundredRow}
 use Rattle.examination.specs.Sheets.{MarkOutcome}
 use Rattle.examination.proofs.Laws.Refusals.{mark-bytes-low}
 use Rattle.examination.proofs.exports.examination_hundred.Statement.{statement}
 use Rattle.examination.proofs.exports.examination_hundred.Tie as tie
+
+-- What was lent as a sheet are bytes
+sheet-bytes : (c : tie.After-mark-bytes) → IsBytes (c .before .before .before .args .sheet .now)
+unfolding IsBytes
+sheet-bytes c i = c .before .shared-slice-known2 .given i .fits
 
 mark-bytes-requires : tie.Need-mark-bytes-requires
 mark-bytes-requires c κs = search needs
@@ -28,7 +34,7 @@ returns c =
       c .put-mark .ensures .0 ∙ ap markStatus told,
       (
         c .put-mark .ensures .1 ∙ ap (λ (o : MarkOutcome). markRow o (s .args .answer .now)) told,
-        (c .before .before .put-hundred .ensures ∙ ap (λ (o : MarkOutcome). hundredRow o (s .args .hundred .now)) told, t .mark-bytes .ensures .1),
+        (c .before .before .put-hundred .ensures ∙ ap (λ (o : MarkOutcome). hundredRow o (s .args .hundred .now)) told, (t .mark-bytes .ensures .1, sheet-bytes t)),
       ),
     )
 

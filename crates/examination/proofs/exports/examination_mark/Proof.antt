@@ -2,11 +2,17 @@
 -- Assumes nothing.
 use mathlib.Core.Path.{sym, ap, _∙_}
 use borrow.Author.Needs.{needs}
+use Rattle.network.specs.Valid.{IsBytes}
 use Rattle.examination.specs.Exports.{markStatus, markRow}
 use Rattle.examination.specs.Sheets.{MarkOutcome}
 use Rattle.examination.proofs.Laws.Refusals.{mark-bytes-low}
 use Rattle.examination.proofs.exports.examination_mark.Statement.{statement}
 use Rattle.examination.proofs.exports.examination_mark.Tie as tie
+
+-- What was lent as a sheet are bytes
+sheet-bytes : (c : tie.After-mark-bytes) → IsBytes (c .before .before .before .args .sheet .now)
+unfolding IsBytes
+sheet-bytes c i = c .before .shared-slice-known2 .given i .fits
 
 mark-bytes-requires : tie.Need-mark-bytes-requires
 mark-bytes-requires c κs = search needs
@@ -21,7 +27,7 @@ returns c =
     let s = c .before .before .before .before .before in
     let told = c .before .before .mark-bytes .ensures .0 in (
       c .put-mark .ensures .0 ∙ ap markStatus told,
-      (c .put-mark .ensures .1 ∙ ap (λ (o : MarkOutcome). markRow o (s .args .answer .now)) told, c .before .before .mark-bytes .ensures .1),
+      (c .put-mark .ensures .1 ∙ ap (λ (o : MarkOutcome). markRow o (s .args .answer .now)) told, (c .before .before .mark-bytes .ensures .1, sheet-bytes (c .before .before))),
     )
 
 pub examination-mark-spec : {M : Type 1} → statement M

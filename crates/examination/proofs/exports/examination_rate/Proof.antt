@@ -7,6 +7,7 @@ use lib.Seq.{length-take-le}
 use Rattle.network.specs.Rating.{rating}
 use Rattle.network.specs.Rate.{rateAnswer, ratedOnSheet, rateOutcome}
 use Rattle.network.specs.Reading.{Outcome, refusal, readFile}
+use Rattle.network.specs.Valid.{IsBytes}
 use Rattle.examination.specs.Bytes.{byBytes}
 use Rattle.examination.specs.Exports.{status, rowAfter}
 use Rattle.examination.specs.Engine.Taken.{held}
@@ -23,6 +24,11 @@ answered c =
     c .rate .ensures .0
     ∙ ap (λ (sheet : List ℤ). ratedOnSheet rating (readFile (s .args .file .now)) sheet) (c .before .before .before .sheet-of .ensures .1)
     ∙ rated-on-bytes rating (s .args .file .now) (c .rate .ensures .1) (s .args .sheet .now)
+
+-- What was lent as a sheet are bytes
+sheet-bytes : (c : tie.After-sheet-of) → IsBytes (c .before .before .before .args .sheet .now)
+unfolding IsBytes
+sheet-bytes c i = c .before .shared-slice-known2 .given i .fits
 
 sheet-of-requires : tie.Need-sheet-of-requires
 sheet-of-requires c κs = search needs
@@ -48,7 +54,7 @@ returns c =
       c .put-rating .ensures .0 ∙ ap status told,
       (
         c .put-rating .ensures .1 ∙ ap (λ (o : Outcome). rowAfter o (c .before .before .before .before .before .before .before .before .args .answer .now)) told,
-        c .before .before .rate .ensures .1,
+        (c .before .before .rate .ensures .1, sheet-bytes (c .before .before .before .before .before)),
       ),
     )
 
