@@ -70,8 +70,8 @@ module _ (κs : Lfts 3) (a : ArgsD better.signature κs) (r : ResD better.signat
       × (length (a .1 .1 .0 .now) ≡ 4 * lines → IsSheet lines (a .1 .1 .0 .now))
   better-export-sheets lines = (bytes-are-a-sheet (kept .1 .1 .0), bytes-are-a-sheet (kept .1 .1 .1))
 
-  -- The part that better-of-two hands back on the sheets that the bytes mean follows from the number: 1, the first row itself; 2, the second row itself; 0, the
-  -- empty part at the first one's beginning
+  -- The part that better-of-two hands back on the sheets that the bytes mean follows from the number: 1, the first row itself; 2, the second row
+  -- itself; 0, the empty part at the first one's beginning
   pub better-export-names-the-part : (κs′ : Lfts 2) (a′ : ArgsD part.signature κs′) (r′ : ResD part.signature κs′)
       (s′ : AtExit (endedOf 2 part-kinds.ps part-kinds.r) κs′) → part-contract.Post κs′ a′ r′ s′
       → a .0 .now ≡ a′ .0 .now → length (a .1 .0 .now) ≡ 4 * length (a′ .1 .0 .now) → length (a .1 .1 .0 .now) ≡ 4 * length (a′ .1 .1 .0 .now)

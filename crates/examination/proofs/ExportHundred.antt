@@ -146,11 +146,12 @@ module _ (κs : Lfts 4) (a : ArgsD hundred.signature κs) (r : ResD hundred.sign
       → HallHundred n (starts (a .1 .0 .now)) (a .1 .1 .0) r (s .1 .1 .1 .0 .now) (s .1 .1 .1 .1 .0 .now)
   hundred-export-means {n} reads fit =
       let sheet = starts (a .1 .0 .now) in
+      let one-for-each = length-starts-fit (a .1 .0 .now) fit in
       let o : MarkOutcome = markBytes (a .1 .1 .0) (readFile (a .0 .now)) (a .1 .0 .now) in
       let told = mark-told (a .0 .now) reads (a .1 .0 .now) fit (a .1 .1 .0) in
       let means : MarkMeans n sheet (a .1 .1 .0) o = mark-means (record { bytes = kept .1 .1 .1 .0; answered = told }) reads in
       let answers : (number place : ℕ) → o ≡ sheets.refusal number place → ⊥ =
-      λ number place e. fit-answers sheet reads (length-starts-fit (a .1 .0 .now) fit) (mark-refuses-only (a .0 .now) sheet (a .1 .1 .0) (kept .1 .1 .1 .0) (sym told ∙ e)) in
+      λ number place e. fit-answers sheet reads one-for-each (mark-refuses-only (a .0 .now) sheet (a .1 .1 .0) (kept .1 .1 .1 .0) (sym told ∙ e)) in
       record {
         marked = hall-mark-of (a .0 .now) (kept .1 .1 .1 .0) reads (a .1 .0 .now) fit (a .1 .1 .0) (a .1 .1 .1 .0 .now) (kept .0) (kept .1 .0);
         decided-has-a-mark = λ e.
@@ -199,7 +200,8 @@ module _ (κs : Lfts 4) (a : ArgsD hundred.signature κs) (r : ResD hundred.sign
       × (markBytes (a .1 .1 .0) (readFile (a .0 .now)) (a .1 .0 .now) ≡ decided least sum bestLeast bestSum equal mark remainder tries)
   outcome-is =
       decided-of-zero (markBytes (a .1 .1 .0) (readFile (a .0 .now)) (a .1 .0 .now))
-      (λ number place e. refuses-range (mark-bytes-refuse-only (a .0 .now) (kept .1 .1 .1 .0) (a .1 .0 .now) (a .1 .1 .0) e) (omega arith) (omega arith) .0)
+      (λ number place e.
+      refuses-range (mark-bytes-refuse-only (a .0 .now) (kept .1 .1 .1 .0) (a .1 .0 .now) (a .1 .1 .0) e) (omega arith) (omega arith) .0)
       (sym (kept .0) ∙ ends)
 
   decided-reads : (n : Net) × (readFile (a .0 .now) ≡ accepted n)
@@ -302,7 +304,8 @@ module _ (κs : Lfts 4) (a : ArgsD by-key.signature κs) (r : ResD by-key.signat
         (e, same-values (row ∙ is))
 
     -- It divides the least gap of the sheet whose bytes are lent by that of the key whose bytes are, both over all trips
-    pub by-key-export-divides : {least sum best bestSum : ℕ} → IsRating n (starts (a .1 .0 .now)) least sum → IsRating n (starts (a .1 .1 .0 .now)) best bestSum
+    pub by-key-export-divides : {least sum best bestSum : ℕ} → IsRating n (starts (a .1 .0 .now)) least sum
+        → IsRating n (starts (a .1 .1 .0 .now)) best bestSum
         → (r ≡ 0) × Divided least best (getD (s .1 .1 .1 .0 .now) 0 0) (getD (s .1 .1 .1 .0 .now) 1 0)
     by-key-export-divides {least} {sum} {best} {bestSum} p q =
         let (e, row) = told p q in (e, rw row (divided least best (IsRating-range valid p .0) (IsRating-range valid q .0)))

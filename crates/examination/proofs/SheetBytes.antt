@@ -1,5 +1,5 @@
--- The bytes of a sheet mean the integers that they should: every list of integers of 32 bits comes back from its bytes, both ends included, and every row of
--- 4 bytes for each start is a sheet's, since a number below 2^32 is the complement of one integer of 32 bits. Assumes nothing.
+-- The bytes of a sheet mean the integers that they should: every list of integers of 32 bits comes back from its bytes, both ends included, and
+-- every row of 4 bytes for each start is a sheet's, since each number below 2^32 is the complement of an integer of 32 bits. Assumes nothing.
 use Prim.Native.Nat.{ℕ, suc, _+_, _*_, _-_, _/_, _%_, _<_}
 use mathlib.Core.Path.{_≡_, refl, sym, ap, ap₂, _∙_}
 use mathlib.Core.Bool.{Bool, true, false}
@@ -65,7 +65,7 @@ taken-apart : (a b c d : ℕ) → a < 256 → b < 256 → c < 256 → d < 256 �
     → (m / 16777216 ≡ a) × (m / 65536 % 256 ≡ b) × (m / 256 % 256 ≡ c) × (m % 256 ≡ d)
 taken-apart a b c d ha hb hc hd e = (omega arith, omega arith, omega arith, omega arith)
 
--- Its starts have 32 bits each, and these bytes
+-- The starts of a row have 32 bits each, and these bytes
 in32-and-bytes : (bytes : List ℕ) → IsBytes bytes → length bytes % 4 ≡ 0 → All32 (starts bytes) × (bytes ≡ bytesOf (starts bytes))
 unfolding starts bytesOf IsBytes
 in32-and-bytes [] is e = (none, refl)

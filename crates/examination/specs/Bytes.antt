@@ -35,11 +35,12 @@ abbrev pub In32 : ℤ → Type 0
 In32 (pos m) = m < 2147483648
 In32 (negsuc m) = m < 2147483648
 
+-- .. as each start of a sheet is
 pub data All32 : List ℤ → Type 0 where
   none : All32 []
   next : {x : ℤ} {rest : List ℤ} → In32 x → All32 rest → All32 (x ∷ rest)
 
--- Its two's complement in 32 bits: a number below 0 is held as itself and 2^32
+-- A number's two's complement in 32 bits: one below 0 stands as itself plus 2^32
 abbrev pub complement : ℤ → ℕ
 complement (pos m) = m
 complement (negsuc m) = 4294967295 - m
@@ -50,7 +51,7 @@ bytesOf [] = []
 bytesOf (x ∷ rest) =
     complement x / 16777216 ∷ complement x / 65536 % 256 ∷ complement x / 256 % 256 ∷ complement x % 256 ∷ bytesOf rest
 
--- Bytes that are a sheet's of so many starts: of 32 bits each, and with these bytes
+-- Bytes that are a sheet's, of so many starts: what they mean has 32 bits for each start, and these bytes
 abbrev pub IsSheet : ℕ → List ℕ → Type 0
 IsSheet lines bytes = All32 (starts bytes) × (length (starts bytes) ≡ lines) × (bytes ≡ bytesOf (starts bytes))
 

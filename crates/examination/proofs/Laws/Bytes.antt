@@ -1,4 +1,4 @@
--- A sheet's bytes taken apart: the starts stand at every fourth byte, by two's complement, a sheet of bytes fits a network where its starts do, and so a call on the
+-- A sheet's bytes taken apart: the starts stand at every fourth byte, a sheet of bytes fits a network where its starts do, and so a call on the
 -- starts answers what document 01 wants on the bytes. Assumes nothing.
 use Prim.Native.Nat.{ℕ, zero, suc, _+_, _*_, _-_, _/_, _%_, _<_, _≤_}
 use mathlib.Core.Path.{_≡_, refl, ap, ap₂, _∙_}

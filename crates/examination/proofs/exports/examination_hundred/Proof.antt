@@ -34,7 +34,10 @@ returns c =
       c .put-mark .ensures .0 ∙ ap markStatus told,
       (
         c .put-mark .ensures .1 ∙ ap (λ (o : MarkOutcome). markRow o (s .args .answer .now)) told,
-        (c .before .before .put-hundred .ensures ∙ ap (λ (o : MarkOutcome). hundredRow o (s .args .hundred .now)) told, (t .mark-bytes .ensures .1, sheet-bytes t)),
+        (
+          c .before .before .put-hundred .ensures ∙ ap (λ (o : MarkOutcome). hundredRow o (s .args .hundred .now)) told,
+          (t .mark-bytes .ensures .1, sheet-bytes t),
+        ),
       ),
     )
 

@@ -25,9 +25,10 @@ put-mark-requires c κs number place e =
 returns : tie.Need-returns
 returns c =
     let s = c .before .before .before .before .before in
-    let told = c .before .before .mark-bytes .ensures .0 in (
+    let t = c .before .before in
+    let told = t .mark-bytes .ensures .0 in (
       c .put-mark .ensures .0 ∙ ap markStatus told,
-      (c .put-mark .ensures .1 ∙ ap (λ (o : MarkOutcome). markRow o (s .args .answer .now)) told, (c .before .before .mark-bytes .ensures .1, sheet-bytes (c .before .before))),
+      (c .put-mark .ensures .1 ∙ ap (λ (o : MarkOutcome). markRow o (s .args .answer .now)) told, (t .mark-bytes .ensures .1, sheet-bytes t)),
     )
 
 pub examination-mark-spec : {M : Type 1} → statement M
