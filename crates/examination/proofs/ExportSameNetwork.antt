@@ -80,7 +80,7 @@ module _ (κs : Lfts 3) (a : ArgsD rate.signature κs) (r : ResD rate.signature 
       → a .1 .0 .now ≡ a′ .1 .0 .now → a .1 .1 .0 .now ≡ a′ .1 .1 .0 .now → (r ≡ r′) × (s .1 .1 .0 .now ≡ s′ .1 .1 .0 .now)
   same-network-rate-export-alike reads reads′ same sheets rows =
       one-answer status rowAfter (kept .0) (kept .1 .0) (kept′ .0) (kept′ .1 .0)
-      (examined-alike (a .0 .now) (a′ .0 .now) (kept .1 .1) (kept′ .1 .1) reads reads′ same .rate-bytes-alike (a .1 .0 .now) ∙ (cc)) rows
+      (examined-alike (a .0 .now) (a′ .0 .now) (kept .1 .1 .0) (kept′ .1 .1 .0) reads reads′ same .rate-bytes-alike (a .1 .0 .now) ∙ (cc)) rows
 
 module _ (κs : Lfts 3) (a : ArgsD weighted.signature κs) (r : ResD weighted.signature κs) (s : AtExit (endedOf 3 weighted-kinds.ps weighted-kinds.r) κs)
     (kept : weighted-contract.Post κs a r s) (κs′ : Lfts 3) (a′ : ArgsD weighted.signature κs′) (r′ : ResD weighted.signature κs′)
@@ -89,7 +89,7 @@ module _ (κs : Lfts 3) (a : ArgsD weighted.signature κs) (r : ResD weighted.si
       → a .1 .0 .now ≡ a′ .1 .0 .now → a .1 .1 .0 .now ≡ a′ .1 .1 .0 .now → (r ≡ r′) × (s .1 .1 .0 .now ≡ s′ .1 .1 .0 .now)
   same-network-weighted-export-alike reads reads′ same sheets rows =
       one-answer status rowAfter (kept .0) (kept .1 .0) (kept′ .0) (kept′ .1 .0)
-      (examined-alike (a .0 .now) (a′ .0 .now) (kept .1 .1) (kept′ .1 .1) reads reads′ same .weighted-bytes-alike (a .1 .0 .now) ∙ (cc)) rows
+      (examined-alike (a .0 .now) (a′ .0 .now) (kept .1 .1 .0) (kept′ .1 .1 .0) reads reads′ same .weighted-bytes-alike (a .1 .0 .now) ∙ (cc)) rows
 
 module _ (κs : Lfts 4) (a : ArgsD gaps.signature κs) (r : ResD gaps.signature κs) (s : AtExit (endedOf 4 gaps-kinds.ps gaps-kinds.r) κs)
     (kept : gaps-contract.Post κs a r s) (κs′ : Lfts 4) (a′ : ArgsD gaps.signature κs′) (r′ : ResD gaps.signature κs′)
@@ -98,7 +98,7 @@ module _ (κs : Lfts 4) (a : ArgsD gaps.signature κs) (r : ResD gaps.signature 
       → a .1 .0 .now ≡ a′ .1 .0 .now → a .1 .1 .0 .now ≡ a′ .1 .1 .0 .now → a .1 .1 .1 .0 .now ≡ a′ .1 .1 .1 .0 .now
       → ((r ≡ r′) × (s .1 .1 .1 .0 .now ≡ s′ .1 .1 .1 .0 .now)) × (s .1 .1 .0 .now ≡ s′ .1 .1 .0 .now)
   same-network-gaps-export-alike reads reads′ same sheets gapRows rows =
-      let alike = examined-alike (a .0 .now) (a′ .0 .now) (kept .1 .1 .1) (kept′ .1 .1 .1) reads reads′ same in (
+      let alike = examined-alike (a .0 .now) (a′ .0 .now) (kept .1 .1 .1 .0) (kept′ .1 .1 .1 .0) reads reads′ same in (
         one-answer status rowAfter (kept .0) (kept .1 .0) (kept′ .0) (kept′ .1 .0) (alike .rate-bytes-alike (a .1 .0 .now) ∙ (cc)) rows,
         kept .1 .1 .0 ∙ alike .gap-row-bytes-alike (a .1 .1 .0 .now) (a .1 .0 .now) ∙ (cc) ∙ sym (kept′ .1 .1 .0),
       )
@@ -129,7 +129,7 @@ module _ (κs : Lfts 5) (a : ArgsD boarding.signature κs) (r : ResD boarding.si
       → answerRow κs a ≡ answerRow κs′ a′
       → ((r ≡ r′) × (answerAfter κs s ≡ answerAfter κs′ s′)) × (timesAfter κs s ≡ timesAfter κs′ s′) × (linesAfter κs s ≡ linesAfter κs′ s′)
   same-network-board-export-alike reads reads′ same sheets windows timeRows lineRows rows =
-      let alike = examined-alike (file κs a) (file κs′ a′) (kept .1 .1 .1 .1) (kept′ .1 .1 .1 .1) reads reads′ same in
+      let alike = examined-alike (file κs a) (file κs′ a′) (kept .1 .1 .1 .1 .0) (kept′ .1 .1 .1 .1 .0) reads reads′ same in
       let (answers, times-are, lines-are) = alike .board-bytes-alike (asked κs a) (timeRow κs a) (lineRow κs a) (bytes κs a) in (
         one-answer status rowAfter (kept .0) (kept .1 .0) (kept′ .0) (kept′ .1 .0) (answers ∙ (cc)) rows,
         kept .1 .1 .0 ∙ times-are ∙ (cc) ∙ sym (kept′ .1 .1 .0),
@@ -174,7 +174,7 @@ module _ (κs : Lfts 3) (a : ArgsD better.signature κs) (r : ResD better.signat
   same-network-better-export-alike reads reads′ same sheets sheets′ =
       kept .0
       ∙ ap betterStatus
-      (examined-alike (a .0 .now) (a′ .0 .now) (kept .1) (kept′ .1) reads reads′ same .better-bytes-alike (a .1 .0 .now) (a .1 .1 .0 .now)
+      (examined-alike (a .0 .now) (a′ .0 .now) (kept .1 .0) (kept′ .1 .0) reads reads′ same .better-bytes-alike (a .1 .0 .now) (a .1 .1 .0 .now)
       ∙ ap₂ (betterBytes (readFile (a′ .0 .now))) sheets sheets′)
       ∙ sym (kept′ .0)
 
@@ -188,7 +188,7 @@ module _ (κs : Lfts 3) (a : ArgsD mark.signature κs) (r : ResD mark.signature 
       → (r ≡ r′) × (s .1 .1 .1 .0 .now ≡ s′ .1 .1 .1 .0 .now)
   same-network-mark-export-alike reads reads′ same sheets budgets rows =
       one-answer markStatus markRow (kept .0) (kept .1 .0) (kept′ .0) (kept′ .1 .0)
-      (examined-alike (a .0 .now) (a′ .0 .now) (kept .1 .1) (kept′ .1 .1) reads reads′ same .mark-bytes-alike (a .1 .1 .0) (a .1 .0 .now) ∙ (cc)) rows
+      (examined-alike (a .0 .now) (a′ .0 .now) (kept .1 .1 .0) (kept′ .1 .1 .0) reads reads′ same .mark-bytes-alike (a .1 .1 .0) (a .1 .0 .now) ∙ (cc)) rows
 
 module _ (κs : Lfts 4) (a : ArgsD hundred.signature κs) (r : ResD hundred.signature κs) (s : AtExit (endedOf 4 hundred-kinds.ps hundred-kinds.r) κs)
     (kept : hundred-contract.Post κs a r s) (κs′ : Lfts 4) (a′ : ArgsD hundred.signature κs′) (r′ : ResD hundred.signature κs′)
@@ -197,7 +197,7 @@ module _ (κs : Lfts 4) (a : ArgsD hundred.signature κs) (r : ResD hundred.sign
       → a .1 .0 .now ≡ a′ .1 .0 .now → a .1 .1 .0 ≡ a′ .1 .1 .0 → a .1 .1 .1 .0 .now ≡ a′ .1 .1 .1 .0 .now → a .1 .1 .1 .1 .0 .now ≡ a′ .1 .1 .1 .1 .0 .now
       → ((r ≡ r′) × (s .1 .1 .1 .0 .now ≡ s′ .1 .1 .1 .0 .now)) × (s .1 .1 .1 .1 .0 .now ≡ s′ .1 .1 .1 .1 .0 .now)
   same-network-hundred-export-alike reads reads′ same sheets budgets rows pairs =
-      let told = examined-alike (a .0 .now) (a′ .0 .now) (kept .1 .1 .1) (kept′ .1 .1 .1) reads reads′ same .mark-bytes-alike (a .1 .1 .0) (a .1 .0 .now)
+      let told = examined-alike (a .0 .now) (a′ .0 .now) (kept .1 .1 .1 .0) (kept′ .1 .1 .1 .0) reads reads′ same .mark-bytes-alike (a .1 .1 .0) (a .1 .0 .now)
       ∙ ap₂ (λ (budget : ℕ) (sheet : List ℕ). markBytes budget (readFile (a′ .0 .now)) sheet) budgets sheets in (
         one-answer markStatus markRow (kept .0) (kept .1 .0) (kept′ .0) (kept′ .1 .0) told rows,
         kept .1 .1 .0 ∙ ap₂ hundredRow told pairs ∙ sym (kept′ .1 .1 .0),
@@ -211,4 +211,4 @@ module _ (κs : Lfts 4) (a : ArgsD by-key.signature κs) (r : ResD by-key.signat
       → (r ≡ r′) × (s .1 .1 .1 .0 .now ≡ s′ .1 .1 .1 .0 .now)
   same-network-by-key-export-alike reads reads′ same sheets keys pairs =
       one-answer status rowAfter (kept .0) (kept .1 .0) (kept′ .0) (kept′ .1 .0)
-      (examined-alike (a .0 .now) (a′ .0 .now) (kept .1 .1) (kept′ .1 .1) reads reads′ same .key-bytes-alike (a .1 .0 .now) (a .1 .1 .0 .now) ∙ (cc)) pairs
+      (examined-alike (a .0 .now) (a′ .0 .now) (kept .1 .1 .0) (kept′ .1 .1 .0) reads reads′ same .key-bytes-alike (a .1 .0 .now) (a .1 .1 .0 .now) ∙ (cc)) pairs

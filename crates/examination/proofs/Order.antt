@@ -1,5 +1,6 @@
--- The order, clause by clause: each line names the theorems that show the clause. They stand on the pages of the three crates, and are about every
--- call that keeps the contract in src/, which every call does, since every function is proved to meet its contract and to return. Assumes nothing.
+-- The order, clause by clause: each line names the theorems that show the clause. They stand on the pages of the three crates. A theorem is about every
+-- call that keeps the contract in src/, which every call does, since every function is proved to meet its contract and to return; or, where its words name
+-- no call, about the definitions of specs/ by which contracts answer. Assumes nothing.
 
 -- ---- Demand 1
 
@@ -41,6 +42,17 @@ pub use Rattle.examination.proofs.Demands.{better-both-fit}
 pub use Rattle.examination.proofs.ExportBetter.{better-export-file-refused, better-export-neither-fits, better-export-only-first-fits}
 pub use Rattle.examination.proofs.ExportBetter.{better-export-only-second-fits, better-export-both-fit}
 pub use Rattle.examination.proofs.ExportBetter.{better-export-returns, better-export-names-the-part}
+-- Both start rows by evaluation: ground 16 at 0, and a refused file's own ground before it
+pub use Rattle.search.proofs.Cases.{start-rows-refused}
+-- Document 01, "It hands a sheet over as 4 bytes per start, two's complement, most significant first; a byte count other than 4×lines is ground 15": a sheet
+-- comes back from its bytes, both ends included, and every row of 4×lines bytes is a sheet's, of every call of an export that takes one
+pub use Rattle.examination.proofs.SheetBytes.{starts-of-bytes, sheet-of-bytes, ends}
+pub use Rattle.examination.proofs.ExportDemands.{rate-export-sheet, weighted-export-sheet}
+pub use Rattle.examination.proofs.ExportSearch.{mark-export-sheet}
+pub use Rattle.examination.proofs.ExportBetter.{better-export-sheets}
+pub use Rattle.examination.proofs.ExportHundred.{hundred-export-sheet, by-key-export-sheets}
+pub use Rattle.examination.proofs.ExportBoard.{board-export-sheet}
+pub use Rattle.examination.proofs.ExportGaps.{gaps-export-sheet}
 -- Document 01, "The read call returns the numbers of lines, served stops and calls, and the common cycle"
 pub use Rattle.network.proofs.Demands.{read-answers}
 pub use Rattle.examination.proofs.ExportDemands.{read-export-answers}
@@ -55,7 +67,14 @@ pub use Rattle.network.proofs.StopGaps.{gap-row-is-gap-row, gap-row-only, ratin
 pub use Rattle.examination.proofs.ExportGaps.{gaps-export-fills, gaps-export-as-rate, rate-export-of-gap-row}
 -- "the search's answer, starts and number of tries are those of the walk in document 01"
 pub use Rattle.search.proofs.Demands.{search-demand-2, search-answers}
+pub use Rattle.search.proofs.Demands.{searchAnswer-finished, searchAnswer-stopped, searchAnswer-none, searchAnswer-refused}
 pub use Rattle.search.proofs.Cases.{P1-to-P9}
+-- Document 01 on `best`, "stopped with none can't occur here, since the first 16 tries or fewer reach a full timetable": it does exactly where the budget is
+-- below the number of lines, with the budget for its tries
+pub use Rattle.search.proofs.Demands.{search-none-exactly}
+-- Document 01, "Caps", "the smallest half of g, rounded down, over its pairs; and the whole part of C / (sum of C/T over its lines)", and A.2's caps, by the
+-- tries that they lead to
+pub use Rattle.search.proofs.Cases.{caps-by-tries}
 -- ---- Demand 3
 
 -- "Whenever the search finishes, with whichever budget, the starts it wrote have the rating it reports, and every other choice of one whole-number
@@ -63,6 +82,8 @@ pub use Rattle.search.proofs.Cases.{P1-to-P9}
 -- tries it reports are at most 1 + T1 + T1×T2 + .. over the periods after the first. It finishes under every 32-bit budget of at least that sum,
 -- where one exists"
 pub use Rattle.search.proofs.Demands.{search-demand-3}
+-- .. and that sum of P1, P7, P8 and four lines of 60, by evaluation
+pub use Rattle.search.proofs.Cases.{bounds-by-periods}
 -- "with whichever budget": a finished search has the same answer, tries and starts under every larger one
 pub use Rattle.search.proofs.Demands.{finished-with-more-tries}
 pub use Rattle.examination.proofs.ExportSearch.{search-export-with-more-tries}
@@ -85,19 +106,31 @@ pub use Rattle.examination.proofs.ExportBetter.{better-export-beside-ke
 -- ---- Document 02, A.1
 
 -- "A writer is to produce the archive form of an accepted file into a lent row: lines in order, then calls by line and then stop, all as 43, then
--- 45. Reading the archive form gives the same periods and offsets. .. the archive form of an archive form is itself. The answer is its length; bytes
--- behind it stay, and a short row is untouched"
+-- 45. Reading the archive form gives the same periods and offsets. .. The answer is its length; bytes behind it stay, and a short row is untouched": which
+-- byte stands at which place, and the order of any two calls, in plain numbers
 pub use Rattle.network.proofs.Demands.{archive-writes}
 pub use Rattle.examination.proofs.ExportDemands.{archive-export-writes}
+-- "the archive form of an archive form is itself": lent what a first call wrote, a second answers the same length and writes the same bytes
+pub use Rattle.network.proofs.Demands.{archive-again}
+pub use Rattle.examination.proofs.ExportDemands.{archive-export-again}
 -- "Two files have equal archive bytes exactly when their periods and offsets are equal"; A.6: "archive bytes are from then on equal exactly when periods,
 -- offsets and edition are"
 pub use Rattle.network.proofs.Demands.{equal-archives}
+pub use Rattle.examination.proofs.ExportDemands.{archive-export-equal}
 -- Two files with the same periods and offsets, in either edition, a file and its archive form among them, are answered alike
 pub use Rattle.network.proofs.Demands.{same-network-read-alike, same-network-rated-alike, same-network-weighted-alike, same-network-classified-alike}
 pub use Rattle.network.proofs.StopBoard.{same-network-board-alike}
 pub use Rattle.network.proofs.StopGaps.{same-network-gaps-alike}
 pub use Rattle.search.proofs.Demands.{same-network-searched-alike}
 pub use Rattle.search.proofs.WantedGap.{same-network-wanted-alike}
+pub use Rattle.examination.proofs.SameNetwork.{same-network-better-alike, same-network-marked-alike, same-network-by-key-alike}
+-- .. and by every export but the archive's: the same return value, and the same in every row
+pub use Rattle.examination.proofs.ExportSameNetwork.{same-network-read-export-alike, same-network-rate-export-alike}
+pub use Rattle.examination.proofs.ExportSameNetwork.{same-network-weighted-export-alike, same-network-gaps-export-alike}
+pub use Rattle.examination.proofs.ExportSameNetwork.{same-network-classes-export-alike, same-network-board-export-alike}
+pub use Rattle.examination.proofs.ExportSameNetwork.{same-network-search-export-alike, same-network-wanted-export-alike}
+pub use Rattle.examination.proofs.ExportSameNetwork.{same-network-better-export-alike, same-network-mark-export-alike}
+pub use Rattle.examination.proofs.ExportSameNetwork.{same-network-hundred-export-alike, same-network-by-key-export-alike}
 -- ---- Document 02, A.2
 
 -- "A line may now call twice at a stop; .. A gap is taken over pairs of different calls, also of one line, whose g is its period. .. Alike stops have
@@ -115,6 +148,7 @@ pub use Rattle.search.proofs.WantedGap.{wanted-means}
 pub use Rattle.examination.proofs.ExportWanted.{wanted-export-means}
 -- "The walk is the usual one with another cut: a try is dropped if its upper least gap is below the wanted one, and the first full timetable ends it"
 pub use Rattle.search.proofs.WantedGap.{wanted-walks}
+pub use Rattle.search.proofs.WantedGap.{wantedAnswer-found, wantedAnswer-none, wantedAnswer-stopped, wantedAnswer-refused}
 pub use Rattle.examination.proofs.ExportWanted.{wanted-export-walks}
 pub use Rattle.search.proofs.Cases.{wanted-cases-hold}
 -- Beside a finished search: a wanted gap up to the best least gap is never answered none, a larger one never found
