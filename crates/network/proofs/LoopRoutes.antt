@@ -1,15 +1,19 @@
--- What document 02, A.2, "Loop routes", asks of gaps, ratings and classes, of every accepted file. The demands themselves stand in Demands.antt in the
--- words they had. Assumes nothing.
+-- What document 02, A.2, "Loop routes", asks of gaps, ratings and classes, of every accepted file that is lent to a read call: by its contract the file
+-- is bytes, and the network of accepted bytes is within the limits. The demands themselves stand in Demands.antt in the words they had. Assumes nothing.
 use Prim.Native.Nat.{ℕ, _≤_}
 use mathlib.Core.Path.{_≡_, sym, _∙_}
 use mathlib.Core.Bool.{true}
 use mathlib.Core.List.{List}
 use mathlib.Core.Logic.{_↔_}
+use borrow.Fn.World.{ArgsD, ResD}
+use borrow.Fn.Kinds.{endedOf}
+use contract.Lifetimes.{Lfts}
+use denote.Triple.Clauses.{AtExit}
 use lib.IntN.{ℤ}
 use lib.ListN.{getD}
 use Rattle.network.specs.Network.{Net, howOftenAt, isServed}
 use Rattle.network.specs.Reading.{readFile, accepted}
-use Rattle.network.specs.Valid.{IsBytes, Valid, noCall}
+use Rattle.network.specs.Valid.{Valid, noCall}
 use Rattle.network.specs.Rating.{CallsThere, IsCallsGap, IsStopGap, IsRating, stopGap}
 use Rattle.network.specs.Classes.{isAlike}
 use Rattle.network.specs.Loops.{WithoutLoops, ownGap, AlikeOfCalls}
@@ -22,6 +26,9 @@ use Rattle.network.proofs.Laws.Alike.{alike-refl, alike-sym, alike-tran
 use Rattle.network.proofs.Laws.AlikeGap.{alike-same-gap}
 use Rattle.network.proofs.Laws.AlikeByCalls.{alike-by-calls}
 use Rattle.network.proofs.Laws.AlikeByLines.{alike-by-lines}
+use Rattle.network.proofs.reader.read as read
+use Rattle.network.proofs.reader.read.Kinds as read-kinds
+use Rattle.network.proofs.reader.read.Reads as read-contract
 
 pub record LoopRoutes (n : Net) : Type 0 where
   -- "A line may now call twice at a stop"
@@ -73,6 +80,8 @@ module _ {n : Net} (valid : Valid n) where
         alike-as-before = λ loopless. alike-by-lines loopless;
       }
 
--- Of every accepted file
-pub loop-routes : (file : List ℕ) {n : Net} → IsBytes file → readFile file ≡ accepted n → LoopRoutes n
-loop-routes file {n} bytes reads = loop-routes-of (accepted-valid file n bytes reads)
+-- Of every accepted file that is lent to a read call
+module _ (κs : Lfts 1) (a : ArgsD read.signature κs) (r : ResD read.signature κs) (s : AtExit (endedOf 1 read-kinds.ps read-kinds.r) κs)
+    (kept : read-contract.Post κs a r s) where
+  pub loop-routes : {n : Net} → readFile (a .0 .now) ≡ accepted n → LoopRoutes n
+  loop-routes {n} reads = loop-routes-of (accepted-valid (a .0 .now) n (kept .1) reads)

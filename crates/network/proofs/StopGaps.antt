@@ -1,7 +1,7 @@
--- What is promised of the gap of each stop, of every network within the limits (`Valid`: those of all accepted files, by `accepted-valid` of Laws/Valid.antt)
--- and all integer starts: the computed row has the gaps over all trips, past and future, it is the only one, and the rating is the least of its gaps and
--- their sum. It holds since each stop's computed gap is its gap: Laws/GapRow.antt; the cases compute. And what the order demands of the gaps call, of every
--- one that has returned, where it keeps the contract in src/, which every call does. Assumes nothing.
+-- What is promised of the gap of each stop, of every accepted file that is lent to a gaps call and all integer starts: the computed row has the gaps over all
+-- trips, past and future, it is the only one, and the rating is the least of its gaps and their sum. It holds since each stop's computed gap is its gap:
+-- Laws/GapRow.antt; the cases compute. And what the order demands of the gaps call. The theorems on calls are about every one that has returned, where it keeps
+-- the contract in src/, which every call does. Assumes nothing.
 use Prim.Native.Nat.{ℕ, _≤_}
 use mathlib.Core.Path.{_≡_, refl, sym, ap, ap₂, subst₂, _∙_}
 use mathlib.Core.Bool.{true}
@@ -36,22 +36,27 @@ use Rattle.network.proofs.rate.rate as rate
 use Rattle.network.proofs.rate.rate.Kinds as rate-kinds
 use Rattle.network.proofs.rate.rate.Reads as rate-contract
 
--- ---- The gap row
+-- ---- The gap row, of every accepted file that is lent
 
--- The computed row has each served stop's gap over all trips, and 65,535 for the others
-pub gap-row-is-gap-row : {n : Net} → Valid n → (starts : List ℤ) → IsGapRow n starts (gapRow n starts)
-gap-row-is-gap-row = law.gapRow-is-gap-row
+module _ (κs : Lfts 3) (a : ArgsD gaps.signature κs) (r : ResD gaps.signature κs) (s : AtExit (endedOf 3 gaps-kinds.ps gaps-kinds.r) κs)
+    (kept : gaps-contract.Post κs a r s) {n : Net} (reads : readFile (a .0 .now) ≡ accepted n) where
+  valid : Valid n
+  valid = accepted-valid (a .0 .now) n (kept .1 .1) reads
 
--- No other row has
-pub gap-row-only : {n : Net} {starts : List ℤ} {row : List ℕ} → Valid n → IsGapRow n starts row → row ≡ gapRow n starts
-gap-row-only = law.IsGapRow-unique
+  -- The computed row has each served stop's gap over all trips, and 65,535 for the others
+  pub gap-row-is-gap-row : (starts : List ℤ) → IsGapRow n starts (gapRow n starts)
+  gap-row-is-gap-row = law.gapRow-is-gap-row valid
 
--- The rating is the least of the row's gaps and their sum
-pub rating-of-gap-row : {n : Net} {starts : List ℤ} {row : List ℕ} → Valid n → IsGapRow n starts row
-    → IsRating n starts (leastOf (gapsIn row)) (sumOf (λ (gap : ℕ). gap) (gapsIn row))
-rating-of-gap-row {n} {starts} valid is =
-    let (least-is, sum-is) = law.rating-of-gapRow valid starts in
-    rw (law.IsGapRow-unique valid is) (subst₂ (IsRating n starts) least-is sum-is (rating-is-rating n valid starts))
+  -- No other row has
+  pub gap-row-only : {starts : List ℤ} {row : List ℕ} → IsGapRow n starts row → row ≡ gapRow n starts
+  gap-row-only = law.IsGapRow-unique valid
+
+  -- The rating is the least of the row's gaps and their sum
+  pub rating-of-gap-row : {starts : List ℤ} {row : List ℕ} → IsGapRow n starts row
+      → IsRating n starts (leastOf (gapsIn row)) (sumOf (λ (gap : ℕ). gap) (gapsIn row))
+  rating-of-gap-row {starts} is =
+      let (least-is, sum-is) = law.rating-of-gapRow valid starts in
+      rw (law.IsGapRow-unique valid is) (subst₂ (IsRating n starts) least-is sum-is (rating-is-rating n valid starts))
 
 -- ---- The gaps call
 
