@@ -1,8 +1,10 @@
 -- Document 02, A.7, on the export of the board call, said of what a host sees: what its return value, its number and both rows mean. Each theorem holds of every
 -- call that has returned, where it keeps the contract in src/exports.rt, which every call does. Assumes nothing.
 use Prim.Native.Nat.{ℕ, _*_, _<_, _≤_}
-use mathlib.Core.Path.{_≡_, refl, _∙_}
+use mathlib.Core.Path.{_≡_, refl, ap, _∙_}
+use mathlib.Core.Bool.{false}
 use mathlib.Core.List.{List, [], _∷_, _++_}
+use mathlib.Core.Logic.{_↔_}
 use native.Mathlib.Omega.{arith}
 use borrow.Fn.World.{ArgsD, ResD}
 use borrow.Fn.Kinds.{endedOf}
@@ -10,20 +12,21 @@ use contract.Lifetimes.{Lfts}
 use denote.Triple.Clauses.{AtExit}
 use lib.IntN.{ℤ}
 use lib.ListN.{length, getD, drop}
-use Rattle.network.specs.Network.{Net, maxStop, maxLines}
+use Rattle.network.specs.Network.{Net, maxStop, maxLines, isServed}
 use Rattle.network.specs.Board.{Window, window, board, times, lines, maxMinutes, boardOutcome, timeRowAfter, lineRowAfter}
 use Rattle.network.specs.Reading.{refusal, values, accepted, readFile}
-use Rattle.network.specs.Refusals.{BoardRefuses, Demand1}
+use Rattle.network.specs.Refusals.{BoardRefuses, of-file, of-sheet, of-stop, of-length, of-row, Demand1}
 use Rattle.network.specs.Valid.{Valid}
-use Rattle.network.proofs.StopBoard.{Lists, lists, board-length-le}
+use Rattle.network.proofs.StopBoard.{Lists, lists, valid-board-length-le, board-unserved, board-no-minutes}
 use Rattle.network.proofs.Laws.BoardCall.{board-answers}
 use Rattle.network.proofs.Laws.Gaps.{accepted-valid}
-use Rattle.examination.specs.Bytes.{starts, IsSheet, BytesFit}
+use Rattle.network.proofs.Laws.Lists.{zero-ne-one}
+use Rattle.examination.specs.Bytes.{starts, IsSheet, BytesFit, boardBytes, timeRowBytes, lineRowBytes}
 use Rattle.examination.specs.Exports.{TellsRefusal}
 use Rattle.examination.proofs.Codes.{export-demand-1, status-tells, status-code}
 use Rattle.examination.proofs.ExportDemands.{row-as-found, answered, on-its-bytes}
 use Rattle.examination.proofs.Laws.Bytes.{length-starts-fit}
-use Rattle.examination.proofs.Laws.BoardBytes.{board-refuses-range, board-bytes-refuse, board-bytes-refuse-only, board-bytes-rows-as-found}
+use Rattle.examination.proofs.Laws.BoardBytes.{board-refuses-range, board-bytes-refuse, board-bytes-refuse-only, board-bytes-rows-as-found, board-bytes-none}
 use Rattle.examination.proofs.SheetBytes.{bytes-are-a-sheet}
 use Rattle.examination.proofs.exports.examination_board as exported
 use Rattle.examination.proofs.exports.examination_board.Kinds as board-kinds
@@ -136,5 +139,43 @@ module _ (κs : Lfts 5) (a : ArgsD exported.signature κs) (r : ResD exported.si
       → 32 * asked κs a .minutes ≤ length (timeRow κs a) → 32 * asked κs a .minutes ≤ length (lineRow κs a)
       → (length (board n sheet (asked κs a)) ≤ length (timeRow κs a)) × (length (board n sheet (asked κs a)) ≤ length (lineRow κs a))
   board-export-room {n} reads sheet timesFit linesFit =
-      let few = board-length-le (accepted-valid (file κs a) n (kept .1 .1 .1 .1 .0) reads) sheet (asked κs a) in
+      let few = valid-board-length-le (accepted-valid (file κs a) n (kept .1 .1 .1 .1 .0) reads) sheet (asked κs a) in
       (omega (arith, few, timesFit), omega (arith, few, linesFit))
+
+  none-listed : {n : Net} → readFile (file κs a) ≡ accepted n → length (bytes κs a) ≡ 4 * length (n .periods) → asked κs a .stop ≤ maxStop
+      → asked κs a .minutes ≤ maxMinutes → ((sheet : List ℤ) → board n sheet (asked κs a) ≡ [])
+      → (r ≡ 0) × (answerAfter κs s ≡ 0 ∷ []) × (timesAfter κs s ≡ timeRow κs a) × (linesAfter κs s ≡ lineRow κs a)
+  none-listed reads fit low within none =
+      let (told, times-are, lines-are) = board-bytes-none (file κs a) (kept .1 .1 .1 .1 .0) (bytes κs a) (asked κs a) (timeRow κs a) (lineRow κs a) reads fit low within none in
+      let q = answered (answerRow κs a) (kept .0) (kept .1 .0) told in
+      (q .0, number-of (q .1 ∙ told), kept .1 .1 .0 ∙ times-are, kept .1 .1 .1 .0 ∙ lines-are)
+
+  -- An unserved stop, and 0 minutes, answer 0 and leave rows of any length, 0 too, as found
+  pub board-export-unserved : {n : Net} → readFile (file κs a) ≡ accepted n → length (bytes κs a) ≡ 4 * length (n .periods) → asked κs a .stop ≤ 63
+      → asked κs a .minutes ≤ 10080 → isServed (asked κs a .stop) (n .calls) ≡ false
+      → (r ≡ 0) × (answerAfter κs s ≡ 0 ∷ []) × (timesAfter κs s ≡ timeRow κs a) × (linesAfter κs s ≡ lineRow κs a)
+  board-export-unserved {n} reads fit low within unserved = none-listed reads fit low within (λ sheet. board-unserved n sheet (asked κs a) unserved)
+
+  pub board-export-no-minutes : {n : Net} → readFile (file κs a) ≡ accepted n → length (bytes κs a) ≡ 4 * length (n .periods) → asked κs a .stop ≤ 63
+      → asked κs a .minutes ≡ 0
+      → (r ≡ 0) × (answerAfter κs s ≡ 0 ∷ []) × (timesAfter κs s ≡ timeRow κs a) × (linesAfter κs s ≡ lineRow κs a)
+  board-export-no-minutes {n} reads fit low none =
+      none-listed reads fit low (omega (arith, none))
+      (λ sheet. ap (λ (minutes : ℕ). board n sheet (window (asked κs a .stop) (asked κs a .from) minutes)) none
+      ∙ board-no-minutes n sheet (asked κs a .stop) (asked κs a .from))
+
+  -- On an accepted file the return value is 524,288, ground 8 at place 0, exactly where the sheet fits and the stop asked for is above 63
+  pub board-export-eight-at-zero : {n : Net} → readFile (file κs a) ≡ accepted n
+      → (r ≡ 524288) ↔ ((length (bytes κs a) ≡ 4 * length (n .periods)) × (63 < asked κs a .stop))
+  board-export-eight-at-zero {n} reads = (
+    λ e. go (board-export-demand-1 .no-other-is-refused 8 0 (omega (arith, e), omega (arith, e), omega (arith, e))) refl,
+    λ (fit, high). let told = board-export-demand-1 .faulty-is-refused 8 0 (of-stop reads fit high) in omega (arith, told .1, told .2),
+  )
+    where
+      go : {number place : ℕ} → BoardRefuses (file κs a) (BytesFit (bytes κs a)) (starts (bytes κs a)) (asked κs a) (timeRow κs a) (lineRow κs a) number place
+          → number ≡ 8 → (length (bytes κs a) ≡ 4 * length (n .periods)) × (63 < asked κs a .stop)
+      go (of-file e) is = absurd (zero-ne-one (cc))
+      go (of-sheet e differ) is = absurd (omega (arith, is))
+      go (of-stop {n = m} e fit high) is = let same : m ≡ n = cc in (fit ∙ ap (λ (k : Net). 4 * length (k .periods)) same, high)
+      go (of-length e fit low long) is = absurd (omega (arith, is))
+      go (of-row e fit low within short) is = absurd (omega (arith, is))

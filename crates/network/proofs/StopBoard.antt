@@ -1,9 +1,9 @@
--- What document 02, A.7, asks of the board of a stop, of every network within the limits (`Valid`: those of all accepted files, by `accepted-valid` of
--- Laws/Valid.antt) and all integer starts: the computed list is the board over all trips, past and future, and its rows are the only ones. It holds since
--- minute by minute the calls that arrive are those with a trip then, in their order: Laws/Board.antt; the cases compute. And what the order demands of the
--- board call, of every one that has returned, where it keeps the contract in src/, which every call does. Assumes nothing.
+-- What document 02, A.7, asks of the board of a stop, of every accepted file that is lent to a board call and all integer starts: the computed list is the
+-- board over all trips, past and future, and its rows are the only ones. It holds since minute by minute the calls that arrive are those with a trip then, in
+-- their order: Laws/Board.antt; the cases compute. And what the order demands of the board call. The theorems on calls are about every one that has returned,
+-- where it keeps the contract in src/, which every call does. Assumes nothing.
 use Prim.Native.Nat.{ℕ, _+_, _*_, _<_, _≤_}
-use mathlib.Core.Path.{_≡_, refl, sym, ap₂, _∙_}
+use mathlib.Core.Path.{_≡_, refl, sym, ap, ap₂, _∙_}
 use native.Mathlib.Omega.{arith}
 use mathlib.Core.Bool.{false}
 use mathlib.Core.List.{List, [], _∷_, _++_, map}
@@ -26,7 +26,7 @@ use Rattle.network.specs.Refusals.{Fits, BoardRefuses, of-file, of-sheet
 use Rattle.network.specs.Board.{Window, window, Arrival, callAt, tripAt, InWindow, IsBoard, arrives, boardCalls, boardAt, boardFrom, board, times, lines}
 use Rattle.network.specs.Board.{maxMinutes, boardAnswer}
 use Rattle.network.proofs.Laws.Board as law
-use Rattle.network.proofs.Laws.BoardCall.{board-refuses, board-refuses-only, board-rows-as-found, board-answers}
+use Rattle.network.proofs.Laws.BoardCall.{board-refuses, board-refuses-only, board-rows-as-found, board-answers, board-answers-none}
 use Rattle.network.proofs.Laws.Gap.{trip-injective}
 use Rattle.network.proofs.Laws.Reading.{no-8-at-0}
 use Rattle.network.proofs.Laws.Valid.{accepted-valid}
@@ -35,30 +35,31 @@ use Rattle.network.proofs.board.board as board-call
 use Rattle.network.proofs.board.board.Kinds as board-kinds
 use Rattle.network.proofs.board.board.Reads as board-contract
 
--- ---- The board
+-- What is lent to a call, and the rows at its exit
+module _ (κs : Lfts 4) (a : ArgsD board-call.signature κs) where
+  abbrev pub file : List ℕ
+  file = a .0 .now
 
--- The computed list has one place for each trip of each call at the stop that arrives in the window, and no other; by time, then line, then offset
-pub board-is-board : {n : Net} → Valid n → (starts : List ℤ) (w : Window) → IsBoard n starts w (board n starts w)
-board-is-board = law.board-is-board
+  abbrev pub sheet : List ℤ
+  sheet = a .1 .0 .now
 
--- .. where a call's trips are told apart by their minutes
-pub trips-apart : {n : Net} → Valid n → (starts : List ℤ) (stop c : ℕ) → CallsThere n stop c → (j k : ℤ) → tripAt n starts c j ≡ tripAt n starts c k → j ≡ k
-unfolding periodOf
-trips-apart {n} valid starts stop c calls j k e =
-    trip-injective _ _ (valid .period-pos (callAt n c .line) (valid .call-line c (calls .stated))) j k e
+  abbrev pub asked : Window
+  asked = window (a .1 .1 .0) (a .1 .1 .1 .0) (a .1 .1 .1 .1 .0)
 
--- All such lists have the same times and lines, and one length: what is left open is the order of a line's two calls with one offset, which no row shows
-pub IsBoard-rows : {n : Net} {starts : List ℤ} {w : Window} → Valid n → {xs ys : List Arrival} → IsBoard n starts w xs → IsBoard n starts w ys
-    → (times xs ≡ times ys) × (lines n xs ≡ lines n ys) × (length xs ≡ length ys)
-IsBoard-rows = law.IsBoard-rows
+  abbrev pub timeRow : List ℤ
+  timeRow = a .1 .1 .1 .1 .1 .0 .now
 
--- .. so that whatever list is a board, the computed rows are its rows
-pub board-rows-only : {n : Net} → Valid n → (starts : List ℤ) (w : Window) (xs : List Arrival) → IsBoard n starts w xs
-    → (times (board n starts w) ≡ times xs) × (lines n (board n starts w) ≡ lines n xs)
-board-rows-only valid starts w xs b =
-    let rows = law.IsBoard-rows valid (law.board-is-board valid starts w) b in (rows .0, rows .1)
+  abbrev pub lineRow : List ℕ
+  lineRow = a .1 .1 .1 .1 .1 .1 .0 .now
 
--- ---- How long it is, and what its rows hold
+module _ (κs : Lfts 4) (s : AtExit (endedOf 4 board-kinds.ps board-kinds.r) κs) where
+  abbrev pub timesAfter : List ℤ
+  timesAfter = s .1 .1 .1 .1 .1 .0 .now
+
+  abbrev pub linesAfter : List ℕ
+  linesAfter = s .1 .1 .1 .1 .1 .1 .0 .now
+
+-- ---- A board's list, of every network and all integer starts
 
 -- An unserved stop has none
 pub board-unserved : (n : Net) (starts : List ℤ) (w : Window) → isServed (w .stop) (n .calls) ≡ false → board n starts w ≡ []
@@ -68,43 +69,73 @@ board-unserved = law.board-unserved
 pub board-no-minutes : (n : Net) (starts : List ℤ) (stop : ℕ) (from : ℤ) → board n starts (window stop from 0) ≡ []
 board-no-minutes = law.board-no-minutes
 
--- At most 32 arrive in a minute: each of 16 lines twice
-pub board-length-le : {n : Net} → Valid n → (starts : List ℤ) (w : Window) → length (board n starts w) ≤ 32 * w .minutes
-board-length-le = law.board-length-le
-
 -- Both rows take one number for each arrival
 pub board-rows-length : (n : Net) (starts : List ℤ) (w : Window)
     → (length (times (board n starts w)) ≡ length (board n starts w)) × (length (lines n (board n starts w)) ≡ length (board n starts w))
 board-rows-length n starts w = (law.length-times (board n starts w), law.length-lines n (board n starts w))
-
--- Every time is in the window
-pub board-times-in-window : {n : Net} → Valid n → (starts : List ℤ) (w : Window) (i : ℕ) → i < length (times (board n starts w))
-    → InWindow w (getD (times (board n starts w)) i (pos 0))
-board-times-in-window = law.times-in-window
-
--- Every line is one of the network
-pub board-lines-stated : {n : Net} → Valid n → (starts : List ℤ) (w : Window) (i : ℕ) → i < length (lines n (board n starts w))
-    → getD (lines n (board n starts w)) i 0 < length (n .periods)
-board-lines-stated = law.lines-stated
-
--- ---- Other windows, other starts
 
 -- Two windows side by side have the one's arrivals and then the other's
 pub board-side-by-side : (n : Net) (starts : List ℤ) (stop : ℕ) (from : ℤ) (a b : ℕ)
     → board n starts (window stop from (a + b)) ≡ board n starts (window stop from a) ++ board n starts (window stop (from +ℤ pos a) b)
 board-side-by-side = law.board-side-by-side
 
--- Where all starts and the window move by `k`, so does every arrival, and nothing else changes
-pub board-moved : {n : Net} → Valid n → (starts : List ℤ) → length starts ≡ length (n .periods) → (k : ℤ) (stop : ℕ) (from : ℤ) (minutes : ℕ)
-    → board n (map (λ x. x +ℤ k) starts) (window stop (from +ℤ k) minutes)
-    ≡ map (λ (a : Arrival). record { call = a .call; time = a .time +ℤ k }) (board n starts (window stop from minutes))
-board-moved = law.board-moved
+-- ---- .. of every accepted file that is lent
 
--- .. so that each time is moved, and the lines are the same
-pub board-rows-moved : {n : Net} → Valid n → (starts : List ℤ) → length starts ≡ length (n .periods) → (k : ℤ) (stop : ℕ) (from : ℤ) (minutes : ℕ)
-    → (times (board n (map (λ x. x +ℤ k) starts) (window stop (from +ℤ k) minutes)) ≡ map (λ x. x +ℤ k) (times (board n starts (window stop from minutes))))
-    × (lines n (board n (map (λ x. x +ℤ k) starts) (window stop (from +ℤ k) minutes)) ≡ lines n (board n starts (window stop from minutes)))
-board-rows-moved = law.board-rows-moved
+-- At most 32 arrive in a minute, each of 16 lines twice: of every network within the limits, for the export's page too
+pub valid-board-length-le : {n : Net} → Valid n → (starts : List ℤ) (w : Window) → length (board n starts w) ≤ 32 * w .minutes
+valid-board-length-le = law.board-length-le
+
+module _ (κs : Lfts 4) (a : ArgsD board-call.signature κs) (r : ResD board-call.signature κs)
+    (s : AtExit (endedOf 4 board-kinds.ps board-kinds.r) κs) (kept : board-contract.Post κs a r s) {n : Net}
+    (reads : readFile (file κs a) ≡ accepted n) where
+  valid : Valid n
+  valid = accepted-valid (file κs a) n (kept .1 .1 .1) reads
+
+  -- The computed list has one place for each trip of each call at the stop that arrives in the window, and no other; by time, then line, then offset
+  pub board-is-board : (starts : List ℤ) (w : Window) → IsBoard n starts w (board n starts w)
+  board-is-board = law.board-is-board valid
+
+  -- .. where a call's trips are told apart by their minutes
+  pub trips-apart : (starts : List ℤ) (stop c : ℕ) → CallsThere n stop c → (j k : ℤ) → tripAt n starts c j ≡ tripAt n starts c k → j ≡ k
+  unfolding periodOf
+  trips-apart starts stop c calls j k e = trip-injective _ _ (valid .period-pos (callAt n c .line) (valid .call-line c (calls .stated))) j k e
+
+  -- All such lists have the same times and lines, and one length: what is left open is the order of a line's two calls with one offset, which no row shows
+  pub IsBoard-rows : {starts : List ℤ} {w : Window} {xs ys : List Arrival} → IsBoard n starts w xs → IsBoard n starts w ys
+      → (times xs ≡ times ys) × (lines n xs ≡ lines n ys) × (length xs ≡ length ys)
+  IsBoard-rows = law.IsBoard-rows valid
+
+  -- .. so that whatever list is a board, the computed rows are its rows
+  pub board-rows-only : (starts : List ℤ) (w : Window) (xs : List Arrival) → IsBoard n starts w xs
+      → (times (board n starts w) ≡ times xs) × (lines n (board n starts w) ≡ lines n xs)
+  board-rows-only starts w xs b =
+      let rows = law.IsBoard-rows valid (law.board-is-board valid starts w) b in (rows .0, rows .1)
+
+  -- At most 32 arrive in a minute
+  pub board-length-le : (starts : List ℤ) (w : Window) → length (board n starts w) ≤ 32 * w .minutes
+  board-length-le = valid-board-length-le valid
+
+  -- Every time is in the window
+  pub board-times-in-window : (starts : List ℤ) (w : Window) (i : ℕ) → i < length (times (board n starts w))
+      → InWindow w (getD (times (board n starts w)) i (pos 0))
+  board-times-in-window = law.times-in-window valid
+
+  -- Every line is one of the network
+  pub board-lines-stated : (starts : List ℤ) (w : Window) (i : ℕ) → i < length (lines n (board n starts w))
+      → getD (lines n (board n starts w)) i 0 < length (n .periods)
+  board-lines-stated = law.lines-stated valid
+
+  -- Where all starts and the window move by `k`, so does every arrival, and nothing else changes
+  pub board-moved : (starts : List ℤ) → length starts ≡ length (n .periods) → (k : ℤ) (stop : ℕ) (from : ℤ) (minutes : ℕ)
+      → board n (map (λ x. x +ℤ k) starts) (window stop (from +ℤ k) minutes)
+      ≡ map (λ (a : Arrival). record { call = a .call; time = a .time +ℤ k }) (board n starts (window stop from minutes))
+  board-moved = law.board-moved valid
+
+  -- .. so that each time is moved, and the lines are the same
+  pub board-rows-moved : (starts : List ℤ) → length starts ≡ length (n .periods) → (k : ℤ) (stop : ℕ) (from : ℤ) (minutes : ℕ)
+      → (times (board n (map (λ x. x +ℤ k) starts) (window stop (from +ℤ k) minutes)) ≡ map (λ x. x +ℤ k) (times (board n starts (window stop from minutes))))
+      × (lines n (board n (map (λ x. x +ℤ k) starts) (window stop (from +ℤ k) minutes)) ≡ lines n (board n starts (window stop from minutes)))
+  board-rows-moved = law.board-rows-moved valid
 
 -- ---- The board call
 
@@ -141,30 +172,6 @@ lists {n} valid sheet w timeRow lineRow =
       lines-stated = law.lines-stated valid sheet w;
     }
 
--- What is lent to a call, and the rows at its exit
-module _ (κs : Lfts 4) (a : ArgsD board-call.signature κs) where
-  abbrev pub file : List ℕ
-  file = a .0 .now
-
-  abbrev pub sheet : List ℤ
-  sheet = a .1 .0 .now
-
-  abbrev pub asked : Window
-  asked = window (a .1 .1 .0) (a .1 .1 .1 .0) (a .1 .1 .1 .1 .0)
-
-  abbrev pub timeRow : List ℤ
-  timeRow = a .1 .1 .1 .1 .1 .0 .now
-
-  abbrev pub lineRow : List ℕ
-  lineRow = a .1 .1 .1 .1 .1 .1 .0 .now
-
-module _ (κs : Lfts 4) (s : AtExit (endedOf 4 board-kinds.ps board-kinds.r) κs) where
-  abbrev pub timesAfter : List ℤ
-  timesAfter = s .1 .1 .1 .1 .1 .0 .now
-
-  abbrev pub linesAfter : List ℕ
-  linesAfter = s .1 .1 .1 .1 .1 .1 .0 .now
-
 module _ (κs : Lfts 4) (a : ArgsD board-call.signature κs) (r : ResD board-call.signature κs)
     (s : AtExit (endedOf 4 board-kinds.ps board-kinds.r) κs) (kept : board-contract.Post κs a r s) where
   pub board-demand-1 : Demand1 (λ number place. boardAnswer r ≡ refusal number place) (BoardRefuses (file κs a) (Fits (sheet κs a)) (sheet κs a) (asked κs a) (timeRow κs a) (lineRow κs a))
@@ -197,6 +204,27 @@ module _ (κs : Lfts 4) (a : ArgsD board-call.signature κs) (r : ResD board-cal
   board-lists {n} reads fits low within timesFit linesFit =
       let (told, times-are, lines-are) = board-answers (file κs a) (sheet κs a) (asked κs a) (timeRow κs a) (lineRow κs a) reads fits low within timesFit linesFit in
       rw (kept .0 ∙ told, kept .1 .0 ∙ times-are, kept .1 .1 .0 ∙ lines-are) (lists (accepted-valid (file κs a) n (kept .1 .1 .1) reads) (sheet κs a) (asked κs a) (timeRow κs a) (lineRow κs a))
+
+  none-listed : {n : Net} → readFile (file κs a) ≡ accepted n → length (sheet κs a) ≡ length (n .periods) → asked κs a .stop ≤ maxStop
+      → asked κs a .minutes ≤ maxMinutes → board n (sheet κs a) (asked κs a) ≡ []
+      → (boardAnswer r ≡ values (0 ∷ [])) × (timesAfter κs s ≡ timeRow κs a) × (linesAfter κs s ≡ lineRow κs a)
+  none-listed reads fits low within none =
+      let (told, times-are, lines-are) = board-answers-none (file κs a) (sheet κs a) (asked κs a) (timeRow κs a) (lineRow κs a) reads fits low within none in
+      (kept .0 ∙ told, kept .1 .0 ∙ times-are, kept .1 .1 .0 ∙ lines-are)
+
+  -- An unserved stop, and 0 minutes, answer 0 and leave rows of any length, 0 too, as found
+  pub board-call-unserved : {n : Net} → readFile (file κs a) ≡ accepted n → length (sheet κs a) ≡ length (n .periods) → asked κs a .stop ≤ 63
+      → asked κs a .minutes ≤ 10080 → isServed (asked κs a .stop) (n .calls) ≡ false
+      → (boardAnswer r ≡ values (0 ∷ [])) × (timesAfter κs s ≡ timeRow κs a) × (linesAfter κs s ≡ lineRow κs a)
+  board-call-unserved {n} reads fits low within unserved = none-listed reads fits low within (board-unserved n (sheet κs a) (asked κs a) unserved)
+
+  pub board-call-no-minutes : {n : Net} → readFile (file κs a) ≡ accepted n → length (sheet κs a) ≡ length (n .periods) → asked κs a .stop ≤ 63
+      → asked κs a .minutes ≡ 0
+      → (boardAnswer r ≡ values (0 ∷ [])) × (timesAfter κs s ≡ timeRow κs a) × (linesAfter κs s ≡ lineRow κs a)
+  board-call-no-minutes {n} reads fits low none =
+      none-listed reads fits low (omega (arith, none))
+      (ap (λ (minutes : ℕ). board n (sheet κs a) (window (asked κs a .stop) (asked κs a .from) minutes)) none
+      ∙ board-no-minutes n (sheet κs a) (asked κs a .stop) (asked κs a .from))
 
 -- Two files with the same periods and offsets, in either edition, a file and its archive form among them, have one board: rows of the same content before have the
 -- same content afterwards

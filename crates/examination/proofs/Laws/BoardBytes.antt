@@ -3,17 +3,17 @@
 use Prim.Native.Nat.{ℕ, _≤_, _<_}
 use mathlib.Core.Path.{_≡_, refl, sym, _∙_}
 use mathlib.Core.Bool.{false}
-use mathlib.Core.List.{List}
+use mathlib.Core.List.{List, [], _∷_}
 use native.Mathlib.Omega.{arith}
 use borrow.Author.Tests.{eq-eqb, eqb-false}
 use lib.IntN.{ℤ}
 use lib.ListN.{length}
-use Rattle.network.specs.Network.{Net}
-use Rattle.network.specs.Board.{Window, boardOutcome, timeRowAfter, lineRowAfter}
-use Rattle.network.specs.Reading.{accepted, refused, refusal, readFile}
+use Rattle.network.specs.Network.{Net, maxStop}
+use Rattle.network.specs.Board.{Window, board, maxMinutes, boardOutcome, timeRowAfter, lineRowAfter}
+use Rattle.network.specs.Reading.{accepted, refused, values, refusal, readFile}
 use Rattle.network.specs.Refusals.{Fits, Unfit, BoardRefuses, of-file, of-sheet, of-stop, of-length, of-row}
 use Rattle.network.specs.Valid.{IsBytes}
-use Rattle.network.proofs.Laws.BoardCall.{called-refused, called-unfit, board-refuses, board-refuses-only, board-rows-as-found}
+use Rattle.network.proofs.Laws.BoardCall.{called-refused, called-unfit, board-refuses, board-refuses-only, board-rows-as-found, board-answers-none}
 use Rattle.network.proofs.Laws.Gaps.{accepted-valid}
 use Rattle.network.proofs.Laws.Reading.{refused-number-range, refused-place}
 use Rattle.examination.specs.Bytes.{starts, bytesFit, BytesFit, boardBytes, timeRowBytes, lineRowBytes}
@@ -83,6 +83,20 @@ module _ (file : List ℕ) (is-bytes : IsBytes file) (bytes : List ℕ) (w : Win
   of-bytes (of-length {n = n} e same low long) = of-length e (fit-of-bytes file is-bytes bytes n e same) low long
   of-bytes (of-row {n = n} e same low within short) =
       of-row e (fit-of-bytes file is-bytes bytes n e same) low within (rw (starts-here n e same) short)
+
+  -- Where none arrives, whatever the sheet, the answer is 0, and rows of any length, 0 too, stay
+  pub board-bytes-none : {n : Net} → readFile file ≡ accepted n → BytesFit bytes n → w .stop ≤ maxStop → w .minutes ≤ maxMinutes
+      → ((sheet : List ℤ) → board n sheet w ≡ [])
+      → (boardBytes w (length timeRow) (length lineRow) (readFile file) bytes ≡ values (0 ∷ []))
+      × (timeRowBytes w timeRow lineRow (readFile file) bytes ≡ timeRow)
+      × (lineRowBytes w timeRow lineRow (readFile file) bytes ≡ lineRow)
+  board-bytes-none {n} reads same low within none =
+      let fit = fit-of-bytes file is-bytes bytes n reads same in
+      let (told, times-are, lines-are) = board-answers-none file (sheetOf bytes) w timeRow lineRow reads fit low within (none (sheetOf bytes)) in (
+        sym (board-on-bytes w timeRow lineRow file is-bytes bytes) ∙ told,
+        sym (times-on-bytes w timeRow lineRow file is-bytes bytes) ∙ times-are,
+        sym (lines-on-bytes w timeRow lineRow file is-bytes bytes) ∙ lines-are,
+      )
 
   module _ {number place : ℕ} where
     pub board-bytes-refuse : BoardRefuses file (BytesFit bytes) (starts bytes) w timeRow lineRow number place

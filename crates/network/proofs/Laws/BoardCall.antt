@@ -5,6 +5,7 @@ use mathlib.Core.Path.{_≡_, refl, sym, ap, subst, _∙_}
 use mathlib.Core.Bool.{Bool, true, false, not, _||_}
 use mathlib.Core.List.{List, [], _∷_, _++_}
 use mathlib.Core.Logic.{_⊎_, inl, inr}
+use native.Mathlib.Omega.{arith}
 use borrow.Author.Tests.{eq-eqb, ne-eqb, lt-ltb, le-ltb, eqb-true, eqb-false, ltb-true, ltb-false, not-false}
 use lib.Dec.{eqb, ltb}
 use lib.IntN.{ℤ}
@@ -200,3 +201,18 @@ module _ (file : List ℕ) (sheet : List ℤ) (w : Window) (timeRow : List ℤ) 
         le-ltb (length lineRow) list linesFit,
       )
       (refl, refl, refl)
+
+  -- Where none arrives, the answer is 0, and rows of any length, 0 too, stay
+  pub board-answers-none : {n : Net} → readFile file ≡ accepted n → length sheet ≡ length (n .periods) → w .stop ≤ maxStop → w .minutes ≤ maxMinutes
+      → board n sheet w ≡ []
+      → (answered ≡ values (0 ∷ []))
+      × (timeRowAfter w timeRow lineRow (readFile file) sheet ≡ timeRow)
+      × (lineRowAfter w timeRow lineRow (readFile file) sheet ≡ lineRow)
+  unfolding times lines
+  board-answers-none {n} reads fits low within none =
+      let few : length (board n sheet w) ≡ 0 = ap length none in
+      let (told, times-are, lines-are) = board-answers reads fits low within (omega (arith, few)) (omega (arith, few)) in (
+        told ∙ ap (λ (list : List Arrival). values (length list ∷ [])) none,
+        times-are ∙ ap (λ (list : List Arrival). times list ++ drop (length list) timeRow) none,
+        lines-are ∙ ap (λ (list : List Arrival). lines n list ++ drop (length list) lineRow) none,
+      )
