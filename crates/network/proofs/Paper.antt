@@ -8,7 +8,7 @@ use borrow.Fn.World.{ArgsD, ResD}
 use borrow.Fn.Kinds.{endedOf}
 use contract.Lifetimes.{Lfts}
 use denote.Triple.Clauses.{AtExit}
-use lib.IntN.{ℤ, pos}
+use lib.IntN.{ℤ, pos, negsuc}
 use lib.ListN.{length, replicate}
 use Rattle.network.specs.Lists.{any, keep, allBelow, countBelow, below, table, sumOf, leastOf, pairsOf, joined}
 use Rattle.network.specs.Divisor.{gcdWithin, gcd, lcm, cycleFrom, commonCycle}
@@ -107,10 +107,10 @@ boardStays file sheet w places others answer = boards file sheet w (timeRow plac
 
 -- ---- Files
 
--- What is given for each number below `k`, one behind the other
+-- What is given for each number below `k`, one behind the other, the highest first
 pub forEach : (ℕ → List ℕ) → ℕ → List ℕ
 forEach f zero = []
-forEach f (suc k) = forEach f k ++ f k
+forEach f (suc k) = f k ++ forEach f k
 
 -- So many lines of one minute
 pub linesOf1 : ℕ → List ℕ
@@ -157,6 +157,13 @@ untidy = 0x4C ∷ 0x00 ∷ 0x0F ∷ 0x4C ∷ 0x00 ∷ 0x14 ∷ 0x43 ∷ 0x01 ∷
 
 pub tidyForm : List ℕ
 tidyForm = 0x4C ∷ 0x00 ∷ 0x0F ∷ 0x4C ∷ 0x00 ∷ 0x14 ∷ 0x43 ∷ 0x00 ∷ 0x00 ∷ 0x00 ∷ 0x02 ∷ 0x43 ∷ 0x00 ∷ 0x00 ∷ 0x00 ∷ 0x08 ∷ 0x43 ∷ 0x00 ∷ 0x01 ∷ 0x00 ∷ 0x03 ∷ 0x43 ∷ 0x01 ∷ 0x00 ∷ 0x00 ∷ 0x11 ∷ 0x45 ∷ []
+
+-- Lines every 15 and 20 minutes again, with rides of 3, 5 and 1 minutes, each from its own line's latest call; and their archive form
+pub rides : List ℕ
+rides = 0x4C ∷ 0x00 ∷ 0x0F ∷ 0x4C ∷ 0x00 ∷ 0x14 ∷ 0x43 ∷ 0x00 ∷ 0x00 ∷ 0x00 ∷ 0x08 ∷ 0x43 ∷ 0x01 ∷ 0x00 ∷ 0x00 ∷ 0x11 ∷ 0x46 ∷ 0x00 ∷ 0x01 ∷ 0x00 ∷ 0x03 ∷ 0x46 ∷ 0x01 ∷ 0x01 ∷ 0x00 ∷ 0x05 ∷ 0x46 ∷ 0x00 ∷ 0x02 ∷ 0x00 ∷ 0x01 ∷ 0x45 ∷ []
+
+pub ridesForm : List ℕ
+ridesForm = 0x4C ∷ 0x00 ∷ 0x0F ∷ 0x4C ∷ 0x00 ∷ 0x14 ∷ 0x43 ∷ 0x00 ∷ 0x00 ∷ 0x00 ∷ 0x08 ∷ 0x43 ∷ 0x00 ∷ 0x01 ∷ 0x00 ∷ 0x0B ∷ 0x43 ∷ 0x00 ∷ 0x02 ∷ 0x00 ∷ 0x0C ∷ 0x43 ∷ 0x01 ∷ 0x00 ∷ 0x00 ∷ 0x11 ∷ 0x43 ∷ 0x01 ∷ 0x01 ∷ 0x00 ∷ 0x16 ∷ 0x45 ∷ []
 
 -- ---- Read
 
@@ -250,13 +257,16 @@ full-cases-hold =
 
 -- ---- Rate, the weighted rating and the gaps call
 
--- 15 for P1's sheets of 0, 1 and 3 starts, and after the file's own ground; P1's rating; and its gap row, 65,535 for each unserved stop
+-- 15 for P1's sheets of 0, 1 and 3 starts, and after the file's own ground; the ratings of P1 and P2, and P9's best; P1's gap row, 65,535 for each
+-- unserved stop
 pub sheetCases : List Case
 sheetCases =
     rates p1 (zeros 0) (refusal 15 0) ∷
     rates p1 (zeros 1) (refusal 15 0) ∷
     rates p1 (zeros 3) (refusal 15 0) ∷
     rates p1 (zeros 2) (values (1 ∷ 1 ∷ [])) ∷
+    rates p1 (pos 0 ∷ negsuc 16 ∷ []) (values (2 ∷ 2 ∷ [])) ∷
+    rates p9 (pos 0 ∷ pos 4 ∷ []) (values (3 ∷ 11 ∷ [])) ∷
     rates (0x4C ∷ 0x00 ∷ 0x0F ∷ []) (zeros 0) (refusal 1 3) ∷
     gaps p1 (zeros 3) (row 64) (refusal 15 0) (row 64) ∷
     gaps p1 (zeros 2) (row 64) (values (1 ∷ 1 ∷ [])) (1 ∷ replicate 63 65535) ∷
@@ -264,9 +274,9 @@ sheetCases =
     []
 
 pub sheet-cases-hold : Every sheetCases
-unfolding opened p1 row zeros Holds Every sheetCases
+unfolding opened p1 p9 row zeros Holds Every sheetCases
 sheet-cases-hold =
-    ((refl, refl), ((refl, refl), ((refl, refl), ((refl, refl), ((refl, refl), ((refl, refl), ((refl, refl), ((refl, refl), tt))))))))
+    ((refl, refl), ((refl, refl), ((refl, refl), ((refl, refl), ((refl, refl), ((refl, refl), ((refl, refl), ((refl, refl), ((refl, refl), ((refl, refl), tt))))))))))
 
 -- ---- The class call
 
@@ -292,7 +302,7 @@ class-cases-hold =
 -- ---- The archive call
 
 -- 18 for a row of 16 places, where P1 takes 17, and after the file's own ground; lines in order, then calls by line, then stop, then offset, as 43, then 45,
--- 27 bytes, and in edition 2 its 56 first, 29 bytes; what lies behind stays
+-- 27 bytes; calls by rides as calls by offset; in edition 2 its 56 first, 29 bytes; what lies behind stays
 pub archiveCases : List Case
 archiveCases =
     archiveStays p1 16 (refusal 18 0) ∷
@@ -301,13 +311,14 @@ archiveCases =
     archiveStays untidy 26 (refusal 18 0) ∷
     archives untidy (row 28) (values (27 ∷ [])) (tidyForm ++ (77 ∷ [])) ∷
     archiveStays (0x56 ∷ 0x02 ∷ untidy) 28 (refusal 18 0) ∷
+    archives rides (row 32) (values (32 ∷ [])) ridesForm ∷
     archives (0x56 ∷ 0x02 ∷ untidy) (row 30) (values (29 ∷ [])) (0x56 ∷ 0x02 ∷ tidyForm ++ (77 ∷ [])) ∷
     []
 
 pub archive-cases-hold : Every archiveCases
-unfolding opened p1 untidy tidyForm row archiveStays Holds Every archiveCases
+unfolding opened p1 untidy tidyForm rides ridesForm row archiveStays Holds Every archiveCases
 archive-cases-hold =
-    ((refl, refl), ((refl, refl), ((refl, refl), ((refl, refl), ((refl, refl), ((refl, refl), ((refl, refl), tt)))))))
+    ((refl, refl), ((refl, refl), ((refl, refl), ((refl, refl), ((refl, refl), ((refl, refl), ((refl, refl), ((refl, refl), tt))))))))
 
 -- ---- The board call
 

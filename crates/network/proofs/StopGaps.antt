@@ -21,7 +21,7 @@ use Rattle.network.specs.Archive.{SameOffsets}
 use Rattle.network.specs.Gap.{residue, fold, gapOf}
 use Rattle.network.specs.Rating.{IsRating, arrivalOf, periodOf, gapOfCalls, pairGaps, gapOfStop, callsOfStop, stopGap, rating}
 use Rattle.network.specs.Rate.{rateAnswer, rateOutcome}
-use Rattle.network.specs.GapRow.{noGap, IsGapRow, gapsIn, gapRow, gapRowAfter}
+use Rattle.network.specs.GapRow.{IsGapRow, gapsIn, gapRow, gapRowAfter}
 use Rattle.network.specs.Reading.{Outcome, values, refusal, readFile, accepted}
 use Rattle.network.specs.Refusals.{Refuses, Unfit, Demand1}
 use Rattle.network.proofs.Laws.GapRow as law
@@ -171,9 +171,9 @@ abbrev loop : Net
 loop = netWith 1 (10 ∷ []) (callAfter 0 2 3 ∷ callAfter 0 2 7 ∷ [])
 
 -- One row for each: P1 and P2; P8's best starts; a line's own pair, the stops below it being unserved
-pub gap-rows : (take 2 (gapRow two (pos 0 ∷ pos 0 ∷ [])) ≡ 1 ∷ noGap ∷ [])
-    × (take 2 (gapRow two (pos 0 ∷ negsuc 16 ∷ [])) ≡ 2 ∷ noGap ∷ [])
-    × (take 3 (gapRow alone (pos 0 ∷ pos 30 ∷ pos 0 ∷ [])) ≡ 30 ∷ 12 ∷ noGap ∷ [])
-    × (take 4 (gapRow loop (pos 5 ∷ [])) ≡ noGap ∷ noGap ∷ 4 ∷ noGap ∷ [])
+pub gap-rows : (take 2 (gapRow two (pos 0 ∷ pos 0 ∷ [])) ≡ 1 ∷ 65535 ∷ [])
+    × (take 2 (gapRow two (pos 0 ∷ negsuc 16 ∷ [])) ≡ 2 ∷ 65535 ∷ [])
+    × (take 3 (gapRow alone (pos 0 ∷ pos 30 ∷ pos 0 ∷ [])) ≡ 30 ∷ 12 ∷ 65535 ∷ [])
+    × (take 4 (gapRow loop (pos 5 ∷ [])) ≡ 65535 ∷ 65535 ∷ 4 ∷ 65535 ∷ [])
 unfolding gapRow table isServed any stopGap gapOfStop callsOfStop keep pairGaps pairsOf gapOfCalls gapOf arrivalOf periodOf fold residue gcdWithin gcd leastOf
 gap-rows = (refl, refl, refl, refl)
