@@ -21,7 +21,7 @@ use Rattle.network.proofs.StopBoard.{Lists, lists, valid-board-length-le, board
 use Rattle.network.proofs.Laws.BoardCall.{board-answers}
 use Rattle.network.proofs.Laws.Gaps.{accepted-valid}
 use Rattle.network.proofs.Laws.Lists.{zero-ne-one}
-use Rattle.examination.specs.Bytes.{starts, IsSheet, BytesFit, boardBytes, timeRowBytes, lineRowBytes}
+use Rattle.examination.specs.Bytes.{starts, IsSheet, BytesFit}
 use Rattle.examination.specs.Exports.{TellsRefusal}
 use Rattle.examination.proofs.Codes.{export-demand-1, status-tells, status-code}
 use Rattle.examination.proofs.ExportDemands.{row-as-found, answered, on-its-bytes}

@@ -42,7 +42,11 @@ pub use Rattle.examination.proofs.Demands.{better-both-fit}
 pub use Rattle.examination.proofs.ExportBetter.{better-export-file-refused, better-export-neither-fits, better-export-only-first-fits}
 pub use Rattle.examination.proofs.ExportBetter.{better-export-only-second-fits, better-export-both-fit}
 pub use Rattle.examination.proofs.ExportBetter.{better-export-returns, better-export-names-the-part}
--- Both start rows by evaluation: ground 16 at 0, and a refused file's own ground before it
+-- .. by evaluation from bytes, every number written out: grounds 1 to 14 at their places, each before the next, and the limits of files; 15 after the
+-- file's own ground; and every call answers and leaves its rows as a case of it says
+pub use Rattle.network.proofs.Paper.{command-cases-hold, line-cases-hold, call-cases-hold, full-cases-hold, sheet-cases-hold}
+pub use Rattle.network.proofs.Paper.{read-as-case, rate-as-case, weighted-as-case, gaps-as-case, classes-as-case, archive-as-case, board-as-case}
+-- .. of start rows 16 at 0, and a refused file's own ground before it
 pub use Rattle.search.proofs.Cases.{start-rows-refused}
 -- Document 01, "It hands a sheet over as 4 bytes per start, two's complement, most significant first; a byte count other than 4×lines is ground 15": a sheet
 -- comes back from its bytes, both ends included, and every row of 4×lines bytes is a sheet's, of every call of an export that takes one
@@ -92,6 +96,8 @@ pub use Rattle.examination.proofs.ExportSearch.{search-export-demand-3}
 -- being those in the rows that the class call fills by document 01"
 pub use Rattle.network.proofs.Demands.{classes-demand-3}
 pub use Rattle.examination.proofs.ExportDemands.{classes-export-demand-3}
+-- .. 17, P9's two rows and rows with loops by evaluation
+pub use Rattle.network.proofs.Paper.{class-cases-hold}
 -- "And on every file and sheet, accepted or refused, the weighted rating and rate answer alike, with the same least gap and sum or the same refusal"
 pub use Rattle.network.proofs.Demands.{weighted-answers-as-rate}
 pub use Rattle.examination.proofs.ExportDemands.{weighted-export-as-rate}
@@ -110,6 +116,8 @@ pub use Rattle.examination.proofs.ExportBetter.{better-export-beside-ke
 -- byte stands at which place, and the order of any two calls, in plain numbers
 pub use Rattle.network.proofs.Demands.{archive-writes}
 pub use Rattle.examination.proofs.ExportDemands.{archive-export-writes}
+-- .. 18 and the bytes of both editions by evaluation
+pub use Rattle.network.proofs.Paper.{archive-cases-hold}
 -- "the archive form of an archive form is itself": lent what a first call wrote, a second answers the same length and writes the same bytes
 pub use Rattle.network.proofs.Demands.{archive-again}
 pub use Rattle.examination.proofs.ExportDemands.{archive-export-again}
@@ -133,12 +141,17 @@ pub use Rattle.examination.proofs.ExportSameNetwork.{same-network-bette
 pub use Rattle.examination.proofs.ExportSameNetwork.{same-network-hundred-export-alike, same-network-by-key-export-alike}
 -- ---- Document 02, A.2
 
--- "A line may now call twice at a stop; .. A gap is taken over pairs of different calls, also of one line, whose g is its period. .. Alike stops have
--- equally many calls of each line, matched in order of offset, and are compared over every pair of calls, also of one line"; without loops everything
--- is as before. The demands above are met in these words
+-- "A line may now call twice at a stop; ground 9 is for the third. A gap is taken over pairs of different calls, also of one line, whose g is its period. A stop
+-- counts as lone only with one call. .. Alike stops have equally many calls of each line, matched in order of offset, and are compared over every pair of calls,
+-- also of one line": of every accepted file; ground 9 by `read-demand-1` and `call-cases-hold`, ratings and classes by demands 2 and 3, under these words too;
+-- without loops everything is as before
 pub use Rattle.network.proofs.LoopRoutes.{loop-routes}
--- "A line's own pair caps its stop at its exact gap, and the cap's sum has one term per call"
+-- "A line's own pair caps its stop at its exact gap, and the cap's sum has one term per call": under demand 2 by the tries that they lead to, `caps-by-tries`
 pub use Rattle.search.proofs.Demands.{caps-bound}
+-- "the archive form orders them so": `archive-writes` and `archive-export-writes`, under A.1 above, by which a line's calls at a stop stand in order of offset
+-- "The certificate's best answer is from then on best under this wider gap": `search-demand-3`, `search-export-demand-3` and what a mark means, by `IsRating`,
+-- which is over pairs of different calls
+
 -- ---- Document 02, A.3
 
 -- "Given a wanted gap (16 bits) and a budget, return a timetable with at least that gap, or none, or stopped, each with the tries. .. None is
@@ -209,10 +222,16 @@ pub use Rattle.network.proofs.StopBoard.{board-is-board, trips-apart, IsBoard-r
 -- "Two lent rows take times (64 signed bits) and lines (bytes); what lies behind the list stays unchanged, and the answer is its count"
 pub use Rattle.network.proofs.StopBoard.{board-lists, board-rows-length, board-times-in-window, board-lines-stated}
 pub use Rattle.examination.proofs.ExportBoard.{board-export-lists, board-export-room}
--- "An unserved stop gives an empty list"; at most 32 arrivals for each minute, windows side by side, and starts and window moved together
+-- "An unserved stop gives an empty list", which rows of any length, 0 too, take as found, and so has a length of 0
+pub use Rattle.network.proofs.StopBoard.{board-call-unserved, board-call-no-minutes}
+pub use Rattle.examination.proofs.ExportBoard.{board-export-unserved, board-export-no-minutes}
+-- At most 32 arrivals for each minute, windows side by side, and starts and window moved together
 pub use Rattle.network.proofs.StopBoard.{board-unserved, board-no-minutes, board-length-le, board-side-by-side, board-moved, board-rows-moved}
 -- "Ground 15 precedes ground 8, which here has place 0. (22: length above 10,080, after 8; 23: a row shorter than the list, after 22; both at place 0.)": with
--- every other ground under demand 1, in this order (`BoardRefuses` of network/specs/Refusals.antt); 8 at place 0 is never a file's own
+-- every other ground under demand 1, in this order (`BoardRefuses` of network/specs/Refusals.antt); 8 at place 0 is never a file's own, and of the export
+-- 524,288 exactly where the sheet fits and the stop is above 63
 pub use Rattle.network.proofs.StopBoard.{board-eight-at-zero}
--- The request's boards by evaluation
+pub use Rattle.examination.proofs.ExportBoard.{board-export-eight-at-zero}
+-- The request's boards by evaluation; its grounds, each before the next, and P1's hour
+pub use Rattle.network.proofs.Paper.{board-cases-hold}
 pub use Rattle.network.proofs.StopBoard.{two-lines, half-open, one-minute, far-apart}
