@@ -27,7 +27,7 @@ use Rattle.search.specs.Search.{aboveBest, searched, outcomeOf, searchOu
 use Rattle.search.proofs.Laws.Caps.{cap-sound, cap-le-own-gap}
 use Rattle.search.proofs.Laws.MoreTries.{walked-with-more, walked-was-due}
 use Rattle.search.proofs.Laws.OnNetwork.{triesBound-products, walked-length, walked-first, walked-below, walked-rating, walked-stopped}
-use Rattle.search.proofs.Laws.Optimal.{searched-some, searched-best}
+use Rattle.search.proofs.Laws.Optimal.{searched-best}
 use Rattle.search.proofs.Laws.Outcome.{outcomeOf-finished, outcomeOf-stopped, outcomeOf-none}
 use Rattle.search.proofs.Laws.Outcome.{fit-outcome, fit-row, AnswerTells, told-of-finished, told-of-stopped, told-of-none}
 use Rattle.search.proofs.Laws.Outcome.{outcome-tries-le, outcome-tries-le-budget, outcome-finished}
@@ -35,10 +35,10 @@ use Rattle.search.proofs.Laws.Outcome.{search-refuses, search-refuses-o
 use Rattle.search.proofs.entry.search as search
 use Rattle.search.proofs.entry.search.Kinds as search-kinds
 use Rattle.search.proofs.entry.search.Reads as search-contract
--- ---- What other pages use: demand 3's bound, when the walk stops with none, and what each answer of the call tells
+-- ---- What other pages use: demand 3's bound, that the walk has a best at its end, when it stops with none, and what each answer of the call tells
 
 pub use Rattle.search.specs.Search.{demandedBound}
-pub use Rattle.search.proofs.Laws.Optimal.{searched-none-exactly}
+pub use Rattle.search.proofs.Laws.Optimal.{searched-some, searched-none-exactly}
 pub use Rattle.search.proofs.Laws.Answers.{searchAnswer-finished, searchAnswer-stopped, searchAnswer-none, searchAnswer-refused}
 -- ---- What it answers and leaves on two networks with the same periods and offsets
 
@@ -252,6 +252,19 @@ module _ {file : List ℕ} {row : List ℤ} {budget : ℕ} {answer : SearchOutco
 -- It asks nothing of what is lent
 pub search-asks-nothing : (κs : Lfts 2) (a : ArgsD search.signature κs) → search-contract.Pre κs a
 search-asks-nothing κs a = tt
+
+-- What is lent to a call, its answer, the row at its exit, and that they keep the contract: by names, for a theorem on calls of this crate and another
+abbrev pub SearchLent : Lfts 2 → Type 0
+SearchLent κs = ArgsD search.signature κs
+
+abbrev pub SearchTold : Lfts 2 → Type 0
+SearchTold κs = ResD search.signature κs
+
+abbrev pub SearchExit : Lfts 2 → Type 0
+SearchExit κs = AtExit (endedOf 2 search-kinds.ps search-kinds.r) κs
+
+abbrev pub SearchKept : (κs : Lfts 2) → SearchLent κs → SearchTold κs → SearchExit κs → Type 0
+SearchKept κs a r s = search-contract.Post κs a r s
 
 module _ (κs : Lfts 2) (a : ArgsD search.signature κs) (r : ResD search.signature κs)
     (s : AtExit (endedOf 2 search-kinds.ps search-kinds.r) κs) (kept : search-contract.Post κs a r s) where
