@@ -1,10 +1,10 @@
--- Document 02, A.3, on the export of the call with a wanted gap, said of what a host sees: what its return value, its number and the start row mean.
--- Each theorem holds of every call that has returned, where it keeps the contract in src/exports.rt, which every call does. Assumes nothing.
+-- Document 02, A.3, on the export of the call with a wanted gap, said of what a host sees: what its return value, its number and the start row mean,
+-- and that they are the walk's. Each theorem holds of every call that has returned, where it keeps the contract in src/exports.rt, which every call does. Assumes nothing.
 use Prim.Native.Nat.{ℕ, _<_, _≤_}
 use mathlib.Core.Path.{_≡_, refl, sym, ap, _∙_}
-use mathlib.Core.Bool.{true}
+use mathlib.Core.Bool.{Bool, true, false}
 use mathlib.Core.List.{List}
-use mathlib.Core.Logic.{_⊎_, inl, inr}
+use mathlib.Core.Logic.{_⊎_, inl, inr, _↔_}
 use native.Mathlib.Omega.{arith}
 use borrow.Fn.World.{ArgsD, ResD}
 use borrow.Fn.Kinds.{endedOf}
@@ -19,11 +19,12 @@ use Rattle.network.specs.Refusals.{Refuses, Unfit, Demand1}
 use Rattle.network.specs.Rating.{IsRating}
 use Rattle.network.proofs.Laws.Lists.{zero-ne-one}
 use Rattle.search.specs.Caps.{cap}
+use Rattle.search.specs.Walk.{State}
 use Rattle.search.specs.Search.{walked}
-use Rattle.search.specs.Wanted.{WantedOutcome, found, none, stopped, atLeast, reachedOf, wantedOutcome}
+use Rattle.search.specs.Wanted.{WantedOutcome, found, none, stopped, atLeast, wantedOutcome}
 use Rattle.search.specs.Wanted as wanted
 use Rattle.search.proofs.Demands.{demandedBound, WalkedStarts}
-use Rattle.search.proofs.WantedGap.{Wants, WantedGap, WithMoreTries, demand-1, walks-to, wanted-gap, reaches-above, with-more-tries}
+use Rattle.search.proofs.WantedGap.{Wants, ReachesByCase, WantedGap, WithMoreTries, demand-1, walks-to, wanted-gap, reaches-above, with-more-tries}
 use Rattle.examination.specs.Exports.{TellsRefusal, wantedStatus, wantedRow}
 use Rattle.examination.proofs.Codes.{export-demand-1, wanted-status-tells, wanted-status-code}
 use Rattle.examination.proofs.ExportDemands.{own-ground-range}
@@ -130,6 +131,53 @@ module _ {n : Net} {row : List ℤ} {gap budget : ℕ} {exit : List ℤ} (fit : 
       }
   hall-wanted (wanted.refusal number place) before answers w = absurd (answers number place refl)
 
+-- ---- .. of the walk by its rule, `w`
+
+pub record HallReach (w : State) (row : List ℤ) (returned : ℕ) (answer : List ℕ) (exit : List ℤ) : Type 0 where
+  -- it returns 0 exactly where the walk has a timetable; without one 1 exactly where the walk comes to its end, 2 exactly where it stops
+  pub found-exactly : (returned ≡ 0) ↔ (w .best .some ≡ true)
+  pub none-exactly : (returned ≡ 1) ↔ ((w .best .some ≡ false) × (w .stopped ≡ false))
+  pub stopped-exactly : (returned ≡ 2) ↔ ((w .best .some ≡ false) × (w .stopped ≡ true))
+  -- one number, the walk's tries
+  pub one-number : length answer ≡ 1
+  pub its-tries : getD answer 0 0 ≡ w .tries
+  -- the timetable's starts are written; where there is none the row is as it was lent
+  pub writes-the-first : exit ≡ pick (w .best .some) (w .starts) row
+
+module _ {w : State} {o : WantedOutcome} {row exit : List ℤ} (before : List ℕ) (cases : ReachesByCase w o) (left : exit ≡ pick (w .best .some) (w .starts) row) where
+  hall-reach : (a b : Bool) → w .best .some ≡ a → w .stopped ≡ b → HallReach w row (wantedStatus o) (wantedRow o before) exit
+  unfolding wantedStatus wantedRow
+  hall-reach true b some ends =
+      rw (cases .found-exactly (w .tries) .1 (some, refl))
+      record {
+        found-exactly = (λ e. some, λ e. refl);
+        none-exactly = (λ e. absurd (omega (arith, e)), λ e. absurd (zero-ne-one (cc (e .0))));
+        stopped-exactly = (λ e. absurd (omega (arith, e)), λ e. absurd (zero-ne-one (cc (e .0))));
+        one-number = refl;
+        its-tries = refl;
+        writes-the-first = left;
+      }
+  hall-reach false false without ends =
+      rw (cases .none-exactly (w .tries) .1 (without, ends, refl))
+      record {
+        found-exactly = (λ e. absurd (omega (arith, e)), λ e. absurd (zero-ne-one (cc)));
+        none-exactly = (λ e. (without, ends), λ e. refl);
+        stopped-exactly = (λ e. absurd (omega (arith, e)), λ e. absurd (zero-ne-one (cc (e .1))));
+        one-number = refl;
+        its-tries = refl;
+        writes-the-first = left;
+      }
+  hall-reach false true without stops =
+      rw (cases .stopped-exactly (w .tries) .1 (without, stops, refl))
+      record {
+        found-exactly = (λ e. absurd (omega (arith, e)), λ e. absurd (zero-ne-one (cc)));
+        none-exactly = (λ e. absurd (omega (arith, e)), λ e. absurd (zero-ne-one (cc (e .1))));
+        stopped-exactly = (λ e. (without, stops), λ e. refl);
+        one-number = refl;
+        its-tries = refl;
+        writes-the-first = left;
+      }
+
 wanted-row-as-found : {o : WantedOutcome} {number place : ℕ} (row : List ℕ) → o ≡ wanted.refusal number place → wantedRow o row ≡ row
 unfolding wantedRow
 wanted-row-as-found row e = rw e refl
@@ -164,15 +212,10 @@ module _ (κs : Lfts 3) (a : ArgsD wanting.signature κs) (r : ResD wanting.sign
 
   -- Return value, tries and row are those of the walk: the row has its first full timetable
   pub wanted-export-walks : {n : Net} → readFile (a .0 .now) ≡ accepted n → length (a .1 .0 .now) ≡ length (n .periods)
-      → (r ≡ wantedStatus (reachedOf (walked n (atLeast (a .1 .1 .0)) (a .1 .1 .1 .0))))
-      × (s .1 .1 .1 .1 .0 .now ≡ wantedRow (reachedOf (walked n (atLeast (a .1 .1 .0)) (a .1 .1 .1 .0))) (a .1 .1 .1 .1 .0 .now))
-      × (s .1 .0 .now ≡ pick (walked n (atLeast (a .1 .1 .0)) (a .1 .1 .1 .0) .best .some) (walked n (atLeast (a .1 .1 .0)) (a .1 .1 .1 .0) .starts) (a .1 .0 .now))
+      → HallReach (walked n (atLeast (a .1 .1 .0)) (a .1 .1 .1 .0)) (a .1 .0 .now) r (s .1 .1 .1 .1 .0 .now) (s .1 .0 .now)
   wanted-export-walks reads fit =
-      let w = walks-to wants reads fit in (
-        kept .0 ∙ ap wantedStatus (w .answers-the-walk),
-        kept .1 .0 ∙ ap (λ (o : WantedOutcome). wantedRow o (a .1 .1 .1 .1 .0 .now)) (w .answers-the-walk),
-        w .writes-the-first,
-      )
+      let w = walks-to wants reads fit in
+      rw (kept .0, kept .1 .0) (hall-reach (a .1 .1 .1 .1 .0 .now) (w .case-by-case) (w .writes-the-first) _ _ refl refl)
 
 -- ---- Beside a finished search of the same file, whatever either budget
 
