@@ -14,10 +14,12 @@ use Rattle.network.specs.Rating.{IsRating}
 use Rattle.network.specs.Reading.{accepted, refused, readFile}
 use Rattle.network.specs.Refusals.{Refuses, Unfit, Demand1}
 use Rattle.network.proofs.Laws.Gaps.{accepted-valid}
+use Rattle.search.specs.Search.{searchAnswer}
+use Rattle.search.proofs.Demands.{SearchLent, SearchTold, SearchExit, SearchKept, Searches, searches}
 use Rattle.examination.specs.Sheets.{Better, first, second, betterOf, markAnswer, refusal}
 use Rattle.examination.proofs.Laws.Refusals.{mark-refuses, mark-refuses-only}
 use Rattle.examination.proofs.BetterSheet.{Chosen, first-not-below, second-above, both-fit, only-first, only-second, no-fit, refused-neither}
-use Rattle.examination.proofs.Mark.{MarkMeans, mark-means}
+use Rattle.examination.proofs.Mark.{MarkMeans, Marks, mark-means, MarkBesideSearch, beside-search}
 use Rattle.examination.proofs.better.better as better
 use Rattle.examination.proofs.better.better.Kinds as better-kinds
 use Rattle.examination.proofs.better.better.Reads as better-contract
@@ -84,3 +86,16 @@ module _ (κs : Lfts 2) (a : ArgsD mark.signature κs) (r : ResD mark.signature 
   -- What it means
   pub mark-means-what-it-says : {n : Net} → readFile (a .0 .now) ≡ accepted n → MarkMeans n (a .1 .0 .now) (a .1 .1 .0) (markAnswer r)
   mark-means-what-it-says = mark-means (record { bytes = kept .1; answered = kept .0 })
+
+-- Beside a search of the same file with the same budget, the sheet and the start row having one place for each line: decided exactly where the
+-- search finishes, with its rating and tries; undecided exactly where it stops, with its tries
+module _ (κs : Lfts 2) (a : ArgsD mark.signature κs) (r : ResD mark.signature κs) (s : AtExit (endedOf 2 mark-kinds.ps mark-kinds.r) κs)
+    (kept : mark-contract.Post κs a r s) (κs′ : Lfts 2) (a′ : SearchLent κs′) (r′ : SearchTold κs′) (s′ : SearchExit κs′)
+    (kept′ : SearchKept κs′ a′ r′ s′) where
+  pub mark-beside-search : a .0 .now ≡ a′ .0 .now → a .1 .1 .0 ≡ a′ .1 .1 .0 → {n : Net} → readFile (a .0 .now) ≡ accepted n
+      → length (a .1 .0 .now) ≡ length (n .periods) → length (a′ .1 .0 .now) ≡ length (n .periods)
+      → MarkBesideSearch (markAnswer r) (searchAnswer r′)
+  mark-beside-search file budget reads fit row-fits =
+      let marks : Marks (a .0 .now) (a .1 .0 .now) (a .1 .1 .0) (markAnswer r) = record { bytes = kept .1; answered = kept .0 } in
+      let found : Searches (a .0 .now) (a′ .1 .0 .now) (a .1 .1 .0) (searchAnswer r′) (s′ .1 .0 .now) = rw (file, budget) (searches κs′ a′ r′ s′ kept′) in
+      beside-search marks found reads fit row-fits

@@ -1,7 +1,7 @@
 -- Document 02, A.5, said of what a host sees: the export of a mark out of a hundred returns and answers as that of mark, with mark and remainder in a
 -- row of their own, and the export by a key has the same two numbers beside the starts of a finished search. Of the search nothing is cited but its
--- optimality, when it refuses, and the range of its numbers and starts. Each theorem holds of every call that has returned, where it keeps the contract in
--- src/exports.rt, which every call does. Assumes nothing.
+-- optimality, when it refuses, the range of its numbers and starts, and that its answer is its walk's, as a mark's is. Each theorem holds of every call
+-- that has returned, where it keeps the contract in src/exports.rt, which every call does. Assumes nothing.
 use Prim.Native.Nat.{ℕ, _*_, _<_, _≤_}
 use mathlib.Core.Path.{_≡_, refl, sym, ap, ap₂, _∙_}
 use mathlib.Core.Bool.{Bool, true, false}
@@ -22,6 +22,7 @@ use Rattle.network.specs.Refusals.{Refuses, after-file, Demand1}
 use Rattle.network.specs.Rating.{IsRating}
 use Rattle.network.specs.Valid.{Valid}
 use Rattle.network.proofs.Laws.Gaps.{accepted-valid, IsRating-range}
+use Rattle.search.specs.Search.{searched}
 use Rattle.search.proofs.Demands.{WalkedStarts}
 use Rattle.examination.specs.Bytes.{starts, In32, All32, bytesOf, IsSheet, bytesFit, markBytes, keyBytes, BytesFit, BytesUnfit, EitherBytesUnfit}
 use Rattle.examination.specs.ByKey.{besideKey}
@@ -34,6 +35,7 @@ use Rattle.examination.proofs.Codes.{mark-status-code}
 use Rattle.examination.proofs.ExportDemands.{own-ground-range, row-as-found, answered}
 use Rattle.examination.proofs.ExportSearch.{HallMark, hall-mark-of, mark-told, mark-row-as-found, fit-answers}
 use Rattle.examination.proofs.ExportSearch.{HallSearch, search-export-demand-1, search-export-demand-3}
+use Rattle.examination.proofs.ExportSearch.{HallWalk, search-export-demand-2, HallBeside, hall-beside}
 use Rattle.examination.proofs.HundredMark.{Divided, divided, MarkOutOfHundred, out-of-hundred, marked-out-of-hundred, one-best, ranked, beside-key-is}
 use Rattle.examination.proofs.Laws.Bytes.{length-starts-fit}
 use Rattle.examination.proofs.Laws.Hundred.{ranks}
@@ -158,6 +160,16 @@ module _ (κs : Lfts 4) (a : ArgsD hundred.signature κs) (r : ResD hundred.sign
             rw (kept .1 .0, kept .1 .1 .0) (decided-numbers o (a .1 .1 .1 .0 .now) (a .1 .1 .1 .1 .0 .now) answers means (sym (kept .0) ∙ e));
         undecided-has-none = λ e. rw (kept .1 .1 .0) (undecided-numbers o (a .1 .1 .1 .1 .0 .now) answers (sym (kept .0) ∙ e));
       }
+
+  -- Beside a search of one file with one budget, as a mark
+  pub hundred-export-beside-search : (κs′ : Lfts 3) (a′ : ArgsD searching.signature κs′) (r′ : ResD searching.signature κs′)
+      (s′ : AtExit (endedOf 3 search-kinds.ps search-kinds.r) κs′) → search-contract.Post κs′ a′ r′ s′
+      → a .0 .now ≡ a′ .0 .now → a .1 .1 .0 ≡ a′ .1 .1 .0 → {n : Net} → readFile (a .0 .now) ≡ accepted n
+      → BytesFit (a .1 .0 .now) n → length (a′ .1 .0 .now) ≡ length (n .periods) → HallBeside r (s .1 .1 .1 .0 .now) r′ (s′ .1 .1 .1 .0 .now)
+  hundred-export-beside-search κs′ a′ r′ s′ kept′ file budget {n} reads fits row-fits =
+      let found : HallWalk (searched n (a .1 .1 .0)) (a′ .1 .0 .now) r′ (s′ .1 .1 .1 .0 .now) (s′ .1 .0 .now)
+      = rw budget (search-export-demand-2 κs′ a′ r′ s′ kept′ (ap readFile (sym file) ∙ reads) row-fits) in
+      hall-beside (hundred-export-means reads fits .marked) found
 
 -- ---- Of two decided markings
 

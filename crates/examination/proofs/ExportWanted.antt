@@ -1,5 +1,6 @@
 -- Document 02, A.3, on the export of the call with a wanted gap, said of what a host sees: what its return value, its number and the start row mean,
--- and that they are the walk's. Each theorem holds of every call that has returned, where it keeps the contract in src/exports.rt, which every call does. Assumes nothing.
+-- and that they are those of the walk. Each theorem holds of every call that has returned, where it keeps the contract in src/exports.rt, which every
+-- call does. Assumes nothing.
 use Prim.Native.Nat.{ℕ, _<_, _≤_}
 use mathlib.Core.Path.{_≡_, refl, sym, ap, _∙_}
 use mathlib.Core.Bool.{Bool, true, false}
@@ -144,7 +145,8 @@ pub record HallReach (w : State) (row : List ℤ) (returned : ℕ) (answer : Lis
   -- the timetable's starts are written; where there is none the row is as it was lent
   pub writes-the-first : exit ≡ pick (w .best .some) (w .starts) row
 
-module _ {w : State} {o : WantedOutcome} {row exit : List ℤ} (before : List ℕ) (cases : ReachesByCase w o) (left : exit ≡ pick (w .best .some) (w .starts) row) where
+module _ {w : State} {o : WantedOutcome} {row exit : List ℤ} (before : List ℕ) (cases : ReachesByCase w o)
+    (left : exit ≡ pick (w .best .some) (w .starts) row) where
   hall-reach : (a b : Bool) → w .best .some ≡ a → w .stopped ≡ b → HallReach w row (wantedStatus o) (wantedRow o before) exit
   unfolding wantedStatus wantedRow
   hall-reach true b some ends =

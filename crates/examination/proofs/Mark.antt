@@ -1,6 +1,7 @@
 -- What a mark means: decided and equal, no choice of whole-number starts rates above the sheet; decided and not equal, some choice does, and the
--- best rating is its rating; mark and remainder are those of the two least gaps; undecided only where the budget was too small. Of the search's proofs it cites the page of its demands alone.
--- Assumes nothing.
+-- best rating is its rating; mark and remainder are those of the two least gaps. Which of both it is, the best rating and the tries are those of the
+-- search with this budget: undecided only where that stops, and so only where the budget was too small. Of the search's proofs it cites the page of
+-- its demands alone. Assumes nothing.
 use Prim.Native.Nat.{ℕ, _<_, _≤_}
 use mathlib.Core.Path.{_≡_, refl, sym, ap, _∙_}
 use mathlib.Core.Bool.{Bool, true, false, _&&_}
@@ -19,9 +20,9 @@ use Rattle.network.specs.Reading.{Reading, accepted, readFile}
 use Rattle.network.specs.Valid.{IsBytes, Valid}
 use Rattle.network.proofs.Laws.Gaps.{accepted-valid, rating-is-rating, IsRating-range}
 use Rattle.network.proofs.Laws.Lists.{zero-ne-one}
-use Rattle.search.specs.Search.{SearchOutcome, finished, stopped, stoppedWithNone, triesOf, searchOutcome, startRowAfter}
+use Rattle.search.specs.Search.{SearchOutcome, finished, stopped, stoppedWithNone, triesOf, searched, searchOutcome, startRowAfter}
 use Rattle.search.specs.Search as search
-use Rattle.search.proofs.Demands.{Searches, demandedBound, Demand3, Answers, demand-3, answers}
+use Rattle.search.proofs.Demands.{Searches, demandedBound, AnswersByCase, Demand3, Answers, demand-2, demand-3, answers}
 use Rattle.examination.specs.Hundred.{markOf, remainderOf}
 use Rattle.examination.specs.Sheets.{MarkOutcome, decided, undecided, refusal, fits, marked, markOutcome}
 
@@ -62,6 +63,23 @@ pub record MarkMeans (n : Net) (sheet : List ℤ) (budget : ℕ) (answer : MarkO
   pub decided-range : {least sum bestLeast bestSum : ℕ} {equal : Bool} {mark remainder tries : ℕ} → answer ≡ decided least sum bestLeast bestSum equal mark remainder tries
       → ((least ≤ maxPeriod) × (sum ≤ 92160)) × ((bestLeast ≤ maxPeriod) × (bestSum ≤ 92160))
   pub undecided-range : {least sum tries : ℕ} → answer ≡ undecided least sum tries → (least ≤ maxPeriod) × (sum ≤ 92160)
+  -- By the search's walk under this budget, of a sheet with one start for each line: decided where it comes to its end, with its best rating and its
+  -- tries; undecided where it stops, with its tries; and so exactly there
+  pub finished-is-decided : length sheet ≡ length (n .periods) → searched n budget .stopped ≡ false
+      → (least : ℕ) × (sum : ℕ) × (equal : Bool) × (mark : ℕ) × (remainder : ℕ)
+      × (answer ≡ decided least sum (searched n budget .best .least) (searched n budget .best .sum) equal mark remainder (searched n budget .tries))
+  pub stopped-is-undecided : length sheet ≡ length (n .periods) → searched n budget .stopped ≡ true
+      → (least : ℕ) × (sum : ℕ) × (answer ≡ undecided least sum (searched n budget .tries))
+  pub decided-is-finished : {least sum bestLeast bestSum : ℕ} {equal : Bool} {mark remainder tries : ℕ}
+      → answer ≡ decided least sum bestLeast bestSum equal mark remainder tries
+      → (searched n budget .stopped ≡ false)
+      × (bestLeast ≡ searched n budget .best .least)
+      × (bestSum ≡ searched n budget .best .sum)
+      × (tries ≡ searched n budget .tries)
+  pub undecided-is-stopped : {least sum tries : ℕ} → answer ≡ undecided least sum tries
+      → (searched n budget .stopped ≡ true) × (tries ≡ searched n budget .tries)
+  -- .. only where the budget was too small: a further try was due, which is made under every larger budget
+  pub undecided-was-due : {least sum tries : ℕ} → answer ≡ undecided least sum tries → (more : ℕ) → budget < more → budget < searched n more .tries
   -- under a budget of at least the bound it is never undecided
   pub decides : length sheet ≡ length (n .periods) → demandedBound n ≤ budget
       → (least : ℕ) × (sum : ℕ) × (bestLeast : ℕ) × (bestSum : ℕ) × (equal : Bool) × (mark : ℕ) × (remainder : ℕ) × (tries : ℕ)
@@ -75,11 +93,11 @@ pub record Marks (file : List ℕ) (sheet : List ℤ) (budget : ℕ) (answer : M
   pub answered : answer ≡ markOutcome (readFile file) sheet budget
 
 -- What a mark that isn't a refusal tells of the sheet and of the search
-record SearchTells (n : Net) (sheet : List ℤ) (budget least sum : ℕ) (searched : SearchOutcome) : Type 0 where
+record SearchTells (n : Net) (sheet : List ℤ) (budget least sum : ℕ) (o : SearchOutcome) : Type 0 where
   fit : length sheet ≡ length (n .periods)
   its-least : rating n sheet .least ≡ least
   its-sum : rating n sheet .sum ≡ sum
-  found : searchOutcome (accepted n) (length sheet) budget ≡ searched
+  found : searchOutcome (accepted n) (length sheet) budget ≡ o
 
 abbrev ToldDecided : Net → List ℤ → ℕ → ℕ → ℕ → ℕ → ℕ → Bool → ℕ → ℕ → ℕ → Type 0
 ToldDecided n sheet budget least sum bestLeast bestSum equal mark remainder tries =
@@ -211,24 +229,95 @@ module _ {file : List ℕ} {sheet : List ℤ} {budget : ℕ} {answer : MarkOutco
         go (inl t) = (tries-are (t .2 .found) .0, its-answers .stopped-at-budget (found-is (t .2 .found)))
         go (inr t) = (tries-are (t .found) .0, its-answers .none-at-budget (found-is (t .found)) .0)
 
-  -- Where the search finishes, the mark is decided
-  decided-of-finished : length sheet ≡ length (n .periods)
-      → (least : ℕ) × (sum : ℕ) × (tries : ℕ) × (searchOutcome (readFile file) (length sheet) budget ≡ finished least sum tries)
-      → (least : ℕ) × (sum : ℕ) × (bestLeast : ℕ) × (bestSum : ℕ) × (equal : Bool) × (mark : ℕ) × (remainder : ℕ) × (tries : ℕ)
-      × (answer ≡ decided least sum bestLeast bestSum equal mark remainder tries)
-  unfolding markOutcome fits marked onSheet
-  decided-of-finished fit (bestLeast, bestSum, tries, e) = (
-    rating n sheet .least,
-    rating n sheet .sum,
-    bestLeast,
-    bestSum,
-    eqb (rating n sheet .least) bestLeast && eqb (rating n sheet .sum) bestSum,
-    markOf (rating n sheet .least) bestLeast,
-    remainderOf (rating n sheet .least) bestLeast,
-    tries,
-    call .answered
-        ∙ rw (reads, eq-eqb _ _ fit, sym (ap (λ (read : Reading). searchOutcome read (length sheet) budget) reads) ∙ e) refl,
-  )
+    undecided-due : (more : ℕ) → budget < more → budget < searched n more .tries
+    undecided-due = go undecided-told
+      where
+        go : ToldUndecided n sheet budget least sum tries → (more : ℕ) → budget < more → budget < searched n more .tries
+        go (inl t) = its-answers .stopped-was-due (found-is (t .2 .found))
+        go (inr t) = its-answers .none-was-due (found-is (t .found))
+
+    undecided-fits : length sheet ≡ length (n .periods)
+    undecided-fits = go undecided-told
+      where
+        go : ToldUndecided n sheet budget least sum tries → length sheet ≡ length (n .periods)
+        go (inl t) = t .2 .fit
+        go (inr t) = t .fit
+
+  -- Of a sheet that fits: its rating beside what the search answers
+  module _ (fit : length sheet ≡ length (n .periods)) where
+    beside : {o : SearchOutcome} → searchOutcome (readFile file) (length sheet) budget ≡ o
+        → answer ≡ marked (rating n sheet .least) (rating n sheet .sum) o
+    unfolding markOutcome fits onSheet
+    beside e =
+        call .answered
+        ∙ rw (reads, eq-eqb _ _ fit, sym (ap (λ (read : Reading). searchOutcome read (length sheet) budget) reads) ∙ e) refl
+
+    -- Where the search finishes, the mark is decided
+    decided-of-finished : {bestLeast bestSum tries : ℕ} → searchOutcome (readFile file) (length sheet) budget ≡ finished bestLeast bestSum tries
+        → (least : ℕ) × (sum : ℕ) × (equal : Bool) × (mark : ℕ) × (remainder : ℕ)
+        × (answer ≡ decided least sum bestLeast bestSum equal mark remainder tries)
+    unfolding marked
+    decided-of-finished {bestLeast} {bestSum} {tries} e = (
+      rating n sheet .least,
+      rating n sheet .sum,
+      eqb (rating n sheet .least) bestLeast && eqb (rating n sheet .sum) bestSum,
+      markOf (rating n sheet .least) bestLeast,
+      remainderOf (rating n sheet .least) bestLeast,
+      beside e,
+    )
+
+    -- .. and where it stops, undecided
+    undecided-of-stopped : {l s tries : ℕ} → searchOutcome (readFile file) (length sheet) budget ≡ stopped l s tries
+        → (least : ℕ) × (sum : ℕ) × (answer ≡ undecided least sum tries)
+    unfolding marked
+    undecided-of-stopped e = (rating n sheet .least, rating n sheet .sum, beside e)
+
+    undecided-of-none : {tries : ℕ} → searchOutcome (readFile file) (length sheet) budget ≡ stoppedWithNone tries
+        → (least : ℕ) × (sum : ℕ) × (answer ≡ undecided least sum tries)
+    unfolding marked
+    undecided-of-none e = (rating n sheet .least, rating n sheet .sum, beside e)
+
+    -- By how the search's walk ends
+    by-the-walk : AnswersByCase (searched n budget) (searchOutcome (readFile file) (length sheet) budget)
+    by-the-walk = demand-2 searches reads fit .case-by-case
+
+    decided-of-end : searched n budget .stopped ≡ false
+        → (least : ℕ) × (sum : ℕ) × (equal : Bool) × (mark : ℕ) × (remainder : ℕ)
+        × (answer ≡ decided least sum (searched n budget .best .least) (searched n budget .best .sum) equal mark remainder (searched n budget .tries))
+    decided-of-end ends = decided-of-finished (by-the-walk .finished-exactly _ _ _ .1 (ends, refl, refl, refl))
+
+    undecided-of-stop : searched n budget .stopped ≡ true → (least : ℕ) × (sum : ℕ) × (answer ≡ undecided least sum (searched n budget .tries))
+    undecided-of-stop stops = go (searched n budget .best .some) refl
+      where
+        go : (b : Bool) → searched n budget .best .some ≡ b → (least : ℕ) × (sum : ℕ) × (answer ≡ undecided least sum (searched n budget .tries))
+        go true some = undecided-of-stopped (by-the-walk .stopped-exactly _ _ _ .1 (stops, some, refl, refl, refl))
+        go false none = undecided-of-none (by-the-walk .none-exactly _ .1 (stops, none, refl))
+
+  end-of-decided : {least sum bestLeast bestSum : ℕ} {equal : Bool} {mark remainder tries : ℕ}
+      → answer ≡ decided least sum bestLeast bestSum equal mark remainder tries
+      → (searched n budget .stopped ≡ false)
+      × (bestLeast ≡ searched n budget .best .least)
+      × (bestSum ≡ searched n budget .best .sum)
+      × (tries ≡ searched n budget .tries)
+  end-of-decided {least} {sum} {bestLeast} {bestSum} {equal} {mark} {remainder} {tries} is = go (searched n budget .stopped) refl
+    where
+      fit : length sheet ≡ length (n .periods)
+      fit = told-of-decided n sheet budget (answer-is is) .0 .fit
+
+      go : (b : Bool) → searched n budget .stopped ≡ b
+          → (searched n budget .stopped ≡ false)
+          × (bestLeast ≡ searched n budget .best .least)
+          × (bestSum ≡ searched n budget .best .sum)
+          × (tries ≡ searched n budget .tries)
+      go false ends = let (l, u, b, q, p, e) = decided-of-end fit ends in (ends, cc, cc, cc)
+      go true stops = let (l, u, e) = undecided-of-stop fit stops in absurd (zero-ne-one (cc))
+
+  stop-of-undecided : {least sum tries : ℕ} → answer ≡ undecided least sum tries → (searched n budget .stopped ≡ true) × (tries ≡ searched n budget .tries)
+  stop-of-undecided {least} {sum} {tries} is = go (searched n budget .stopped) refl
+    where
+      go : (b : Bool) → searched n budget .stopped ≡ b → (searched n budget .stopped ≡ true) × (tries ≡ searched n budget .tries)
+      go false ends = let (l, u, b, q, p, e) = decided-of-end (undecided-fits is) ends in absurd (zero-ne-one (cc))
+      go true stops = let (l, u, e) = undecided-of-stop (undecided-fits is) stops in (stops, cc)
 
   pub mark-means : MarkMeans n sheet budget answer
   mark-means =
@@ -257,5 +346,52 @@ module _ {file : List ℕ} {sheet : List ℤ} {budget : ℕ} {answer : MarkOutco
             let t = told-of-decided n sheet budget (answer-is e) .0 in
             (IsRating-range valid (rated t), IsRating-range valid (of-search .finished-has-its-rating (found-is (t .found)) .1));
         undecided-range = λ e. IsRating-range valid (undecided-is-rated e);
-        decides = λ fit enough. decided-of-finished fit (of-search .finishes fit enough);
+        finished-is-decided = decided-of-end;
+        stopped-is-undecided = undecided-of-stop;
+        decided-is-finished = end-of-decided;
+        undecided-is-stopped = stop-of-undecided;
+        undecided-was-due = undecided-due;
+        decides = λ fit enough.
+            let (bestLeast, bestSum, tries, e) = of-search .finishes fit enough in
+            let (least, sum, equal, mark, remainder, is) = decided-of-finished fit e in
+            (least, sum, bestLeast, bestSum, equal, mark, remainder, tries, is);
       }
+
+-- ---- Beside a search of the file with this budget
+
+-- A mark and a search: decided exactly where the search finishes, with its rating and tries; undecided exactly where it stops, with its tries
+pub record MarkBesideSearch (answer : MarkOutcome) (o : SearchOutcome) : Type 0 where
+  pub decided-where-finished : {bestLeast bestSum tries : ℕ} → o ≡ finished bestLeast bestSum tries
+      → (least : ℕ) × (sum : ℕ) × (equal : Bool) × (mark : ℕ) × (remainder : ℕ)
+      × (answer ≡ decided least sum bestLeast bestSum equal mark remainder tries)
+  pub finished-where-decided : {least sum bestLeast bestSum : ℕ} {equal : Bool} {mark remainder tries : ℕ}
+      → answer ≡ decided least sum bestLeast bestSum equal mark remainder tries → o ≡ finished bestLeast bestSum tries
+  pub undecided-where-stopped : {least sum tries : ℕ} → o ≡ stopped least sum tries → (l : ℕ) × (u : ℕ) × (answer ≡ undecided l u tries)
+  pub undecided-where-none : {tries : ℕ} → o ≡ stoppedWithNone tries → (l : ℕ) × (u : ℕ) × (answer ≡ undecided l u tries)
+  pub stopped-where-undecided : {least sum tries : ℕ} → answer ≡ undecided least sum tries
+      → ((l : ℕ) × (u : ℕ) × (o ≡ stopped l u tries)) ⊎ (o ≡ stoppedWithNone tries)
+
+module _ {file : List ℕ} {sheet row : List ℤ} {budget : ℕ} {answer : MarkOutcome} {o : SearchOutcome} {exit : List ℤ}
+    (call : Marks file sheet budget answer) (found : Searches file row budget o exit) {n : Net} (reads : readFile file ≡ accepted n) (fit : length sheet ≡ length (n .periods))
+    (row-fits : length row ≡ length (n .periods)) where
+  -- Both answers are those of one walk
+  one-search : searchOutcome (readFile file) (length sheet) budget ≡ o
+  one-search = demand-2 (searches call reads) reads fit .answers-the-walk ∙ sym (demand-2 found reads row-fits .answers-the-walk)
+
+  found-was : {q : SearchOutcome} → searchOutcome (accepted n) (length sheet) budget ≡ q → o ≡ q
+  found-was e = sym one-search ∙ found-is call reads e
+
+  pub beside-search : MarkBesideSearch answer o
+  beside-search =
+      record {
+        decided-where-finished = λ e. decided-of-finished call reads fit (one-search ∙ e);
+        finished-where-decided = λ e. found-was (told-of-decided n sheet budget (answer-is call reads e) .0 .found);
+        undecided-where-stopped = λ e. undecided-of-stopped call reads fit (one-search ∙ e);
+        undecided-where-none = λ e. undecided-of-none call reads fit (one-search ∙ e);
+        stopped-where-undecided = λ e. go (undecided-told call reads e);
+      }
+    where
+      go : {least sum tries : ℕ} → ToldUndecided n sheet budget least sum tries
+          → ((l : ℕ) × (u : ℕ) × (o ≡ stopped l u tries)) ⊎ (o ≡ stoppedWithNone tries)
+      go (inl (l, u, t)) = inl (l, u, found-was (t .found))
+      go (inr t) = inr (found-was (t .found))
