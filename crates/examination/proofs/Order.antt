@@ -72,13 +72,22 @@ pub use Rattle.examination.proofs.ExportGaps.{gaps-export-fills, gaps-e
 -- "the search's answer, starts and number of tries are those of the walk in document 01"
 pub use Rattle.search.proofs.Demands.{search-demand-2, search-answers}
 pub use Rattle.search.proofs.Demands.{searchAnswer-finished, searchAnswer-stopped, searchAnswer-none, searchAnswer-refused}
+pub use Rattle.examination.proofs.ExportSearch.{search-export-demand-2}
 pub use Rattle.search.proofs.Cases.{P1-to-P9}
 -- Document 01 on `best`, "stopped with none can't occur here, since the first 16 tries or fewer reach a full timetable": it does exactly where the budget is
 -- below the number of lines, with the budget for its tries
 pub use Rattle.search.proofs.Demands.{search-none-exactly}
+pub use Rattle.examination.proofs.ExportSearch.{search-export-none-exactly}
 -- Document 01, "Caps", "the smallest half of g, rounded down, over its pairs; and the whole part of C / (sum of C/T over its lines)", and A.2's caps, by the
 -- tries that they lead to
 pub use Rattle.search.proofs.Cases.{caps-by-tries}
+-- The papers' numbers as a host sees them, by evaluation from bytes: P1 to P9, their marks, and each ground as one number; and every call of an export returns
+-- and leaves what is evaluated there
+pub use Rattle.examination.proofs.Paper.{read-numbers, rate-numbers, weighted-numbers, gaps-numbers, classes-numbers, archive-numbers}
+pub use Rattle.examination.proofs.Paper.{board-numbers, search-numbers, wanted-numbers, better-numbers, mark-numbers, key-numbers, file-before-all}
+pub use Rattle.examination.proofs.Paper.{read-export-told, rate-export-told, weighted-export-told, gaps-export-told, classes-export-told}
+pub use Rattle.examination.proofs.Paper.{archive-export-told, board-export-told, search-export-told, wanted-export-told, better-export-told}
+pub use Rattle.examination.proofs.Paper.{mark-export-told, hundred-export-told, by-key-export-told}
 -- ---- Demand 3
 
 -- "Whenever the search finishes, with whichever budget, the starts it wrote have the rating it reports, and every other choice of one whole-number
@@ -103,10 +112,15 @@ pub use Rattle.network.proofs.Demands.{weighted-answers-as-rate}
 pub use Rattle.examination.proofs.ExportDemands.{weighted-export-as-rate}
 -- ---- The marking of a candidate's sheet
 
--- What a mark means: decided and equal, no whole-number starts rate above the sheet; decided and not equal, some do; undecided, only where the
--- budget was too small
+-- Document 01, "Mark takes a sheet and a budget: the sheet's rating, the best rating, whether they are equal, and the tries; if the search stops, undecided, with
+-- the sheet's rating and the tries": decided exactly where the walk comes to its end, with its best and its tries, and undecided exactly where it stops, with a
+-- further try due. Decided and equal, no whole-number starts rate above the sheet; decided and not equal, some do
 pub use Rattle.examination.proofs.Demands.{mark-means-what-it-says}
 pub use Rattle.examination.proofs.ExportSearch.{mark-export-means}
+-- .. and so beside any search of one file and budget: decided exactly where it finishes, with its rating and tries, undecided exactly where it stops, with its tries
+pub use Rattle.examination.proofs.Demands.{mark-beside-search}
+pub use Rattle.examination.proofs.ExportSearch.{mark-export-beside-search}
+pub use Rattle.examination.proofs.ExportHundred.{hundred-export-beside-search}
 -- Many sheets by one search: beside the key better-of-two answers the sheet exactly where both have one rating
 pub use Rattle.examination.proofs.ExportBetter.{better-export-beside-key}
 -- ---- Document 02, A.1
