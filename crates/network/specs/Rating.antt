@@ -5,7 +5,7 @@ use Prim.Native.Nat.{ℕ, suc, _*_, _<_, _≤_}
 use mathlib.Core.Path.{_≡_}
 use mathlib.Core.Bool.{Bool, true, false, not, _&&_, _||_}
 use mathlib.Core.List.{List, [], _∷_, map, List·Memᴰ}
-use lib.Dec.{eqb, ltb}
+use lib.Dec.{eqb, ltb, leb}
 use lib.IntN.{ℤ, pos, _+ℤ_}
 use lib.ListN.{length, getD}
 use Rattle.network.specs.declared.Call.{Call}
@@ -138,3 +138,13 @@ isAbove r q =
 -- Two ratings are equal if their least gaps are and their sums are; none is equal to none alone
 unfoldable pub isEqual : Rating → Rating → Bool
 isEqual r q = pick (r .some) (q .some && (eqb (r .least) (q .least) && eqb (r .sum) (q .sum))) (not (q .some))
+
+-- ---- By one number of the two, as document 02 compares them
+
+-- A rating reaches a wanted gap if its least gap is that or larger (A.3, A.11); none reaches nothing
+unfoldable pub reaches : Rating → ℕ → Bool
+reaches r wanted = r .some && leb wanted (r .least)
+
+-- The sum of a rating is above another's (A.11); beside none every rating's is
+unfoldable pub isSumAbove : Rating → Rating → Bool
+isSumAbove r q = r .some && (not (q .some) || ltb (q .sum) (r .sum))

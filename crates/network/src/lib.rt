@@ -224,6 +224,29 @@ impl Rating {
         true
     }
 
+    // Whether this rating's least gap is a wanted one or larger. None reaches nothing, not even 0.
+    pub fn reaches(self, wanted: u32) -> bool
+        ensures { λ r. ⌜ r ≡ rating.reaches self wanted ⌝ }
+    {
+        if self.some {
+            return wanted <= self.least;
+        }
+        false
+    }
+
+    // Whether this rating's sum is larger than another's, whatever their least gaps. Beside none every rating's is.
+    pub fn sum_is_above(self, other: Rating) -> bool
+        ensures { λ r. ⌜ r ≡ rating.isSumAbove self other ⌝ }
+    {
+        if self.some {
+            if other.some {
+                return other.sum < self.sum;
+            }
+            return true;
+        }
+        false
+    }
+
     // The rating with one stop more.
     pub fn with_stop(self, gap: u32, weight: u32) -> Rating
         requires { ⌜ self .sum + weight * gap < 2 ^ 32 ⌝ }

@@ -36,5 +36,7 @@ pub use Rattle.network.proofs.Laws.SameNetwork.{counted-plain}
 -- the order of ratings
 pub use Rattle.network.proofs.Laws.Order.{Above, above-of-isAbove, below-of-not-isAbove, isAbove-none, none-is-not-above}
 pub use Rattle.network.proofs.Laws.Order.{above-none, isAbove-irreflexive, not-above-of-above, not-above-transitive, not-above-of-le, isEqual-numbers}
+-- .. and by the least gap alone, and by the sum alone
+pub use Rattle.network.proofs.Laws.Order.{reaches-by-least, sum-above-none, sum-above-by-sum}
 -- how large the numbers of a rating can be
 pub use Rattle.network.proofs.Laws.Ranges.{sumOf-served-le, IsRating-range}

@@ -1,14 +1,14 @@
 -- The test on two ratings is the order of document 01, first by the least gap and then by the sum: a strict order, with none below every
--- rating; and that order turned round. Assumes nothing.
+-- rating; that order turned round; and the tests by one of the two numbers. Assumes nothing.
 use Prim.Native.Nat.{ℕ, _≤_, _<_}
 use mathlib.Core.Path.{_≡_, refl, sym, ap₂, _∙_}
 use mathlib.Core.Bool.{Bool, true, false, not, _&&_, _||_, and-true, or-false}
 use mathlib.Core.Logic.{_⊎_, inl, inr}
 use native.Mathlib.Omega.{arith}
 use borrow.Author.Tests.{ltb-true, ltb-false, eqb-true, eqb-false, lt-ltb, le-ltb, eq-eqb, ne-eqb}
-use lib.Dec.{eqb, ltb}
+use lib.Dec.{eqb, ltb, leb}
 use Rattle.network.specs.declared.Rating.{Rating}
-use Rattle.network.specs.Rating.{noRating, isAbove, isEqual}
+use Rattle.network.specs.Rating.{noRating, isAbove, isEqual, reaches, isSumAbove}
 use Rattle.network.proofs.Laws.Lists.{zero-ne-one}
 
 -- One pair of least and sum is above another
@@ -134,6 +134,30 @@ module _ (r q : Rating) where
   pub above-other-least : r .some ≡ true → q .some ≡ true → (q .least ≡ r .least → ⊥) → isAbove r q ≡ ltb (q .least) (r .least)
   unfolding isAbove
   above-other-least e f g = rw (e, f, ne-eqb (q .least) (r .least) g) (or-false _)
+
+-- ---- by the least gap alone, and by the sum alone, as the code tests it
+
+module _ (r : Rating) (wanted : ℕ) where
+  pub none-reaches : r .some ≡ false → reaches r wanted ≡ false
+  unfolding reaches
+  none-reaches e = rw e
+
+  pub reaches-by-least : r .some ≡ true → reaches r wanted ≡ leb wanted (r .least)
+  unfolding reaches
+  reaches-by-least e = rw e
+
+module _ (r q : Rating) where
+  pub none-sum-above : r .some ≡ false → isSumAbove r q ≡ false
+  unfolding isSumAbove
+  none-sum-above e = rw e
+
+  pub sum-above-none : r .some ≡ true → q .some ≡ false → isSumAbove r q ≡ true
+  unfolding isSumAbove
+  sum-above-none e f = rw (e, f)
+
+  pub sum-above-by-sum : r .some ≡ true → q .some ≡ true → isSumAbove r q ≡ ltb (q .sum) (r .sum)
+  unfolding isSumAbove
+  sum-above-by-sum e f = rw (e, f)
 
 -- ---- what isn't above
 
