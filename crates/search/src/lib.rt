@@ -42,8 +42,8 @@ enum Rule {
     BySum { floor: u32 },
 }
 
-// What is dropped beside the best so far, whatever the rule, so that it is one test: a least gap below the floor and, if there is something
-// beside it, a sum not above that, at the floor itself or anywhere.
+// What a placing is given up for beside the best so far, whatever the rule, so that it is one test after each call: a least gap below the floor
+// and, if there is something beside it, a sum not above that, at the floor itself or anywhere.
 struct Cut {
     pub floor: u32,
     pub beside: bool,

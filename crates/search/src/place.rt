@@ -109,7 +109,7 @@ pub fn cut_of(rule: Rule, best: Rating) -> Cut
 }
 
 // Whether an upper rating falls short of a cut.
-pub fn falls_short(cut: Cut, least: u32, sum: u32) -> bool
+fn falls_short(cut: Cut, least: u32, sum: u32) -> bool
     ensures { λ r. ⌜ r ≡ rows.isShort cut least sum ⌝ }
 {
     if least < cut.floor {

@@ -7,12 +7,11 @@ use crate::Task;
 use crate::Try;
 use crate::Walk;
 use crate::place::cut_of;
-use crate::place::falls_short;
 use crate::place::place;
 use network::Network;
 use network::Rating;
 ghost use mathlib.Core.Path.{_≡_};
-ghost use mathlib.Core.Bool.{_&&_};
+ghost use mathlib.Core.Bool.{true, not, _&&_};
 ghost use Prim.Native.Nat.{_+_, _<_, _≤_};
 ghost use Rattle.network.specs.Network.{maxPeriod};
 ghost use Rattle.search.specs.Engine.Representation as rows;
@@ -28,20 +27,33 @@ fn has_ended(rule: Rule, best: Rating) -> bool
     }
 }
 
-// A full timetable become the best.
-fn with_best(walk: Walk, full: Placed) -> Walk
-    ensures { λ r. ⌜ r ≡ rows.withBest walk full ⌝ }
+// Whether an upper rating stands beside the best so far: it is above it, or reaches the wanted gap, or reaches the floor and has a larger sum.
+// What a rule keeps is decided here, by the order of ratings; the cut that a placing is given up by only spares work.
+fn stands(rule: Rule, upper: Rating, best: Rating) -> bool
+    requires { ⌜ upper .some ≡ true ⌝ }
+    ensures { λ r. ⌜ r ≡ not (rows.ruleOf rule .drops upper best) ⌝ }
 {
-    let best = Rating {
-        some: true,
-        least: full.least,
-        sum: full.sum,
-    };
+    match rule {
+        Rule::AboveBest => upper.is_above(best),
+        Rule::AtLeast { wanted } => upper.reaches(wanted),
+        Rule::BySum { floor } => {
+            if upper.reaches(floor) {
+                return upper.sum_is_above(best);
+            }
+            false
+        }
+    }
+}
+
+// A full timetable become the best: with every line placed its upper rating is its rating.
+fn with_best(walk: Walk, upper: Rating, full: Placed) -> Walk
+    ensures { λ r. ⌜ r ≡ rows.withBest walk upper (full .starts) ⌝ }
+{
     let starts = full.starts;
     Walk {
         tries: walk.tries,
         stopped: walk.stopped,
-        best,
+        best: upper,
         starts,
     }
 }
@@ -79,19 +91,24 @@ fn judge(
     next.tries = walk.tries + 1;
     let cut = cut_of(rule, best);
     let made = place(codes, previous, divisors, lines, cut, due, placed);
-    if falls_short(cut, made.least, made.sum) {
-        return next;
+    let upper = Rating {
+        some: true,
+        least: made.least,
+        sum: made.sum,
+    };
+    if stands(rule, upper, best) {
+        if due.line < task.last {
+            let line = due.line + 1;
+            let starts = Starts {
+                line,
+                from: 0,
+                count: (lines[line] / Ordered::PLACES) as u16,
+            };
+            return try_starts(codes, previous, divisors, lines, task, starts, made, next);
+        }
+        return with_best(next, upper, made);
     }
-    if due.line < task.last {
-        let line = due.line + 1;
-        let starts = Starts {
-            line,
-            from: 0,
-            count: (lines[line] / Ordered::PLACES) as u16,
-        };
-        return try_starts(codes, previous, divisors, lines, task, starts, made, next);
-    }
-    with_best(next, made)
+    next
 }
 
 // A line's starts, ascending. They are split into halves, so that the calls nest only as deep as the number of starts has digits in base

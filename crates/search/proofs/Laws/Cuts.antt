@@ -1,22 +1,29 @@
--- The cut of each rule drops what the rule does beside the best so far, and what is no larger than something that falls short does too.
--- Assumes nothing.
+-- The cut of each rule drops what the rule does beside the best so far, and what is no larger than something that falls short does too; what a
+-- rule doesn't drop is told by comparing ratings. Assumes nothing.
 use Prim.Native.Nat.{ℕ, _≤_, _<_}
-use mathlib.Core.Path.{_≡_, refl, sym, ap}
-use mathlib.Core.Bool.{Bool, true, false, not, _&&_, _||_}
+use mathlib.Core.Path.{_≡_, refl, sym, ap, _∙_}
+use mathlib.Core.Bool.{Bool, true, false, not, _&&_, _||_, Bool·not-not}
 use mathlib.Core.Logic.{_⊎_, inl, inr}
 use native.Mathlib.Omega.{arith}
 use borrow.Author.Tests.{ltb-true, leb-true, leb-false, lt-ltb, le-ltb, le-leb, lt-leb}
 use lib.Dec.{ltb, leb}
 use Rattle.network.specs.declared.Rating.{Rating}
-use Rattle.network.specs.Rating.{isAbove}
+use Rattle.network.specs.Rating.{isAbove, reaches, isSumAbove}
 use Rattle.network.proofs.Laws.Lists.{zero-ne-one}
 use Rattle.network.proofs.Laws.Gaps.{Above, above-of-isAbove, below-of-not-isAbove}
-use Rattle.network.proofs.Laws.Gaps.{above-none}
+use Rattle.network.proofs.Laws.Gaps.{above-none, reaches-by-least, sum-above-none, sum-above-by-sum}
 use Rattle.search.specs.declared.Cut.{Cut}
 use Rattle.search.specs.declared.Rule.the-variants as rules
 use Rattle.search.specs.Engine.Representation.{ruleOf, rated, isShort, IsCut}
 use Rattle.search.specs.Search.{notAbove, aboveBest, bySum}
 use Rattle.search.specs.Wanted.{atLeast}
+
+leb-is-not-ltb : (a b : ℕ) → leb a b ≡ not (ltb b a)
+leb-is-not-ltb a b = go (leb a b) refl
+  where
+    go : (t : Bool) → leb a b ≡ t → t ≡ not (ltb b a)
+    go true e = sym (rw (le-ltb b a (leb-true a b e)) refl)
+    go false e = sym (rw (lt-ltb b a (leb-false a b e)) refl)
 
 -- ---- what is no larger
 
@@ -98,8 +105,31 @@ module _ (best : Rating) where
 
   pub by-sum-cut : (floor : ℕ) → IsCut (rules.BySum floor) best (record { floor = floor; beside = best .some; anywhere = true; sum = best .sum })
   unfolding isShort ruleOf bySum
-  by-sum-cut floor least sum = ap (λ (t : Bool). ltb least floor || (best .some && t)) (go (leb sum (best .sum)) refl)
-    where
-      go : (t : Bool) → leb sum (best .sum) ≡ t → t ≡ not (ltb (best .sum) sum)
-      go true e = sym (rw (le-ltb (best .sum) sum (leb-true sum (best .sum) e)) refl)
-      go false e = sym (rw (lt-ltb (best .sum) sum (leb-false sum (best .sum) e)) refl)
+  by-sum-cut floor least sum = ap (λ (t : Bool). ltb least floor || (best .some && t)) (leb-is-not-ltb sum (best .sum))
+
+-- ---- what stands by each rule
+
+module _ (upper best : Rating) where
+  pub stands-above-best : isAbove upper best ≡ not (ruleOf rules.AboveBest .drops upper best)
+  unfolding ruleOf aboveBest notAbove
+  stands-above-best = sym (Bool·not-not (isAbove upper best))
+
+  module _ (some : upper .some ≡ true) where
+    pub stands-at-least : (wanted : ℕ) → reaches upper wanted ≡ not (ruleOf (rules.AtLeast wanted) .drops upper best)
+    unfolding ruleOf atLeast
+    stands-at-least wanted = reaches-by-least upper wanted some ∙ leb-is-not-ltb wanted (upper .least)
+
+    module _ (floor : ℕ) where
+      pub falls-below-floor : reaches upper floor ≡ false → false ≡ not (ruleOf (rules.BySum floor) .drops upper best)
+      unfolding ruleOf bySum
+      falls-below-floor e = rw (lt-ltb (upper .least) floor (leb-false floor (upper .least) (sym (reaches-by-least upper floor some) ∙ e))) refl
+
+      pub stands-by-sum : reaches upper floor ≡ true → isSumAbove upper best ≡ not (ruleOf (rules.BySum floor) .drops upper best)
+      unfolding ruleOf bySum
+      stands-by-sum e =
+          rw (le-ltb (upper .least) floor (leb-true floor (upper .least) (sym (reaches-by-least upper floor some) ∙ e)))
+          (go (best .some) refl)
+        where
+          go : (t : Bool) → best .some ≡ t → isSumAbove upper best ≡ not (t && not (ltb (best .sum) (upper .sum)))
+          go true f = sum-above-by-sum upper best some f ∙ sym (Bool·not-not (ltb (best .sum) (upper .sum)))
+          go false f = sum-above-none upper best some f

@@ -19,7 +19,7 @@ use Rattle.search.specs.declared.Walk as code
 use Rattle.search.specs.Caps.{cap, upperRating}
 use Rattle.search.specs.Walk.{State, Rule, isOver, tryMade, stop, becomesBest, unless, stopIf, oneTry, eachStart, walk}
 use Rattle.search.specs.Search.{startCounts}
-use Rattle.search.specs.Engine.Representation.{ruleOf, rated, isShort, IsCut, startsOf, withStart, stateBy, stateOf, withBest, walkFrom, tryAt, CanTry, CanPlace, PlacedMore, GivenUp}
+use Rattle.search.specs.Engine.Representation.{ruleOf, rated, IsCut, startsOf, withStart, stateBy, stateOf, withBest, walkFrom, tryAt, CanTry, CanPlace, PlacedMore, GivenUp}
 use Rattle.search.specs.declared.Cut.{Cut}
 use Rattle.search.specs.declared.Placed.{Placed}
 use Rattle.search.specs.declared.Task.{Task}
@@ -177,7 +177,7 @@ module _ {n : Net} {task : Task} {line : ℕ} {p : Placed} (can : CanTry n task 
 
     -- the best
     pub judged-best : rule .drops (rated (r .least) (r .sum)) (w .best) ≡ false → task .last ≤ line
-        → stateOf n (withBest made r) ≡ tryAt n rule (task .budget) line (startsOf line (p .starts)) start (stateOf n w)
+        → stateOf n (withBest made (rated (r .least) (r .sum)) (r .starts)) ≡ tryAt n rule (task .budget) line (startsOf line (p .starts)) start (stateOf n w)
     judged-best f l =
         ap (λ (u : Rating). stateOf n (record { tries = w .tries + 1; stopped = w .stopped; best = u; starts = r .starts })) made-is
         ∙ try-best n rule (task .budget) line (startsOf line (p .starts)) start w e o b (test-is f) (omega (arith, l, can .last-of, can .stated)) (r .starts)
@@ -187,22 +187,25 @@ module _ {n : Net} {task : Task} {line : ℕ} {p : Placed} (can : CanTry n task 
 -- ---- the same where a placing may have been given up
 
 module _ {n : Net} {task : Task} {line : ℕ} {p : Placed} (can : CanTry n task line p)
-    {cut : Cut} {start : ℕ} {r : Placed} where
-  -- a placing that stands was not
-  pub placed-of-stands : PlacedMore n line start p r ⊎ GivenUp n cut line start p r → isShort cut (r .least) (r .sum) ≡ false → PlacedMore n line start p r
-  placed-of-stands (inl more-placed) e = more-placed
-  placed-of-stands (inr given-up) e = absurd (zero-ne-one (cc (given-up .come-to)))
+    {cut : Cut} {start : ℕ} {r : Placed} (w : code.Walk) (is-cut : IsCut (task .rule) (w .best) cut) where
+  -- what a placing that is given up has come to is not kept
+  pub given-up-is-dropped : GivenUp n cut line start p r → ruleOf (task .rule) .drops (rated (r .least) (r .sum)) (w .best) ≡ true
+  given-up-is-dropped given-up = sym (is-cut (r .least) (r .sum)) ∙ given-up .come-to
 
-  pub dropped-or-given-up : (w : code.Walk) → w .stopped ≡ false → (ruleOf (task .rule) .endsAtFirst && w .best .some) ≡ false
+  -- so that a placing that stands was not given up
+  pub placed-of-stands : PlacedMore n line start p r ⊎ GivenUp n cut line start p r
+      → ruleOf (task .rule) .drops (rated (r .least) (r .sum)) (w .best) ≡ false → PlacedMore n line start p r
+  placed-of-stands (inl more-placed) e = more-placed
+  placed-of-stands (inr given-up) e = absurd (zero-ne-one (cc (given-up-is-dropped given-up)))
+
+  pub dropped-or-given-up : w .stopped ≡ false → (ruleOf (task .rule) .endsAtFirst && w .best .some) ≡ false
       → (w .tries ≡ task .budget → ⊥)
-      → IsCut (task .rule) (w .best) cut
       → PlacedMore n line start p r ⊎ GivenUp n cut line start p r
-      → isShort cut (r .least) (r .sum) ≡ true
+      → ruleOf (task .rule) .drops (rated (r .least) (r .sum)) (w .best) ≡ true
       → stateOf n (record { tries = w .tries + 1; stopped = w .stopped; best = w .best; starts = w .starts })
       ≡ tryAt n (ruleOf (task .rule)) (task .budget) line (startsOf line (p .starts)) start (stateOf n w)
-  dropped-or-given-up w e o b is-cut (inl more-placed) f =
-      judged-dropped can more-placed w e o b (sym (is-cut (r .least) (r .sum)) ∙ f)
-  dropped-or-given-up w e o b is-cut (inr given-up) f =
+  dropped-or-given-up e o b (inl more-placed) f = judged-dropped can more-placed w e o b f
+  dropped-or-given-up e o b (inr given-up) f =
       try-dropped n (ruleOf (task .rule)) (task .budget) line (startsOf line (p .starts)) start w e o b
       (sym (ap (λ (q : Rating). ruleOf (task .rule) .drops q (w .best)) (upperRating-numbers n (cap n) (withStart line start p))) ∙ sym (is-cut _ _) ∙ given-up .upper)
 

@@ -1,8 +1,9 @@
 -- One try, and a line's starts by halves, meet their contracts, which speak of any network that the rows hold and of any rule. What falls: the
 -- lines left, then the starts left. Assumes nothing.
 use Prim.Native.Nat.{ℕ, _+_, _-_, _*_, _/_, _<_}
-use mathlib.Core.Path.{sym, ap, _∙_}
+use mathlib.Core.Path.{refl, sym, ap, _∙_}
 use native.Mathlib.Omega.{arith}
+use borrow.Author.Tests.{not-true, not-false}
 use borrow.Fn.Kinds.{In}
 use borrow.Fn.PlainCycle.{Measures, is, falls, and}
 use lib.ListN.{length, getD}
@@ -17,9 +18,9 @@ use Rattle.search.proofs.tries.try_starts.Reads as try-starts
 use Rattle.search.proofs.tries.try_starts.Kinds as try-starts-kinds
 use Rattle.search.proofs.tries.+judge+try_starts.Lts-try_starts as try-starts-lts
 use Rattle.search.proofs.place.cut_of.Reads as cut-of-reads
-use Rattle.search.proofs.place.falls_short.Reads as falls-short-reads
 use Rattle.search.proofs.place.place.Reads as place-reads
 use Rattle.search.proofs.tries.has_ended.Reads as has-ended-reads
+use Rattle.search.proofs.tries.stands.Reads as stands-reads
 use Rattle.search.proofs.tries.with_best.Reads as with-best-reads
 use Rattle.search.proofs.tries.+judge+try_starts.{statement}
 use Rattle.search.proofs.tries.+judge+try_starts.Tie.{close}
@@ -53,8 +54,8 @@ judge-claims t = (
   cut-of-reads.Learnt,
   place-reads.Asked,
   place-reads.Learnt,
-  falls-short-reads.Asked,
-  falls-short-reads.Learnt,
+  stands-reads.Asked,
+  stands-reads.Learnt,
   try-starts-below t,
   try-starts.Post,
   with-best-reads.Asked,
@@ -96,30 +97,20 @@ judge-cut-of-requires t c κs = tt
 judge-place-requires : (t : ℕ) → judge-lts.Need-place-requires (judge-claims t) (judge-at t) judge.Post
 judge-place-requires t c κs = let s = c .before .before .before .before .before .before .before .before .before in (s .pre .1 .0 .0, can-place (s .pre .1 .0 .1) _ (s .pre .1 .1 .0))
 
-judge-falls-short-requires : (t : ℕ) → judge-lts.Need-falls-short-requires (judge-claims t) (judge-at t) judge.Post
-judge-falls-short-requires t c κs = tt
-
-judge-returns-4 : (t : ℕ) → judge-lts.Need-returns-4 (judge-claims t) (judge-at t) judge.Post
-judge-returns-4 t c = let s = c .before .before .before .before .before .before .before .before .before .before .before .before in (
-  omega (arith, s .pre .1 .1 .1, c .before .before .before .before .before .if3 .left),
-  λ l can.
-      dropped-or-given-up can (s .args .walk) (c .before .before .before .before .before .before .before .before .before .before .if1 .left) (sym (c .before .before .before .before .before .before .before .before .before .has-ended .ensures) ∙ c .before .before .before .before .before .before .before .before .if2 .left) (c .before .before .before .before .before .if3 .left)
-      (c .before .before .before .cut-of .ensures)
-      (c .before .before .place .ensures l (can-place can (s .args .due .start) (s .pre .1 .1 .0)))
-      (sym (c .before .falls-short .ensures) ∙ c .if4 .taken),
-)
+judge-stands-requires : (t : ℕ) → judge-lts.Need-stands-requires (judge-claims t) (judge-at t) judge.Post
+judge-stands-requires t c κs = refl
 
 judge-add-line : (t : ℕ) → judge-lts.Need-add-line (judge-claims t) (judge-at t) judge.Post
 judge-add-line t c = let s = c .before .before .before .before .before .before .before .before .before .before .before .before .before .before .before .before in omega (arith, s .pre .1 .0 .1 .stated, s .pre .1 .0 .1 .last-of, c .before .if5 .taken, s .pre .1 .0 .0 .call-rows .valid .lines)
 
-judge-mul-t19 : (t : ℕ) → judge-lts.Need-mul-t19 (judge-claims t) (judge-at t) judge.Post
-judge-mul-t19 t c = let s = c .before .before .before .before .before .before .before .before .before .before .before .before .before .before .before .before in omega (arith, s .pre .1 .0 .1 .stated, s .pre .1 .0 .1 .last-of, c .before .if5 .taken, s .pre .1 .0 .0 .call-rows .valid .lines)
+judge-mul-t21 : (t : ℕ) → judge-lts.Need-mul-t21 (judge-claims t) (judge-at t) judge.Post
+judge-mul-t21 t c = let s = c .before .before .before .before .before .before .before .before .before .before .before .before .before .before .before .before in omega (arith, s .pre .1 .0 .1 .stated, s .pre .1 .0 .1 .last-of, c .before .if5 .taken, s .pre .1 .0 .0 .call-rows .valid .lines)
 
-judge-element-copy-out-t22 : (t : ℕ) → judge-lts.Need-element-copy-out-t22 (judge-claims t) (judge-at t) judge.Post
-judge-element-copy-out-t22 t c = let s = c .before .before .before .before .before .before .before .before .before .before .before .before .before .before .before .before in omega (arith, s .pre .1 .0 .1 .stated, s .pre .1 .0 .1 .last-of, c .before .if5 .taken, s .pre .1 .0 .0 .call-rows .valid .lines)
+judge-element-copy-out-t24 : (t : ℕ) → judge-lts.Need-element-copy-out-t24 (judge-claims t) (judge-at t) judge.Post
+judge-element-copy-out-t24 t c = let s = c .before .before .before .before .before .before .before .before .before .before .before .before .before .before .before .before in omega (arith, s .pre .1 .0 .1 .stated, s .pre .1 .0 .1 .last-of, c .before .if5 .taken, s .pre .1 .0 .0 .call-rows .valid .lines)
 
-judge-cast-t24 : (t : ℕ) → judge-lts.Need-cast-t24 (judge-claims t) (judge-at t) judge.Post
-judge-cast-t24 t c = let s = c .before .before .before .before .before .before .before .before .before .before .before .before .before .before .before .before .before in
+judge-cast-t26 : (t : ℕ) → judge-lts.Need-cast-t26 (judge-claims t) (judge-at t) judge.Post
+judge-cast-t26 t c = let s = c .before .before .before .before .before .before .before .before .before .before .before .before .before .before .before .before .before in
     let l = s .pre .1 .0 .0 in
     let next : s .args .due .line + 1 < length (l .call-rows .net .periods) = omega (arith, s .pre .1 .0 .1 .last-of, c .before .before .if5 .taken) in
     omega (arith, l .count-of (s .args .due .line + 1) next, startCounts-low (l .call-rows .net) (l .call-rows .valid) (s .args .due .line + 1) next)
@@ -127,8 +118,9 @@ judge-cast-t24 t c = let s = c .before .before .before .before .before .before .
 judge-try-starts-requires : (t : ℕ) → judge-lts.Need-try-starts-requires (judge-claims t) (judge-at t) judge.Post
 judge-try-starts-requires t c κs = let s = c .before .before .before .before .before .before .before .before .before .before .before .before .before .before .before .before .before in
     let l = s .pre .1 .0 .0 in
-    let more = placed-of-stands (s .pre .1 .0 .1) (c .before .before .before .before .before .before .before .place .ensures l (can-place (s .pre .1 .0 .1) (s .args .due .start) (s .pre .1 .1 .0)))
-    (sym (c .before .before .before .before .before .before .falls-short .ensures) ∙ c .before .before .before .before .before .if4 .left) in
+    let more = placed-of-stands (s .pre .1 .0 .1) (s .args .walk) (c .before .before .before .before .before .before .before .before .cut-of .ensures)
+    (c .before .before .before .before .before .before .before .place .ensures l (can-place (s .pre .1 .0 .1) (s .args .due .start) (s .pre .1 .1 .0)))
+    (not-true _ (sym (c .before .before .before .before .before .before .stands .ensures) ∙ c .before .before .before .before .before .if4 .taken)) in
     let few = next-few (s .pre .1 .0 .1) more (l .call-rows .valid) (c .before .before .if5 .taken) in
     let count = l .count-of (s .args .due .line + 1) (omega (arith, s .pre .1 .0 .1 .last-of, c .before .before .if5 .taken)) in (
       omega (arith, s .pre .0, few, count, c .before .before .if5 .taken),
@@ -138,14 +130,14 @@ judge-try-starts-requires t c κs = let s = c .before .before .before .before .b
       ),
     )
 
-judge-returns-5 : (t : ℕ) → judge-lts.Need-returns-5 (judge-claims t) (judge-at t) judge.Post
-judge-returns-5 t c = let s = c .before .before .before .before .before .before .before .before .before .before .before .before .before .before .before .before .before .before in (
+judge-returns-4 : (t : ℕ) → judge-lts.Need-returns-4 (judge-claims t) (judge-at t) judge.Post
+judge-returns-4 t c = let s = c .before .before .before .before .before .before .before .before .before .before .before .before .before .before .before .before .before .before in (
   c .try-starts .ensures .0,
   λ l can.
-      let stands = sym (c .before .before .before .before .before .before .before .falls-short .ensures) ∙ c .before .before .before .before .before .before .if4 .left in
-      let more = placed-of-stands can (c .before .before .before .before .before .before .before .before .place .ensures l (can-place can (s .args .due .start) (s .pre .1 .1 .0))) stands in
+      let stands = not-true _ (sym (c .before .before .before .before .before .before .before .stands .ensures) ∙ c .before .before .before .before .before .before .if4 .taken) in
+      let more = placed-of-stands can (s .args .walk) (c .before .before .before .before .before .before .before .before .before .cut-of .ensures) (c .before .before .before .before .before .before .before .before .place .ensures l (can-place can (s .args .due .start) (s .pre .1 .1 .0))) stands in
       judged-next can more (s .args .walk) (c .before .before .before .before .before .before .before .before .before .before .before .before .before .before .before .before .if1 .left) (sym (c .before .before .before .before .before .before .before .before .before .before .before .before .before .before .before .has-ended .ensures) ∙ c .before .before .before .before .before .before .before .before .before .before .before .before .before .before .if2 .left) (c .before .before .before .before .before .before .before .before .before .before .before .if3 .left)
-      (sym (c .before .before .before .before .before .before .before .before .before .cut-of .ensures _ _) ∙ stands) (c .before .before .before .if5 .taken)
+      stands (c .before .before .before .if5 .taken)
       (countIn (getD (s .args .lines .now) (s .args .due .line + 1) 0))
       (l .count-of (s .args .due .line + 1) (omega (arith, can .last-of, c .before .before .before .if5 .taken)))
       (c .try-starts .result)
@@ -155,15 +147,24 @@ judge-returns-5 t c = let s = c .before .before .before .before .before .before 
 judge-with-best-requires : (t : ℕ) → judge-lts.Need-with-best-requires (judge-claims t) (judge-at t) judge.Post
 judge-with-best-requires t c κs = tt
 
-judge-returns-6 : (t : ℕ) → judge-lts.Need-returns-6 (judge-claims t) (judge-at t) judge.Post
-judge-returns-6 t c = let s = c .before .before .before .before .before .before .before .before .before .before .before .before .before .before .before .before in (
+judge-returns-5 : (t : ℕ) → judge-lts.Need-returns-5 (judge-claims t) (judge-at t) judge.Post
+judge-returns-5 t c = let s = c .before .before .before .before .before .before .before .before .before .before .before .before .before .before .before .before in (
   omega (arith, s .pre .1 .1 .1, c .before .before .before .before .before .before .before .before .before .if3 .left, ap (λ (w : code.Walk). w .tries) (c .with-best .ensures)),
   λ l can.
-      let stands = sym (c .before .before .before .before .before .falls-short .ensures) ∙ c .before .before .before .before .if4 .left in
-      let more = placed-of-stands can (c .before .before .before .before .before .before .place .ensures l (can-place can (s .args .due .start) (s .pre .1 .1 .0))) stands in
+      let stands = not-true _ (sym (c .before .before .before .before .before .stands .ensures) ∙ c .before .before .before .before .if4 .taken) in
+      let more = placed-of-stands can (s .args .walk) (c .before .before .before .before .before .before .before .cut-of .ensures) (c .before .before .before .before .before .before .place .ensures l (can-place can (s .args .due .start) (s .pre .1 .1 .0))) stands in
       ap (stateOf (l .call-rows .net)) (c .with-best .ensures)
       ∙ judged-best can more (s .args .walk) (c .before .before .before .before .before .before .before .before .before .before .before .before .before .before .if1 .left) (sym (c .before .before .before .before .before .before .before .before .before .before .before .before .before .has-ended .ensures) ∙ c .before .before .before .before .before .before .before .before .before .before .before .before .if2 .left) (c .before .before .before .before .before .before .before .before .before .if3 .left)
-      (sym (c .before .before .before .before .before .before .before .cut-of .ensures _ _) ∙ stands) (c .before .if5 .left),
+      stands (c .before .if5 .left),
+)
+
+judge-returns-6 : (t : ℕ) → judge-lts.Need-returns-6 (judge-claims t) (judge-at t) judge.Post
+judge-returns-6 t c = let s = c .before .before .before .before .before .before .before .before .before .before .before .before in (
+  omega (arith, s .pre .1 .1 .1, c .before .before .before .before .before .if3 .left),
+  λ l can.
+      dropped-or-given-up can (s .args .walk) (c .before .before .before .cut-of .ensures) (c .before .before .before .before .before .before .before .before .before .before .if1 .left) (sym (c .before .before .before .before .before .before .before .before .before .has-ended .ensures) ∙ c .before .before .before .before .before .before .before .before .if2 .left) (c .before .before .before .before .before .if3 .left)
+      (c .before .before .place .ensures l (can-place can (s .args .due .start) (s .pre .1 .1 .0)))
+      (not-false _ (sym (c .before .stands .ensures) ∙ c .if4 .left)),
 )
 
 try-starts-returns : (t : ℕ) → try-starts-lts.Need-returns (try-starts-claims t) (try-starts-at t) try-starts.Post
@@ -209,15 +210,15 @@ pub +judge+try-starts-spec : {M : Type 1} → statement M
     (judge-add-next t)
     (judge-cut-of-requires t)
     (judge-place-requires t)
-    (judge-falls-short-requires t)
-    (judge-returns-4 t)
+    (judge-stands-requires t)
     (judge-add-line t)
-    (judge-mul-t19 t)
-    (judge-element-copy-out-t22 t)
-    (judge-cast-t24 t)
+    (judge-mul-t21 t)
+    (judge-element-copy-out-t24 t)
+    (judge-cast-t26 t)
     (judge-try-starts-requires t)
-    (judge-returns-5 t)
+    (judge-returns-4 t)
     (judge-with-best-requires t)
+    (judge-returns-5 t)
     (judge-returns-6 t))
     λ t. try-starts-lts.spec
     (judge-below t, judge.Post, try-starts-below t, try-starts.Post)
