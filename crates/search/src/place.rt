@@ -3,6 +3,7 @@ use crate::Cut;
 use crate::Ordered;
 use crate::Placed;
 use crate::Rule;
+use crate::Task;
 use crate::Try;
 use network::Call;
 use network::Network;
@@ -72,10 +73,11 @@ fn lowered(
     least as u16
 }
 
-// The cut of a rule beside the best so far.
-pub fn cut_of(rule: Rule, best: Rating) -> Cut
-    ensures { λ r. ⌜ rows.IsCut rule best r ⌝ }
+// The cut of a task's rule beside the best so far.
+pub fn cut_of(task: Task, best: Rating) -> Cut
+    ensures { λ r. ⌜ rows.IsCut (task .rule) best r ⌝ }
 {
+    let rule = task.rule;
     match rule {
         Rule::AboveBest => {
             if best.some {

@@ -17,9 +17,10 @@ ghost use Rattle.network.specs.Network.{maxPeriod};
 ghost use Rattle.search.specs.Engine.Representation as rows;
 
 // Whether the walk is over because it has its first full timetable.
-fn has_ended(rule: Rule, best: Rating) -> bool
-    ensures { λ r. ⌜ r ≡ (rows.ruleOf rule .endsAtFirst && best .some) ⌝ }
+fn has_ended(task: Task, best: Rating) -> bool
+    ensures { λ r. ⌜ r ≡ (rows.ruleOf (task .rule) .endsAtFirst && best .some) ⌝ }
 {
+    let rule = task.rule;
     match rule {
         Rule::AboveBest => false,
         Rule::AtLeast { wanted } => best.some,
@@ -29,10 +30,11 @@ fn has_ended(rule: Rule, best: Rating) -> bool
 
 // Whether an upper rating stands beside the best so far: it is above it, or reaches the wanted gap, or reaches the floor and has a larger sum.
 // What a rule keeps is decided here, by the order of ratings; the cut that a placing is given up by only spares work.
-fn stands(rule: Rule, upper: Rating, best: Rating) -> bool
+fn stands(task: Task, upper: Rating, best: Rating) -> bool
     requires { ⌜ upper .some ≡ true ⌝ }
-    ensures { λ r. ⌜ r ≡ not (rows.ruleOf rule .drops upper best) ⌝ }
+    ensures { λ r. ⌜ r ≡ not (rows.ruleOf (task .rule) .drops upper best) ⌝ }
 {
+    let rule = task.rule;
     match rule {
         Rule::AboveBest => upper.is_above(best),
         Rule::AtLeast { wanted } => upper.reaches(wanted),
@@ -45,21 +47,9 @@ fn stands(rule: Rule, upper: Rating, best: Rating) -> bool
     }
 }
 
-// A full timetable become the best: with every line placed its upper rating is its rating.
-fn with_best(walk: Walk, upper: Rating, full: Placed) -> Walk
-    ensures { λ r. ⌜ r ≡ rows.withBest walk upper (full .starts) ⌝ }
-{
-    let starts = full.starts;
-    Walk {
-        tries: walk.tries,
-        stopped: walk.stopped,
-        best: upper,
-        starts,
-    }
-}
-
 // One try: its start for a line is judged, unless the walk is over. It stops the walk where the budget is used up, and is dropped by the
-// rule beside the best so far; otherwise it sends the walk to the next line or, on the last line, becomes the best.
+// rule beside the best so far; otherwise it sends the walk to the next line or, on the last line, where its upper rating is its rating,
+// becomes the best.
 fn judge(
     codes: &[u32; Network::MAX_CALLS],
     previous: &[u16; Network::MAX_CALLS],
@@ -75,12 +65,10 @@ fn judge(
     ensures within { λ r. ⌜ r .tries ≤ task .budget ⌝ }
     ensures tried { λ r. ⌜ rows.Tried (now (codes .entry)) (now (previous .entry)) (now (divisors .entry)) (now (lines .entry)) task (due .line) placed (rows.oneOf task due placed) walk r ⌝ }
 {
-    let rule = task.rule;
-    let best = walk.best;
     if walk.stopped {
         return walk;
     }
-    if has_ended(rule, best) {
+    if has_ended(task, walk.best) {
         return walk;
     }
     let mut next = walk;
@@ -89,14 +77,14 @@ fn judge(
         return next;
     }
     next.tries = walk.tries + 1;
-    let cut = cut_of(rule, best);
+    let cut = cut_of(task, walk.best);
     let made = place(codes, previous, divisors, lines, cut, due, placed);
     let upper = Rating {
         some: true,
         least: made.least,
         sum: made.sum,
     };
-    if stands(rule, upper, best) {
+    if stands(task, upper, walk.best) {
         if due.line < task.last {
             let line = due.line + 1;
             let starts = Starts {
@@ -106,7 +94,10 @@ fn judge(
             };
             return try_starts(codes, previous, divisors, lines, task, starts, made, next);
         }
-        return with_best(next, upper, made);
+        let starts = made.starts;
+        next.best = upper;
+        next.starts = starts;
+        return next;
     }
     next
 }

@@ -19,7 +19,7 @@ use Rattle.search.specs.declared.Walk as code
 use Rattle.search.specs.Caps.{cap, upperRating}
 use Rattle.search.specs.Walk.{State, Rule, isOver, tryMade, stop, becomesBest, unless, stopIf, oneTry, eachStart, walk}
 use Rattle.search.specs.Search.{startCounts}
-use Rattle.search.specs.Engine.Representation.{ruleOf, rated, IsCut, startsOf, withStart, stateBy, stateOf, withBest, walkFrom, tryAt, CanTry, CanPlace, PlacedMore, GivenUp}
+use Rattle.search.specs.Engine.Representation.{ruleOf, rated, IsCut, startsOf, withStart, stateBy, stateOf, walkFrom, tryAt, CanTry, CanPlace, PlacedMore, GivenUp}
 use Rattle.search.specs.declared.Cut.{Cut}
 use Rattle.search.specs.declared.Placed.{Placed}
 use Rattle.search.specs.declared.Task.{Task}
@@ -177,7 +177,7 @@ module _ {n : Net} {task : Task} {line : ℕ} {p : Placed} (can : CanTry n task 
 
     -- the best
     pub judged-best : rule .drops (rated (r .least) (r .sum)) (w .best) ≡ false → task .last ≤ line
-        → stateOf n (withBest made (rated (r .least) (r .sum)) (r .starts)) ≡ tryAt n rule (task .budget) line (startsOf line (p .starts)) start (stateOf n w)
+        → stateOf n (record { tries = w .tries + 1; stopped = w .stopped; best = rated (r .least) (r .sum); starts = r .starts }) ≡ tryAt n rule (task .budget) line (startsOf line (p .starts)) start (stateOf n w)
     judged-best f l =
         ap (λ (u : Rating). stateOf n (record { tries = w .tries + 1; stopped = w .stopped; best = u; starts = r .starts })) made-is
         ∙ try-best n rule (task .budget) line (startsOf line (p .starts)) start w e o b (test-is f) (omega (arith, l, can .last-of, can .stated)) (r .starts)

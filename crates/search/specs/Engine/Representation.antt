@@ -171,10 +171,6 @@ stateBy lines w =
 unfoldable pub stateOf : Net → declared-walk.Walk → State
 stateOf n w = stateBy (length (n .periods)) w
 
--- A full timetable become the best
-abbrev pub withBest : declared-walk.Walk → Rating → List ℕ → declared-walk.Walk
-withBest w full starts = record { tries = w .tries; stopped = w .stopped; best = full; starts = starts }
-
 -- The walk on a network by a rule, from a partial timetable of the first `k` lines on
 unfoldable pub walkFrom : Net → Rule → ℕ → ℕ → List ℤ → State → State
 walkFrom n rule budget k placed s = walk (upperRating n (cap n)) rule budget (drop k (startCounts (n .periods))) placed s

@@ -1,14 +1,13 @@
 -- One try, and a line's starts by halves, meet their contracts, which speak of any network that the rows hold and of any rule. What falls: the
 -- lines left, then the starts left. Assumes nothing.
 use Prim.Native.Nat.{ℕ, _+_, _-_, _*_, _/_, _<_}
-use mathlib.Core.Path.{refl, sym, ap, _∙_}
+use mathlib.Core.Path.{refl, sym, _∙_}
 use native.Mathlib.Omega.{arith}
 use borrow.Author.Tests.{not-true, not-false}
 use borrow.Fn.Kinds.{In}
 use borrow.Fn.PlainCycle.{Measures, is, falls, and}
 use lib.ListN.{length, getD}
-use Rattle.search.specs.declared.Walk as code
-use Rattle.search.specs.Engine.Representation.{stateOf, countIn}
+use Rattle.search.specs.Engine.Representation.{countIn}
 use Rattle.search.proofs.Laws.Tries.{startCounts-low, try-stopped, try-ended, try-at-budget, can-place, can-try-next, placed-of-stands, dropped-or-given-up}
 use Rattle.search.proofs.Laws.Tries.{judged-next, judged-best, next-few, two-halves, none-left, one-left}
 use Rattle.search.proofs.tries.judge.Reads as judge
@@ -21,7 +20,6 @@ use Rattle.search.proofs.place.cut_of.Reads as cut-of-reads
 use Rattle.search.proofs.place.place.Reads as place-reads
 use Rattle.search.proofs.tries.has_ended.Reads as has-ended-reads
 use Rattle.search.proofs.tries.stands.Reads as stands-reads
-use Rattle.search.proofs.tries.with_best.Reads as with-best-reads
 use Rattle.search.proofs.tries.+judge+try_starts.{statement}
 use Rattle.search.proofs.tries.+judge+try_starts.Tie.{close}
 
@@ -58,8 +56,6 @@ judge-claims t = (
   stands-reads.Learnt,
   try-starts-below t,
   try-starts.Post,
-  with-best-reads.Asked,
-  with-best-reads.Learnt,
 )
 
 abbrev try-starts-claims : ℕ → try-starts-lts.Claims
@@ -71,52 +67,52 @@ try-starts-claims t = (
 )
 
 judge-returns : (t : ℕ) → judge-lts.Need-returns (judge-claims t) (judge-at t) judge.Post
-judge-returns t c = let s = c .before .before in (s .pre .1 .1 .1, λ l can. try-stopped (l .call-rows .net) _ _ _ _ _ (s .args .walk) (c .if1 .taken))
+judge-returns t c = let s = c .before in (s .pre .1 .1 .1, λ l can. try-stopped (l .call-rows .net) _ _ _ _ _ (s .args .walk) (c .if1 .taken))
 
 judge-has-ended-requires : (t : ℕ) → judge-lts.Need-has-ended-requires (judge-claims t) (judge-at t) judge.Post
 judge-has-ended-requires t c κs = tt
 
 judge-returns-2 : (t : ℕ) → judge-lts.Need-returns-2 (judge-claims t) (judge-at t) judge.Post
-judge-returns-2 t c = let s = c .before .before .before .before in (
+judge-returns-2 t c = let s = c .before .before .before in (
   s .pre .1 .1 .1,
   λ l can. try-ended (l .call-rows .net) _ _ _ _ _ (s .args .walk) (c .before .before .if1 .left) (sym (c .before .has-ended .ensures) ∙ c .if2 .taken),
 )
 
 judge-returns-3 : (t : ℕ) → judge-lts.Need-returns-3 (judge-claims t) (judge-at t) judge.Post
-judge-returns-3 t c = let s = c .before .before .before .before .before .before .before in (
+judge-returns-3 t c = let s = c .before .before .before .before .before .before in (
   s .pre .1 .1 .1,
   λ l can. try-at-budget (l .call-rows .net) _ _ _ _ _ (s .args .walk) (c .before .before .before .before .before .if1 .left) (sym (c .before .before .before .before .has-ended .ensures) ∙ c .before .before .before .if2 .left) (c .if3 .taken),
 )
 
 judge-add-next : (t : ℕ) → judge-lts.Need-add-next (judge-claims t) (judge-at t) judge.Post
-judge-add-next t c = let s = c .before .before .before .before .before .before .before .before in omega (arith, s .pre .1 .1 .1, c .before .before .struct-known2 .given, c .before .if3 .left)
+judge-add-next t c = let s = c .before .before .before .before .before .before .before in omega (arith, s .pre .1 .1 .1, c .before .before .struct-known2 .given, c .before .if3 .left)
 
 judge-cut-of-requires : (t : ℕ) → judge-lts.Need-cut-of-requires (judge-claims t) (judge-at t) judge.Post
 judge-cut-of-requires t c κs = tt
 
 judge-place-requires : (t : ℕ) → judge-lts.Need-place-requires (judge-claims t) (judge-at t) judge.Post
-judge-place-requires t c κs = let s = c .before .before .before .before .before .before .before .before .before in (s .pre .1 .0 .0, can-place (s .pre .1 .0 .1) _ (s .pre .1 .1 .0))
+judge-place-requires t c κs = let s = c .before .before .before .before .before .before .before .before in (s .pre .1 .0 .0, can-place (s .pre .1 .0 .1) _ (s .pre .1 .1 .0))
 
 judge-stands-requires : (t : ℕ) → judge-lts.Need-stands-requires (judge-claims t) (judge-at t) judge.Post
 judge-stands-requires t c κs = refl
 
 judge-add-line : (t : ℕ) → judge-lts.Need-add-line (judge-claims t) (judge-at t) judge.Post
-judge-add-line t c = let s = c .before .before .before .before .before .before .before .before .before .before .before .before .before .before .before .before in omega (arith, s .pre .1 .0 .1 .stated, s .pre .1 .0 .1 .last-of, c .before .if5 .taken, s .pre .1 .0 .0 .call-rows .valid .lines)
+judge-add-line t c = let s = c .before .before .before .before .before .before .before .before .before .before .before .before .before .before .before in omega (arith, s .pre .1 .0 .1 .stated, s .pre .1 .0 .1 .last-of, c .before .if5 .taken, s .pre .1 .0 .0 .call-rows .valid .lines)
 
-judge-mul-t21 : (t : ℕ) → judge-lts.Need-mul-t21 (judge-claims t) (judge-at t) judge.Post
-judge-mul-t21 t c = let s = c .before .before .before .before .before .before .before .before .before .before .before .before .before .before .before .before in omega (arith, s .pre .1 .0 .1 .stated, s .pre .1 .0 .1 .last-of, c .before .if5 .taken, s .pre .1 .0 .0 .call-rows .valid .lines)
+judge-mul-t20 : (t : ℕ) → judge-lts.Need-mul-t20 (judge-claims t) (judge-at t) judge.Post
+judge-mul-t20 t c = let s = c .before .before .before .before .before .before .before .before .before .before .before .before .before .before .before in omega (arith, s .pre .1 .0 .1 .stated, s .pre .1 .0 .1 .last-of, c .before .if5 .taken, s .pre .1 .0 .0 .call-rows .valid .lines)
 
-judge-element-copy-out-t24 : (t : ℕ) → judge-lts.Need-element-copy-out-t24 (judge-claims t) (judge-at t) judge.Post
-judge-element-copy-out-t24 t c = let s = c .before .before .before .before .before .before .before .before .before .before .before .before .before .before .before .before in omega (arith, s .pre .1 .0 .1 .stated, s .pre .1 .0 .1 .last-of, c .before .if5 .taken, s .pre .1 .0 .0 .call-rows .valid .lines)
+judge-element-copy-out-t23 : (t : ℕ) → judge-lts.Need-element-copy-out-t23 (judge-claims t) (judge-at t) judge.Post
+judge-element-copy-out-t23 t c = let s = c .before .before .before .before .before .before .before .before .before .before .before .before .before .before .before in omega (arith, s .pre .1 .0 .1 .stated, s .pre .1 .0 .1 .last-of, c .before .if5 .taken, s .pre .1 .0 .0 .call-rows .valid .lines)
 
-judge-cast-t26 : (t : ℕ) → judge-lts.Need-cast-t26 (judge-claims t) (judge-at t) judge.Post
-judge-cast-t26 t c = let s = c .before .before .before .before .before .before .before .before .before .before .before .before .before .before .before .before .before in
+judge-cast-t25 : (t : ℕ) → judge-lts.Need-cast-t25 (judge-claims t) (judge-at t) judge.Post
+judge-cast-t25 t c = let s = c .before .before .before .before .before .before .before .before .before .before .before .before .before .before .before .before in
     let l = s .pre .1 .0 .0 in
     let next : s .args .due .line + 1 < length (l .call-rows .net .periods) = omega (arith, s .pre .1 .0 .1 .last-of, c .before .before .if5 .taken) in
     omega (arith, l .count-of (s .args .due .line + 1) next, startCounts-low (l .call-rows .net) (l .call-rows .valid) (s .args .due .line + 1) next)
 
 judge-try-starts-requires : (t : ℕ) → judge-lts.Need-try-starts-requires (judge-claims t) (judge-at t) judge.Post
-judge-try-starts-requires t c κs = let s = c .before .before .before .before .before .before .before .before .before .before .before .before .before .before .before .before .before in
+judge-try-starts-requires t c κs = let s = c .before .before .before .before .before .before .before .before .before .before .before .before .before .before .before .before in
     let l = s .pre .1 .0 .0 in
     let more = placed-of-stands (s .pre .1 .0 .1) (s .args .walk) (c .before .before .before .before .before .before .before .before .cut-of .ensures)
     (c .before .before .before .before .before .before .before .place .ensures l (can-place (s .pre .1 .0 .1) (s .args .due .start) (s .pre .1 .1 .0)))
@@ -131,7 +127,7 @@ judge-try-starts-requires t c κs = let s = c .before .before .before .before .b
     )
 
 judge-returns-4 : (t : ℕ) → judge-lts.Need-returns-4 (judge-claims t) (judge-at t) judge.Post
-judge-returns-4 t c = let s = c .before .before .before .before .before .before .before .before .before .before .before .before .before .before .before .before .before .before in (
+judge-returns-4 t c = let s = c .before .before .before .before .before .before .before .before .before .before .before .before .before .before .before .before .before in (
   c .try-starts .ensures .0,
   λ l can.
       let stands = not-true _ (sym (c .before .before .before .before .before .before .before .stands .ensures) ∙ c .before .before .before .before .before .before .if4 .taken) in
@@ -144,22 +140,18 @@ judge-returns-4 t c = let s = c .before .before .before .before .before .before 
       (c .try-starts .ensures .1 l (can-try-next can more (c .before .before .before .if5 .taken))),
 )
 
-judge-with-best-requires : (t : ℕ) → judge-lts.Need-with-best-requires (judge-claims t) (judge-at t) judge.Post
-judge-with-best-requires t c κs = tt
-
 judge-returns-5 : (t : ℕ) → judge-lts.Need-returns-5 (judge-claims t) (judge-at t) judge.Post
-judge-returns-5 t c = let s = c .before .before .before .before .before .before .before .before .before .before .before .before .before .before .before .before in (
-  omega (arith, s .pre .1 .1 .1, c .before .before .before .before .before .before .before .before .before .if3 .left, ap (λ (w : code.Walk). w .tries) (c .with-best .ensures)),
+judge-returns-5 t c = let s = c .before .before .before .before .before .before .before .before .before .before .before .before .before .before .before in (
+  omega (arith, s .pre .1 .1 .1, c .before .before .before .before .before .before .before .before .before .if3 .left),
   λ l can.
       let stands = not-true _ (sym (c .before .before .before .before .before .stands .ensures) ∙ c .before .before .before .before .if4 .taken) in
       let more = placed-of-stands can (s .args .walk) (c .before .before .before .before .before .before .before .cut-of .ensures) (c .before .before .before .before .before .before .place .ensures l (can-place can (s .args .due .start) (s .pre .1 .1 .0))) stands in
-      ap (stateOf (l .call-rows .net)) (c .with-best .ensures)
-      ∙ judged-best can more (s .args .walk) (c .before .before .before .before .before .before .before .before .before .before .before .before .before .before .if1 .left) (sym (c .before .before .before .before .before .before .before .before .before .before .before .before .before .has-ended .ensures) ∙ c .before .before .before .before .before .before .before .before .before .before .before .before .if2 .left) (c .before .before .before .before .before .before .before .before .before .if3 .left)
+      judged-best can more (s .args .walk) (c .before .before .before .before .before .before .before .before .before .before .before .before .before .before .if1 .left) (sym (c .before .before .before .before .before .before .before .before .before .before .before .before .before .has-ended .ensures) ∙ c .before .before .before .before .before .before .before .before .before .before .before .before .if2 .left) (c .before .before .before .before .before .before .before .before .before .if3 .left)
       stands (c .before .if5 .left),
 )
 
 judge-returns-6 : (t : ℕ) → judge-lts.Need-returns-6 (judge-claims t) (judge-at t) judge.Post
-judge-returns-6 t c = let s = c .before .before .before .before .before .before .before .before .before .before .before .before in (
+judge-returns-6 t c = let s = c .before .before .before .before .before .before .before .before .before .before .before in (
   omega (arith, s .pre .1 .1 .1, c .before .before .before .before .before .if3 .left),
   λ l can.
       dropped-or-given-up can (s .args .walk) (c .before .before .before .cut-of .ensures) (c .before .before .before .before .before .before .before .before .before .before .if1 .left) (sym (c .before .before .before .before .before .before .before .before .before .has-ended .ensures) ∙ c .before .before .before .before .before .before .before .before .if2 .left) (c .before .before .before .before .before .if3 .left)
@@ -212,12 +204,11 @@ pub +judge+try-starts-spec : {M : Type 1} → statement M
     (judge-place-requires t)
     (judge-stands-requires t)
     (judge-add-line t)
-    (judge-mul-t21 t)
-    (judge-element-copy-out-t24 t)
-    (judge-cast-t26 t)
+    (judge-mul-t20 t)
+    (judge-element-copy-out-t23 t)
+    (judge-cast-t25 t)
     (judge-try-starts-requires t)
     (judge-returns-4 t)
-    (judge-with-best-requires t)
     (judge-returns-5 t)
     (judge-returns-6 t))
     λ t. try-starts-lts.spec
