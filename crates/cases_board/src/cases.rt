@@ -4,53 +4,86 @@ use crate::shown::NO_TIME;
 use crate::shown::PLACES;
 use crate::shown::show_answer;
 use crate::shown::show_rows;
-use cases_typed::name_length;
-use cases_typed::put_hex;
+use cases_typed::lines::behind;
+use cases_typed::lines::is_remark;
+use cases_typed::lines::place_from;
+use cases_typed::lines::put_file;
+use cases_typed::lines::put_sizes;
+use cases_typed::lines::put_starts;
 use cases_typed::show::show_name;
 ghost use Prim.Native.Nat.{_≤_};
 
-// A case: its name, a colon, and a file of at most 64 bytes in hexadecimal, as the paper writes files; the starts of its sheet; and what is asked:
-// a stop, the first minute, and how many minutes. Both rows have 32 places.
-pub fn case(text: &[u8], sheet: &[i32], stop: u32, from: i32, minutes: u32) {
-    let colon = name_length(text);
-    named(&text[..colon], &text[colon..], sheet, stop, from, minutes);
+// Each line of a text is a case, but for empty ones and remarks.
+pub fn all(text: &[u8]) {
+    let mut at = 0;
+    while at < text.len() {
+        if text[at] == b'\n' {
+            at += 1;
+        } else {
+            let end = place_from(text, at + 1, b'\n');
+            line(&text[at..end]);
+            at = end;
+        }
+    }
 }
 
-// A case whose name stands by itself.
-pub fn named(name: &[u8], text: &[u8], sheet: &[i32], stop: u32, from: i32, minutes: u32) {
-    lent(name, text, sheet, stop, from, minutes, PLACES, PLACES);
+fn line(text: &[u8]) {
+    if is_remark(text) {
+        return;
+    }
+    let colon = place_from(text, 0, b':');
+    case(&text[0..colon], &text[colon..]);
 }
 
-// A case whose rows have so many places.
-pub fn lent(
-    name: &[u8],
-    text: &[u8],
-    sheet: &[i32],
-    stop: u32,
-    from: i32,
-    minutes: u32,
-    time_places: usize,
-    line_places: usize,
-)
-    requires { ⌜ («time_places» ≤ 32) × («line_places» ≤ 32) ⌝ }
-{
-    let mut file = [0u8; 64];
-    let end = put_hex(text, &mut file, 0);
+// A case: its name, and its file; behind strokes the starts of its sheet, the first minute, and what is asked.
+fn case(name: &[u8], text: &[u8]) {
+    let stroke = place_from(text, 0, b'|');
+    let mut file = [0u8; 2048];
+    let end = put_file(&text[0..stroke], &mut file);
+    on_sheet(name, &file[0..end], &text[behind(text, stroke)..]);
+}
+
+fn on_sheet(name: &[u8], file: &[u8], text: &[u8]) {
+    let stroke = place_from(text, 0, b'|');
+    let mut sheet = [0i32; 32];
+    let count = put_starts(&text[0..stroke], &mut sheet);
+    from_minute(name, file, &sheet[0..count], &text[behind(text, stroke)..]);
+}
+
+fn from_minute(name: &[u8], file: &[u8], sheet: &[i32], text: &[u8]) {
+    let stroke = place_from(text, 0, b'|');
+    let mut minute = [0i32; 32];
+    put_starts(&text[0..stroke], &mut minute);
+    ask(name, file, sheet, minute[0], &text[behind(text, stroke)..]);
+}
+
+// What is asked: the stop, how many minutes, and how many places the rows of times and of lines have, 32 where nothing is said.
+fn ask(name: &[u8], file: &[u8], sheet: &[i32], from: i32, text: &[u8]) {
+    let mut sizes = [32u32; 8];
+    put_sizes(text, &mut sizes);
+    let time_places = places(sizes[2]);
+    let line_places = places(sizes[3]);
     show(
         name,
-        &file[..end],
+        file,
         sheet,
-        stop,
+        sizes[0],
         from,
-        minutes,
+        sizes[1],
         time_places,
         line_places,
     );
 }
 
+fn places(size: u32) -> usize
+    ensures { λ r. ⌜ r ≤ 32 ⌝ }
+{
+    if size <= 32 { size as usize } else { PLACES }
+}
+
 // The answer for a file and rows that are the first places of 32, on a line of its own. All 32 are shown, so that what is written behind a row
 // shows too.
-pub fn show(
+fn show(
     name: &[u8],
     file: &[u8],
     sheet: &[i32],

@@ -1,5 +1,6 @@
 // Network files as the papers write them, for the programs that run cases: a name, a colon, and bytes in pairs of hexadecimal digits.
 pub mod large;
+pub mod lines;
 pub mod papers;
 pub mod show;
 
