@@ -1,27 +1,55 @@
-// One case: a file and a sheet are given to the rate call, and a line says what it answers.
-use cases_typed::large::large_file;
-use cases_typed::put_hex;
+// One case: a file and a sheet are given to the rate call or the gaps call, and a line says what it answers.
+use crate::gap_rows::show_gaps;
+use cases_typed::lines::behind;
+use cases_typed::lines::is_remark;
+use cases_typed::lines::place_from;
+use cases_typed::lines::put_file;
+use cases_typed::lines::put_starts;
 use cases_typed::show::show_name;
 use cases_typed::show::show_rating;
 use cases_typed::show::show_refusal;
 use libc::STDOUT_FILENO;
 use network::RateAnswer;
-ghost use Prim.Native.Nat.{_<_, _≤_};
 
-// A case: its name, a file of at most 64 bytes in hexadecimal, as the paper writes files, and the starts of its sheet.
-pub fn case(name: &[u8], text: &[u8], sheet: &[i32]) {
-    let mut file = [0u8; 64];
-    let end = put_hex(text, &mut file, 0);
-    show(name, &file[..end], sheet);
+// Each line of a text is a case, but for empty ones and remarks.
+pub fn all(text: &[u8]) {
+    let mut at = 0;
+    while at < text.len() {
+        if text[at] == b'\n' {
+            at += 1;
+        } else {
+            let end = place_from(text, at + 1, b'\n');
+            line(&text[at..end]);
+            at = end;
+        }
+    }
 }
 
-// A case whose file has so many lines of one period and so many calls, as `large_file` has them, and the end.
-pub fn large_case(name: &[u8], lines: usize, period: u16, calls: usize, sheet: &[i32])
-    requires { ⌜ (0 < lines) × (lines ≤ 16) × (calls ≤ 256) ⌝ }
-{
-    let mut file = large_file(lines, lines, period, false);
-    let end = put_hex(b"45", &mut file, 3 * lines + 5 * calls);
-    show(name, &file[..end], sheet);
+fn line(text: &[u8]) {
+    if is_remark(text) {
+        return;
+    }
+    let colon = place_from(text, 0, b':');
+    case(&text[0..colon], &text[colon..]);
+}
+
+// A case: its name, and its file; behind a stroke the starts of its sheet; and for the gaps call, behind one more, how many places are shown.
+fn case(name: &[u8], text: &[u8]) {
+    let stroke = place_from(text, 0, b'|');
+    let mut file = [0u8; 2048];
+    let end = put_file(&text[0..stroke], &mut file);
+    on_sheet(name, &file[0..end], &text[behind(text, stroke)..]);
+}
+
+fn on_sheet(name: &[u8], file: &[u8], text: &[u8]) {
+    let stroke = place_from(text, 0, b'|');
+    let mut sheet = [0i32; 32];
+    let count = put_starts(&text[0..stroke], &mut sheet);
+    if stroke < text.len() {
+        show_gaps(name, file, &sheet[0..count], &text[stroke + 1..]);
+    } else {
+        show(name, file, &sheet[0..count]);
+    }
 }
 
 // The rate call's answer for a file and a sheet, on a line of its own.
