@@ -3,6 +3,7 @@ use cases_typed::show::show_number;
 use cases_typed::show::show_rating;
 use cases_typed::show::show_refusal;
 use cases_typed::show::show_row;
+use examination::KeyAnswer;
 use examination::MarkAnswer;
 use libc::STDOUT_FILENO;
 
@@ -48,8 +49,17 @@ pub fn show_mark(answer: MarkAnswer) {
     }
 }
 
+// What the mark by a key answers.
+pub fn show_key(answer: KeyAnswer) {
+    match answer {
+        KeyAnswer::Marked { mark, remainder } => show_hundred(mark, remainder),
+        KeyAnswer::Refused { number, place } => show_refusal(number, place),
+    }
+    io::write_all(STDOUT_FILENO, b"\n");
+}
+
 // A mark out of a hundred with its remainder.
-pub fn show_hundred(mark: u32, remainder: u32) {
+fn show_hundred(mark: u32, remainder: u32) {
     io::write_all(STDOUT_FILENO, b" mark");
     show_number(mark as u64);
     io::write_all(STDOUT_FILENO, b" remainder");

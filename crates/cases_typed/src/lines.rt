@@ -80,8 +80,8 @@ pub fn put_sizes(text: &[u8], row: &mut [u32]) -> usize
     count
 }
 
-// The file that a text writes: its bytes in hexadecimal, or behind a `=` how many lines of which period it has, and how many calls, as `large_file` has
-// them, and the end. Answers how many bytes it has.
+// The file that a text writes: its bytes in hexadecimal; or behind a `=` how many lines it has, how many of them call, which period they have and how
+// many calls, as `large_file` has them, and behind a comma the bytes that follow. Answers how many bytes it has.
 pub fn put_file(text: &[u8], file: &mut [u8; 2048]) -> usize
     ensures { λ r. ⌜ r ≤ length (now (file .exit)) ⌝ }
 {
@@ -89,21 +89,36 @@ pub fn put_file(text: &[u8], file: &mut [u8; 2048]) -> usize
     if sign == text.len() {
         return put_hex(text, file, 0);
     }
+    let comma = place_from(text, sign + 1, b',');
     let mut sizes = [0u32; 8];
-    put_sizes(&text[sign + 1..], &mut sizes);
-    put_large(file, sizes[0], sizes[1], sizes[2])
+    put_sizes(&text[sign + 1..comma], &mut sizes);
+    put_large(
+        file,
+        sizes[0],
+        sizes[1],
+        sizes[2],
+        sizes[3],
+        &text[behind(text, comma)..],
+    )
 }
 
-fn put_large(file: &mut [u8; 2048], lines: u32, period: u32, calls: u32) -> usize
+fn put_large(
+    file: &mut [u8; 2048],
+    lines: u32,
+    callers: u32,
+    period: u32,
+    calls: u32,
+    text: &[u8],
+) -> usize
     ensures { λ r. ⌜ r ≤ length (now (file .exit)) ⌝ }
 {
-    if 0 < lines {
-        if lines <= 16 {
+    if lines <= 16 {
+        if 0 < callers {
             if period <= 1440 {
                 if calls <= 256 {
                     let count = lines as usize;
-                    *file = large_file(count, count, period as u16, false);
-                    return put_hex(b"45", file, 3 * count + 5 * calls as usize);
+                    *file = large_file(count, callers as usize, period as u16, false);
+                    return put_hex(text, file, 3 * count + 5 * calls as usize);
                 }
             }
         }
