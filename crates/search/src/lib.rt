@@ -89,6 +89,9 @@ impl Ordered {
 
     // 2^40, over which a reciprocal is taken: a raised difference of arrivals times its divisor is below it.
     pub const RECIPROCAL_SCALE: u64 = 1099511627776;
+
+    // One less than that: one more than a quotient of it is a reciprocal rounded up.
+    pub const BELOW_SCALE: u64 = 1099511627775;
 }
 
 // A partial timetable: the starts of the placed lines, the upper values of the stops, and the upper rating that they make.
