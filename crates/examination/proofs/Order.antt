@@ -1,6 +1,6 @@
 -- The order, clause by clause: each line names the theorems that show the clause. They stand on the pages of the three crates. A theorem is about every
 -- call that keeps the contract in src/, which every call does, since every function is proved to meet its contract and to return; or, where its words name
--- no call, about the definitions of specs/ by which contracts answer. Assumes nothing.
+-- no call, about the definitions of specs/ by which contracts answer (`every-turn`: about the invariant of the reader's loop). Assumes nothing.
 
 -- ---- Demand 1
 
@@ -42,8 +42,8 @@ pub use Rattle.examination.proofs.Demands.{better-both-fit}
 pub use Rattle.examination.proofs.ExportBetter.{better-export-file-refused, better-export-neither-fits, better-export-only-first-fits}
 pub use Rattle.examination.proofs.ExportBetter.{better-export-only-second-fits, better-export-both-fit}
 pub use Rattle.examination.proofs.ExportBetter.{better-export-returns, better-export-names-the-part}
--- .. by evaluation from bytes, every number written out: grounds 1 to 14 at their places, each before the next, and the limits of files; 15 after the
--- file's own ground; and every call answers and leaves its rows as a case of it says
+-- .. by evaluation from bytes, every number written out: grounds 1 to 14 at their places, each before the next where both can apply, and the limits of
+-- files; 15 after the file's own ground; and every call of the network answers and leaves its rows as a case of it says
 pub use Rattle.network.proofs.Paper.{command-cases-hold, line-cases-hold, call-cases-hold, full-cases-hold, sheet-cases-hold}
 pub use Rattle.network.proofs.Paper.{read-as-case, rate-as-case, weighted-as-case, gaps-as-case, classes-as-case, archive-as-case, board-as-case}
 -- .. of start rows 16 at 0, and a refused file's own ground before it
@@ -158,7 +158,7 @@ pub use Rattle.examination.proofs.ExportSameNetwork.{same-network-hundr
 -- "A line may now call twice at a stop; ground 9 is for the third. A gap is taken over pairs of different calls, also of one line, whose g is its period. A stop
 -- counts as lone only with one call. .. Alike stops have equally many calls of each line, matched in order of offset, and are compared over every pair of calls,
 -- also of one line": of every accepted file; ground 9 by `read-demand-1` and `call-cases-hold`, ratings and classes by demands 2 and 3, under these words too;
--- without loops everything is as before
+-- without loops gaps, ratings and alike stops are as before
 pub use Rattle.network.proofs.LoopRoutes.{loop-routes}
 -- "A line's own pair caps its stop at its exact gap, and the cap's sum has one term per call": under demand 2 by the tries that they lead to, `caps-by-tries`
 pub use Rattle.search.proofs.Demands.{caps-bound}
@@ -242,8 +242,8 @@ pub use Rattle.examination.proofs.ExportBoard.{board-export-unserved, b
 -- At most 32 arrivals for each minute, windows side by side, and starts and window moved together
 pub use Rattle.network.proofs.StopBoard.{board-unserved, board-no-minutes, board-length-le, board-side-by-side, board-moved, board-rows-moved}
 -- "Ground 15 precedes ground 8, which here has place 0. (22: length above 10,080, after 8; 23: a row shorter than the list, after 22; both at place 0.)": with
--- every other ground under demand 1, in this order (`BoardRefuses` of network/specs/Refusals.antt); 8 at place 0 is never a file's own, and of the export
--- 524,288 exactly where the sheet fits and the stop is above 63
+-- every other ground under demand 1, in this order (`BoardRefuses` of network/specs/Refusals.antt); 8 at place 0 is never a file's own, and of the export,
+-- on an accepted file, 524,288 exactly where the sheet fits and the stop is above 63
 pub use Rattle.network.proofs.StopBoard.{board-eight-at-zero}
 pub use Rattle.examination.proofs.ExportBoard.{board-export-eight-at-zero}
 -- The request's boards by evaluation; its grounds, each before the next, and P1's hour
