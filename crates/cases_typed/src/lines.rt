@@ -2,7 +2,7 @@
 use crate::digit;
 use crate::large::large_file;
 use crate::put_hex;
-ghost use Prim.Native.Nat.{_<_, _≤_};
+ghost use Prim.Native.Nat.{_≤_};
 ghost use lib.ListN.{length};
 
 // The first place from one on that has this byte, or the text's length where none has.
