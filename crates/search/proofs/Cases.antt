@@ -1,9 +1,13 @@
 -- The cases P1 to P9 of document 01, as one theorem over a list of cases; and as one each, cases with a wanted gap (document 02, A.3), caps by the
--- tries they lead to, demand 3's bounds, and start rows that both calls refuse: by the definitions, from the files' bytes. Each side computes.
--- Assumes nothing.
+-- tries they lead to, one line alone, demand 3's bounds, and start rows that both calls refuse: by the definitions, from the files' bytes. Each side
+-- computes. And every call answers and leaves what is evaluated here, by its contract. Assumes nothing.
 use Prim.Native.Nat.{ℕ}
-use mathlib.Core.Path.{_≡_, refl}
+use mathlib.Core.Path.{_≡_, refl, _∙_}
 use mathlib.Core.List.{List, [], _∷_}
+use borrow.Fn.World.{ArgsD, ResD}
+use borrow.Fn.Kinds.{endedOf}
+use contract.Lifetimes.{Lfts}
+use denote.Triple.Clauses.{AtExit}
 use lib.IntN.{ℤ, pos, negsuc}
 use lib.ListN.{take, replicate, length}
 use Rattle.network.specs.Lists.{any, keep, allBelow, countBelow, below, table, sumOf, leastOf, pairsOf, leastFrom}
@@ -21,9 +25,15 @@ use Rattle.network.specs.Loops.{ownGap}
 use Rattle.search.specs.Caps.{halfOf, pairCap, pairCaps, evenSpacing, capOfCalls, cap, placedCalls, upperValue, upperRating}
 use Rattle.search.specs.Walk.{isOver, tryMade, stop, becomesBest, unless, stopIf, oneTry, eachStart, walk, mostTries}
 use Rattle.search.specs.Search.{SearchOutcome, finished, stopped, stoppedWithNone, refusal, demandedBound, startCounts, notAbove, aboveBest, walked, triesBound, walkOutcome, outcomeOf}
-use Rattle.search.specs.Search.{onStartRow, rowAfterWalk, searchOutcome, startRowAfter}
-use Rattle.search.specs.Wanted.{WantedOutcome, atLeast, reachedBy, reachedOf, wantedOutcome, wantedRowAfter}
+use Rattle.search.specs.Search.{onStartRow, rowAfterWalk, searchOutcome, startRowAfter, searchAnswer}
+use Rattle.search.specs.Wanted.{WantedOutcome, atLeast, reachedBy, reachedOf, wantedOutcome, wantedRowAfter, wantedAnswer}
 use Rattle.search.specs.Wanted as wanted
+use Rattle.search.proofs.entry.search as search
+use Rattle.search.proofs.entry.search.Kinds as search-kinds
+use Rattle.search.proofs.entry.search.Reads as search-contract
+use Rattle.search.proofs.wanted.wanted as wanting
+use Rattle.search.proofs.wanted.wanted.Kinds as wanted-kinds
+use Rattle.search.proofs.wanted.wanted.Reads as wanted-contract
 
 -- Opens every definition
 opened : ℕ
@@ -64,6 +74,10 @@ loopBeside =
 pub fourOf60 : List ℕ
 fourOf60 =
     0x4C ∷ 0 ∷ 60 ∷ 0x4C ∷ 0 ∷ 60 ∷ 0x4C ∷ 0 ∷ 60 ∷ 0x4C ∷ 0 ∷ 60 ∷ 0x43 ∷ 0 ∷ 0 ∷ 0 ∷ 0 ∷ 0x43 ∷ 1 ∷ 0 ∷ 0 ∷ 0 ∷ 0x43 ∷ 2 ∷ 0 ∷ 0 ∷ 0 ∷ 0x43 ∷ 3 ∷ 0 ∷ 0 ∷ 0 ∷ 0x45 ∷ []
+
+-- One line of 15
+pub oneLine : List ℕ
+oneLine = 0x4C ∷ 0 ∷ 15 ∷ 0x43 ∷ 0 ∷ 0 ∷ 0 ∷ 8 ∷ 0x45 ∷ []
 
 -- P1 without its last byte
 pub unended : List ℕ
@@ -158,13 +172,28 @@ pub caps-by-tries : Every capCases
 unfolding opened threeLines loopAlone loopBeside Holds Every capCases
 caps-by-tries = ((refl, refl), ((refl, refl), ((refl, refl), tt)))
 
--- Demand 3's bound, 1 + T1 + T1×T2 + .. over the periods after the first
+-- One line: one try, at start 0, and without a budget none. And P8 a try short of its end, which stops with the best that it ends with
+pub budgetCases : List Case
+budgetCases =
+    searches oneLine 1 (finished 15 15 1) (pos 0 ∷ []) ∷
+    searches oneLine 0 (stoppedWithNone 0) (pos 77 ∷ []) ∷
+    wants oneLine 15 1 (wanted.found 1) (pos 0 ∷ []) ∷
+    wants oneLine 16 1 (wanted.none 1) (pos 77 ∷ []) ∷
+    wants oneLine 15 0 (wanted.stopped 0) (pos 77 ∷ []) ∷
+    searches p8 432 (stopped 12 42 432) (pos 0 ∷ pos 30 ∷ pos 0 ∷ []) ∷
+    []
+
+pub budgets-by-tries : Every budgetCases
+unfolding opened oneLine p8 Holds Every budgetCases
+budgets-by-tries = ((refl, refl), ((refl, refl), ((refl, refl), ((refl, refl), ((refl, refl), ((refl, refl), tt))))))
+
+-- Demand 3's bound, 1 + T1 + T1×T2 + .. over the periods after the first; 1 for one line
 pub boundCases : List Case
-boundCases = bounds p1 21 ∷ bounds p7 111 ∷ bounds p8 781 ∷ bounds fourOf60 219661 ∷ []
+boundCases = bounds oneLine 1 ∷ bounds p1 21 ∷ bounds p7 111 ∷ bounds p8 781 ∷ bounds fourOf60 219661 ∷ []
 
 pub bounds-by-periods : Every boundCases
-unfolding opened p1 p7 p8 fourOf60 boundOf Holds Every boundCases
-bounds-by-periods = (refl, (refl, (refl, (refl, tt))))
+unfolding opened oneLine p1 p7 p8 fourOf60 boundOf Holds Every boundCases
+bounds-by-periods = (refl, (refl, (refl, (refl, (refl, tt)))))
 
 -- Ground 16 at place 0 where the start row hasn't one place for each line, and a refused file's own ground before it; the row is as found
 pub refusedCases : List Case
@@ -187,3 +216,21 @@ pub start-rows-refused : Every refusedCases
 unfolding opened p1 unended Holds Every refusedCases
 start-rows-refused =
     ((refl, refl), ((refl, refl), ((refl, refl), ((refl, refl), ((refl, refl), ((refl, refl), ((refl, refl), ((refl, refl), ((refl, refl), ((refl, refl), ((refl, refl), ((refl, refl), tt))))))))))))
+
+-- ---- Every call: what is evaluated of what is lent to it, it answers and leaves in the row
+
+module _ (κs : Lfts 2) (a : ArgsD search.signature κs) (r : ResD search.signature κs)
+    (s : AtExit (endedOf 2 search-kinds.ps search-kinds.r) κs) (kept : search-contract.Post κs a r s) where
+  pub search-as-case : {outcome : SearchOutcome} {starts : List ℤ}
+      → (searchOutcome (readFile (a .0 .now)) (length (a .1 .0 .now)) (a .1 .1 .0) ≡ outcome)
+      × (startRowAfter (readFile (a .0 .now)) (a .1 .1 .0) (a .1 .0 .now) ≡ starts)
+      → (searchAnswer r ≡ outcome) × (s .1 .0 .now ≡ starts)
+  search-as-case h = (kept .0 ∙ h .0, kept .1 .0 ∙ h .1)
+
+module _ (κs : Lfts 2) (a : ArgsD wanting.signature κs) (r : ResD wanting.signature κs)
+    (s : AtExit (endedOf 2 wanted-kinds.ps wanted-kinds.r) κs) (kept : wanted-contract.Post κs a r s) where
+  pub wanted-as-case : {outcome : WantedOutcome} {starts : List ℤ}
+      → (wantedOutcome (readFile (a .0 .now)) (length (a .1 .0 .now)) (a .1 .1 .0) (a .1 .1 .1 .0) ≡ outcome)
+      × (wantedRowAfter (readFile (a .0 .now)) (a .1 .1 .0) (a .1 .1 .1 .0) (a .1 .0 .now) ≡ starts)
+      → (wantedAnswer r ≡ outcome) × (s .1 .0 .now ≡ starts)
+  wanted-as-case h = (kept .0 ∙ h .0, kept .1 .0 ∙ h .1)
