@@ -74,6 +74,7 @@ pub record HallHundred (n : Net) (sheet : List ℤ) (budget returned : ℕ) (ans
   pub decided-has-a-mark : returned ≡ 0 → MarkOutOfHundred (getD answer 0 0) (getD answer 2 0) (getD hundred 0 0) (getD hundred 1 0)
   -- undecided: none, which is 0 in both places
   pub undecided-has-none : returned ≡ 1 → (getD hundred 0 0 ≡ 0) × (getD hundred 1 0 ≡ 0)
+  pub two-numbers : length hundred ≡ 2
 
 decided-numbers : {n : Net} {sheet : List ℤ} {budget : ℕ} (o : MarkOutcome) (before before′ : List ℕ)
     → ((number place : ℕ) → o ≡ sheets.refusal number place → ⊥) → MarkMeans n sheet budget o → markStatus o ≡ 0
@@ -89,6 +90,13 @@ unfolding markStatus hundredRow
 undecided-numbers (decided l u m v b q r t) before answers e = absurd (omega (arith, e))
 undecided-numbers (undecided l u t) before answers e = (refl, refl)
 undecided-numbers (sheets.refusal number place) before answers e = absurd (answers number place refl)
+
+two-in-the-row : (o : MarkOutcome) (before : List ℕ) → ((number place : ℕ) → o ≡ sheets.refusal number place → ⊥)
+    → length (hundredRow o before) ≡ 2
+unfolding hundredRow
+two-in-the-row (decided l u m v b q r t) before answers = refl
+two-in-the-row (undecided l u t) before answers = refl
+two-in-the-row (sheets.refusal number place) before answers = absurd (answers number place refl)
 
 hundred-row-as-found : {o : MarkOutcome} {number place : ℕ} (row : List ℕ) → o ≡ sheets.refusal number place → hundredRow o row ≡ row
 unfolding hundredRow
@@ -159,6 +167,7 @@ module _ (κs : Lfts 4) (a : ArgsD hundred.signature κs) (r : ResD hundred.sign
         decided-has-a-mark = λ e.
             rw (kept .1 .0, kept .1 .1 .0) (decided-numbers o (a .1 .1 .1 .0 .now) (a .1 .1 .1 .1 .0 .now) answers means (sym (kept .0) ∙ e));
         undecided-has-none = λ e. rw (kept .1 .1 .0) (undecided-numbers o (a .1 .1 .1 .1 .0 .now) answers (sym (kept .0) ∙ e));
+        two-numbers = ap length (kept .1 .1 .0) ∙ two-in-the-row o (a .1 .1 .1 .1 .0 .now) answers;
       }
 
   -- Beside a search of one file with one budget, as a mark
@@ -315,12 +324,14 @@ module _ (κs : Lfts 4) (a : ArgsD by-key.signature κs) (r : ResD by-key.signat
         let (e, row) = answered (a .1 .1 .1 .0 .now) (kept .0) (kept .1 .0) is in
         (e, same-values (row ∙ is))
 
-    -- It divides the least gap of the sheet whose bytes are lent by that of the key whose bytes are, both over all trips
+    -- It divides the least gap of the sheet whose bytes are lent by that of the key whose bytes are, both over all trips; the row has two places
     pub by-key-export-divides : {least sum best bestSum : ℕ} → IsRating n (starts (a .1 .0 .now)) least sum
         → IsRating n (starts (a .1 .1 .0 .now)) best bestSum
-        → (r ≡ 0) × Divided least best (getD (s .1 .1 .1 .0 .now) 0 0) (getD (s .1 .1 .1 .0 .now) 1 0)
+        → (r ≡ 0)
+        × (length (s .1 .1 .1 .0 .now) ≡ 2)
+        × Divided least best (getD (s .1 .1 .1 .0 .now) 0 0) (getD (s .1 .1 .1 .0 .now) 1 0)
     by-key-export-divides {least} {sum} {best} {bestSum} p q =
-        let (e, row) = told p q in (e, rw row (divided least best (IsRating-range valid p .0) (IsRating-range valid q .0)))
+        let (e, row) = told p q in (e, ap length row, rw row (divided least best (IsRating-range valid p .0) (IsRating-range valid q .0)))
 
 -- ---- A hall's sheets by one search
 
@@ -379,11 +390,13 @@ module _ (κs : Lfts 3) (a : ArgsD searching.signature κs) (r : ResD searching.
     row-is : (r′ ≡ 0) × (s′ .1 .1 .1 .0 .now ≡ markOf least (getD (s .1 .1 .1 .0 .now) 0 0) ∷ remainderOf least (getD (s .1 .1 .1 .0 .now) 0 0) ∷ [])
     row-is = beside-search κs′ a′ r′ s′ kept′ (is .on-file) (is .key-lent) (is .fit) (is .rated)
 
-    -- Beside the starts of a finished search a sheet has its mark out of a hundred, by the best least gap that the search reports
+    -- Beside the starts of a finished search a sheet has its mark out of a hundred, by the best least gap that the search reports; the row has two places
     pub by-key-export-of-search : (r′ ≡ 0)
+        × (length (s′ .1 .1 .1 .0 .now) ≡ 2)
         × MarkOutOfHundred least (getD (s .1 .1 .1 .0 .now) 0 0) (getD (s′ .1 .1 .1 .0 .now) 0 0) (getD (s′ .1 .1 .1 .0 .now) 1 0)
     by-key-export-of-search = (
       row-is .0,
+      ap length (row-is .1),
       rw (place 0 (row-is .1), place 1 (row-is .1)) (out-of-hundred least (getD (s .1 .1 .1 .0 .now) 0 0) not-above (hall .ranges .0)),
     )
 
