@@ -26,6 +26,10 @@ use Rattle.examination.proofs.better.better.Reads as better-contract
 use Rattle.examination.proofs.marking.mark as mark
 use Rattle.examination.proofs.marking.mark.Kinds as mark-kinds
 use Rattle.examination.proofs.marking.mark.Reads as mark-contract
+-- ---- What each answer of mark tells, and each choice between two sheets
+
+pub use Rattle.examination.proofs.Laws.Answers.{markAnswer-decided, markAnswer-undecided, markAnswer-refused}
+pub use Rattle.examination.proofs.Laws.Answers.{choiceOf-first, choiceOf-second, choiceOf-neither}
 
 -- ---- Every call may be made: none asks anything of what is lent
 

@@ -34,6 +34,9 @@ use Rattle.examination.proofs.by_key.by_key.Reads as by-key-contract
 use Rattle.examination.proofs.marking.mark as marking
 use Rattle.examination.proofs.marking.mark.Kinds as marking-kinds
 use Rattle.examination.proofs.marking.mark.Reads as marking-contract
+-- ---- What each answer of the call by a key tells
+
+pub use Rattle.examination.proofs.Laws.Answers.{keyAnswer-marked, keyAnswer-refused}
 
 -- ---- What is demanded
 

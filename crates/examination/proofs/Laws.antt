@@ -5,3 +5,4 @@ pub mod Hundred
 pub mod Refusals
 pub mod BoardBytes
 pub mod Alike
+pub mod Answers
