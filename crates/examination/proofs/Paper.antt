@@ -1,10 +1,10 @@
 -- The papers' numbers as a host sees them: what each export returns and leaves in its rows on document 01's cases P1 to P9 and on what it refuses, from
 -- bytes and by evaluation, since each side computes. Every number is written out, so that a definition and the code that meets it can't be changed
--- together. And every call of an export returns and leaves what is evaluated here, where it keeps the contract in src/exports.rt, which every call does.
--- Assumes nothing.
-use Prim.Native.Nat.{ℕ}
+-- together at these numbers. And every call of an export returns and leaves what is evaluated here, where it keeps the contract in src/exports.rt, which
+-- every call does. Assumes nothing.
+use Prim.Native.Nat.{ℕ, zero, suc}
 use mathlib.Core.Path.{_≡_, refl, sym, ap₂}
-use mathlib.Core.List.{List, [], _∷_}
+use mathlib.Core.List.{List, [], _∷_, _++_}
 use borrow.Fn.World.{ArgsD, ResD}
 use borrow.Fn.Kinds.{endedOf}
 use contract.Lifetimes.{Lfts}
@@ -245,6 +245,17 @@ noPeriod = 0x4C ∷ 0 ∷ 0 ∷ []
 abbrev at : ℕ → List ℕ → List ℕ
 at start rest = 0 ∷ 0 ∷ 0 ∷ start ∷ rest
 
+-- What is given for each number below `k`, one behind the other, the highest first; so many lines of one minute; four of them, each once at each stop
+pub forEach : (ℕ → List ℕ) → ℕ → List ℕ
+forEach f zero = []
+forEach f (suc k) = f k ++ forEach f k
+
+abbrev pub linesOf1 : ℕ → List ℕ
+linesOf1 k = forEach (λ line. 0x4C ∷ 0 ∷ 1 ∷ []) k
+
+abbrev pub fourLines : List ℕ
+fourLines = linesOf1 4 ++ forEach (λ line. forEach (λ stop. 0x43 ∷ line ∷ stop ∷ 0 ∷ 0 ∷ []) 64) 4
+
 -- ---- Read: 0 and lines, stops, calls and common cycle; a refusal is its number times 65,536 plus its place, and the row stays
 
 pub read-numbers : (ofRead p1 (9 ∷ 9 ∷ 9 ∷ 9 ∷ []) ≡ (0, 2 ∷ 1 ∷ 2 ∷ 60 ∷ []))
@@ -259,10 +270,30 @@ pub read-numbers : (ofRead p1 (9 ∷ 9 ∷ 9 ∷ 9 ∷ []) ≡ (0, 2 ∷ 1 ∷ 2
 unfolding opened
 read-numbers = (refl, refl, refl, refl, refl, refl, refl, refl, refl)
 
--- ---- Rate: P1 and P2, whose -17 is FF FF FF EF; the best starts; 15 at 0 for 0, 4, 7, 9 and 12 bytes beside two lines
+-- The other grounds of a file as one number: 2, 3, 4, 6, 7, 8, 9, 10, 11, 12, 13, 19, 20 and 21; with 1, 5 and 14 above and 15 to 18, 22 and 23 below
+-- every ground is here
+pub refusal-numbers : (ofRead (0 ∷ []) (replicate 4 9) ≡ (131072, replicate 4 9))
+    × (ofRead (0x4C ∷ 0 ∷ []) (replicate 4 9) ≡ (196608, replicate 4 9))
+    × (ofRead (linesOf1 17) (replicate 4 9) ≡ (262192, replicate 4 9))
+    × (ofRead (0x4C ∷ 5 ∷ 0xA0 ∷ 0x4C ∷ 0 ∷ 11 ∷ []) (replicate 4 9) ≡ (393219, replicate 4 9))
+    × (ofRead (0x43 ∷ 0 ∷ 0 ∷ 0 ∷ 0 ∷ []) (replicate 4 9) ≡ (458752, replicate 4 9))
+    × (ofRead (0x4C ∷ 0 ∷ 15 ∷ 0x43 ∷ 0 ∷ 64 ∷ 0 ∷ 0 ∷ []) (replicate 4 9) ≡ (524291, replicate 4 9))
+    × (ofRead (0x4C ∷ 0 ∷ 15 ∷ 0x43 ∷ 0 ∷ 0 ∷ 0 ∷ 0 ∷ 0x43 ∷ 0 ∷ 0 ∷ 0 ∷ 0 ∷ 0x43 ∷ 0 ∷ 0 ∷ 0 ∷ 0 ∷ []) (replicate 4 9) ≡ (589837, replicate 4 9))
+    × (ofRead (fourLines ++ (0x43 ∷ 0 ∷ 0 ∷ 0 ∷ 0 ∷ [])) (replicate 4 9) ≡ (656652, replicate 4 9))
+    × (ofRead (0x4C ∷ 0 ∷ 15 ∷ 0x46 ∷ 0 ∷ 0 ∷ 0 ∷ 0 ∷ []) (replicate 4 9) ≡ (720899, replicate 4 9))
+    × (ofRead (0x4C ∷ 0 ∷ 15 ∷ 0x43 ∷ 0 ∷ 0 ∷ 0xFF ∷ 0xFF ∷ 0x46 ∷ 0 ∷ 0 ∷ 0 ∷ 1 ∷ []) (replicate 4 9) ≡ (786440, replicate 4 9))
+    × (ofRead (0x45 ∷ []) (replicate 4 9) ≡ (851968, replicate 4 9))
+    × (ofRead (0x56 ∷ 2 ∷ 0x46 ∷ 9 ∷ 9 ∷ 0 ∷ 0 ∷ 0x45 ∷ []) (replicate 4 9) ≡ (1245186, replicate 4 9))
+    × (ofRead (0x4C ∷ 0 ∷ 15 ∷ 0x56 ∷ 2 ∷ []) (replicate 4 9) ≡ (1310723, replicate 4 9))
+    × (ofRead (0x56 ∷ 3 ∷ []) (replicate 4 9) ≡ (1376256, replicate 4 9))
+unfolding opened forEach
+refusal-numbers = (refl, refl, refl, refl, refl, refl, refl, refl, refl, refl, refl, refl, refl, refl)
+
+-- ---- Rate: P1, also with a least gap of 0, and P2, whose -17 is FF FF FF EF; the best starts; 15 at 0 for 0, 4, 7, 9 and 12 bytes beside two lines
 
 pub rate-numbers : (starts (0 ∷ 0 ∷ 0 ∷ 0 ∷ 0xFF ∷ 0xFF ∷ 0xFF ∷ 0xEF ∷ []) ≡ pos 0 ∷ negsuc 16 ∷ [])
     × (ofRate p1 (at 0 (at 0 [])) (9 ∷ 9 ∷ []) ≡ (0, 1 ∷ 1 ∷ []))
+    × (ofRate p1 (at 0 (at 1 [])) (9 ∷ 9 ∷ []) ≡ (0, 0 ∷ 0 ∷ []))
     × (ofRate p1 (0 ∷ 0 ∷ 0 ∷ 0 ∷ 0xFF ∷ 0xFF ∷ 0xFF ∷ 0xEF ∷ []) (9 ∷ 9 ∷ []) ≡ (0, 2 ∷ 2 ∷ []))
     × (ofRate p7 (at 0 (at 3 (at 6 []))) (9 ∷ 9 ∷ []) ≡ (0, 3 ∷ 3 ∷ []))
     × (ofRate p8 (at 0 (at 30 (at 0 []))) (9 ∷ 9 ∷ []) ≡ (0, 12 ∷ 42 ∷ []))
@@ -273,7 +304,7 @@ pub rate-numbers : (starts (0 ∷ 0 ∷ 0 ∷ 0 ∷ 0xFF ∷ 0xFF ∷ 0xFF ∷ 0
     × (ofRate p1 (at 0 (at 0 (0 ∷ []))) (9 ∷ 9 ∷ []) ≡ (983040, 9 ∷ 9 ∷ []))
     × (ofRate p1 (at 0 (at 0 (at 0 []))) (9 ∷ 9 ∷ []) ≡ (983040, 9 ∷ 9 ∷ []))
 unfolding opened
-rate-numbers = (refl, refl, refl, refl, refl, refl, refl, refl, refl, refl, refl)
+rate-numbers = (refl, refl, refl, refl, refl, refl, refl, refl, refl, refl, refl, refl)
 
 -- The weighted rating: as rate
 pub weighted-numbers : (ofWeighted p1 (at 0 (at 0 [])) (9 ∷ 9 ∷ []) ≡ (0, 1 ∷ 1 ∷ []))
@@ -331,13 +362,14 @@ pub search-numbers : (ofSearch p1 (pos 77 ∷ pos 77 ∷ []) 21 (9 ∷ 9 ∷ 9 �
     × (ofSearch p7 (pos 77 ∷ pos 77 ∷ pos 77 ∷ []) 1000000 (9 ∷ 9 ∷ 9 ∷ []) ≡ ((0, 3 ∷ 3 ∷ 51 ∷ []), pos 0 ∷ pos 3 ∷ pos 6 ∷ []))
     × (ofSearch p7 (pos 77 ∷ pos 77 ∷ pos 77 ∷ []) 50 (9 ∷ 9 ∷ 9 ∷ []) ≡ ((1, 3 ∷ 3 ∷ 50 ∷ []), pos 0 ∷ pos 3 ∷ pos 6 ∷ []))
     × (ofSearch p8 (pos 77 ∷ pos 77 ∷ pos 77 ∷ []) 1000000 (9 ∷ 9 ∷ 9 ∷ []) ≡ ((0, 12 ∷ 42 ∷ 433 ∷ []), pos 0 ∷ pos 30 ∷ pos 0 ∷ []))
+    × (ofSearch p8 (pos 77 ∷ pos 77 ∷ pos 77 ∷ []) 432 (9 ∷ 9 ∷ 9 ∷ []) ≡ ((1, 12 ∷ 42 ∷ 432 ∷ []), pos 0 ∷ pos 30 ∷ pos 0 ∷ []))
     × (ofSearch p8 (pos 77 ∷ pos 77 ∷ pos 77 ∷ []) 2 (9 ∷ 9 ∷ 9 ∷ []) ≡ ((2, 0 ∷ 0 ∷ 2 ∷ []), pos 77 ∷ pos 77 ∷ pos 77 ∷ []))
     × (ofSearch p9 (pos 77 ∷ pos 77 ∷ []) 1000000 (9 ∷ 9 ∷ 9 ∷ []) ≡ ((0, 3 ∷ 11 ∷ 31 ∷ []), pos 0 ∷ pos 4 ∷ []))
     × (ofSearch p9 (pos 77 ∷ pos 77 ∷ []) 30 (9 ∷ 9 ∷ 9 ∷ []) ≡ ((1, 3 ∷ 11 ∷ 30 ∷ []), pos 0 ∷ pos 4 ∷ []))
     × (ofSearch p1 (pos 77 ∷ []) 21 (9 ∷ 9 ∷ 9 ∷ []) ≡ ((1048576, 9 ∷ 9 ∷ 9 ∷ []), pos 77 ∷ []))
     × (ofSearch p1 (pos 77 ∷ pos 77 ∷ pos 77 ∷ []) 21 (9 ∷ 9 ∷ 9 ∷ []) ≡ ((1048576, 9 ∷ 9 ∷ 9 ∷ []), pos 77 ∷ pos 77 ∷ pos 77 ∷ []))
 unfolding opened
-search-numbers = (refl, refl, refl, refl, refl, refl, refl, refl, refl, refl, refl, refl, refl)
+search-numbers = (refl, refl, refl, refl, refl, refl, refl, refl, refl, refl, refl, refl, refl, refl)
 
 -- ---- With a wanted gap: 0 found, 1 none, 2 stopped, with the tries; 16 at 0
 
@@ -387,17 +419,18 @@ pub mark-numbers : (ofHundred p1 (at 0 (at 0 [])) 21 (replicate 6 9) (9 ∷ 9 �
 unfolding opened
 mark-numbers = (refl, refl, refl, refl, refl, refl, refl, refl, refl, refl, refl, refl, refl, refl)
 
--- ---- By a key: 0, mark and remainder, which beside a key that isn't the best may be above 100; 15 at 0 where the sheet or the key doesn't fit
+-- ---- By a key: 0, mark and remainder, which beside a key that isn't the best may be above 100, and beside one of least gap 0 is 100; 15 at 0 where the sheet or the key doesn't fit
 
 pub key-numbers : (ofKey p1 (at 0 (at 0 [])) (at 0 (at 3 [])) (9 ∷ 9 ∷ []) ≡ (0, 50 ∷ 0 ∷ []))
     × (ofKey p1 (at 0 (at 3 [])) (at 0 (at 0 [])) (9 ∷ 9 ∷ []) ≡ (0, 200 ∷ 0 ∷ []))
     × (ofKey p7 (at 0 (at 1 (at 2 []))) (at 0 (at 3 (at 6 []))) (9 ∷ 9 ∷ []) ≡ (0, 33 ∷ 1 ∷ []))
     × (ofKey p9 (at 0 (at 5 [])) (at 0 (at 4 [])) (9 ∷ 9 ∷ []) ≡ (0, 66 ∷ 2 ∷ []))
     × (ofKey everyMinute (at 0 (at 0 [])) (at 0 (at 0 [])) (9 ∷ 9 ∷ []) ≡ (0, 100 ∷ 0 ∷ []))
+    × (ofKey p1 (at 0 (at 3 [])) (at 0 (at 1 [])) (9 ∷ 9 ∷ []) ≡ (0, 100 ∷ 0 ∷ []))
     × (ofKey p1 (at 0 (0 ∷ 0 ∷ 0 ∷ [])) (at 0 (at 3 [])) (9 ∷ 9 ∷ []) ≡ (983040, 9 ∷ 9 ∷ []))
     × (ofKey p1 (at 0 (at 0 [])) (at 0 (at 3 (0 ∷ []))) (9 ∷ 9 ∷ []) ≡ (983040, 9 ∷ 9 ∷ []))
 unfolding opened
-key-numbers = (refl, refl, refl, refl, refl, refl, refl)
+key-numbers = (refl, refl, refl, refl, refl, refl, refl, refl)
 
 -- ---- A refused file's ground before all, whatever else is lent: 5 at 0, and every row stays
 
