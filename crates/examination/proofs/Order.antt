@@ -39,6 +39,7 @@ pub use Rattle.examination.proofs.ExportGaps.{gaps-export-demand-1}
 -- "(better-of-two answers by its part alone)"
 pub use Rattle.examination.proofs.Demands.{better-file-refused, better-neither-fits, better-only-first-fits, better-only-second-fits}
 pub use Rattle.examination.proofs.Demands.{better-both-fit}
+pub use Rattle.examination.proofs.Demands.{choiceOf-first, choiceOf-second, choiceOf-neither}
 pub use Rattle.examination.proofs.ExportBetter.{better-export-file-refused, better-export-neither-fits, better-export-only-first-fits}
 pub use Rattle.examination.proofs.ExportBetter.{better-export-only-second-fits, better-export-both-fit}
 pub use Rattle.examination.proofs.ExportBetter.{better-export-returns, better-export-names-the-part}
@@ -46,8 +47,8 @@ pub use Rattle.examination.proofs.ExportBetter.{better-export-returns, 
 -- files; 15 after the file's own ground; and every call of the network answers and leaves its rows as a case of it says
 pub use Rattle.network.proofs.Paper.{command-cases-hold, line-cases-hold, call-cases-hold, full-cases-hold, sheet-cases-hold}
 pub use Rattle.network.proofs.Paper.{read-as-case, rate-as-case, weighted-as-case, gaps-as-case, classes-as-case, archive-as-case, board-as-case}
--- .. of start rows 16 at 0, and a refused file's own ground before it
-pub use Rattle.search.proofs.Cases.{start-rows-refused}
+-- .. of start rows 16 at 0, and a refused file's own ground before it; and every call of the search and with a wanted gap answers and leaves its row so
+pub use Rattle.search.proofs.Cases.{start-rows-refused, search-as-case, wanted-as-case}
 -- Document 01, "It hands a sheet over as 4 bytes per start, two's complement, most significant first; a byte count other than 4×lines is ground 15": a sheet
 -- comes back from its bytes, both ends included, and every row of 4×lines bytes is a sheet's, of every call of an export that takes one
 pub use Rattle.examination.proofs.SheetBytes.{starts-of-bytes, sheet-of-bytes, ends}
@@ -73,7 +74,8 @@ pub use Rattle.examination.proofs.ExportGaps.{gaps-export-fills, gaps-e
 pub use Rattle.search.proofs.Demands.{search-demand-2, search-answers}
 pub use Rattle.search.proofs.Demands.{searchAnswer-finished, searchAnswer-stopped, searchAnswer-none, searchAnswer-refused}
 pub use Rattle.examination.proofs.ExportSearch.{search-export-demand-2}
-pub use Rattle.search.proofs.Cases.{P1-to-P9}
+-- .. P1 to P9, one line alone, and P8 a try short of its end, by evaluation
+pub use Rattle.search.proofs.Cases.{P1-to-P9, budgets-by-tries}
 -- Document 01 on `best`, "stopped with none can't occur here, since the first 16 tries or fewer reach a full timetable": it does exactly where the budget is
 -- below the number of lines, with the budget for its tries
 pub use Rattle.search.proofs.Demands.{search-none-exactly}
@@ -83,7 +85,8 @@ pub use Rattle.examination.proofs.ExportSearch.{search-export-none-exac
 pub use Rattle.search.proofs.Cases.{caps-by-tries}
 -- The papers' numbers as a host sees them, by evaluation from bytes: P1 to P9, their marks, and each ground as one number; and every call of an export returns
 -- and leaves what is evaluated there
-pub use Rattle.examination.proofs.Paper.{read-numbers, rate-numbers, weighted-numbers, gaps-numbers, classes-numbers, archive-numbers}
+pub use Rattle.examination.proofs.Paper.{read-numbers, refusal-numbers, rate-numbers, weighted-numbers, gaps-numbers, classes-numbers}
+pub use Rattle.examination.proofs.Paper.{archive-numbers}
 pub use Rattle.examination.proofs.Paper.{board-numbers, search-numbers, wanted-numbers, better-numbers, mark-numbers, key-numbers, file-before-all}
 pub use Rattle.examination.proofs.Paper.{read-export-told, rate-export-told, weighted-export-told, gaps-export-told, classes-export-told}
 pub use Rattle.examination.proofs.Paper.{archive-export-told, board-export-told, search-export-told, wanted-export-told, better-export-told}
@@ -95,7 +98,7 @@ pub use Rattle.examination.proofs.Paper.{mark-export-told, hundred-expo
 -- tries it reports are at most 1 + T1 + T1×T2 + .. over the periods after the first. It finishes under every 32-bit budget of at least that sum,
 -- where one exists"
 pub use Rattle.search.proofs.Demands.{search-demand-3}
--- .. and that sum of P1, P7, P8 and four lines of 60, by evaluation
+-- .. and that sum of one line, P1, P7, P8 and four lines of 60, by evaluation
 pub use Rattle.search.proofs.Cases.{bounds-by-periods}
 -- "with whichever budget": a finished search has the same answer, tries and starts under every larger one
 pub use Rattle.search.proofs.Demands.{finished-with-more-tries}
@@ -116,6 +119,7 @@ pub use Rattle.examination.proofs.ExportDemands.{weighted-export-as-rat
 -- the sheet's rating and the tries": decided exactly where the walk comes to its end, with its best and its tries, and undecided exactly where it stops, with a
 -- further try due. Decided and equal, no whole-number starts rate above the sheet; decided and not equal, some do
 pub use Rattle.examination.proofs.Demands.{mark-means-what-it-says}
+pub use Rattle.examination.proofs.Demands.{markAnswer-decided, markAnswer-undecided, markAnswer-refused}
 pub use Rattle.examination.proofs.ExportSearch.{mark-export-means}
 -- .. and so beside any search of one file and budget: decided exactly where it finishes, with its rating and tries, undecided exactly where it stops, with its tries
 pub use Rattle.examination.proofs.Demands.{mark-beside-search}
@@ -206,7 +210,7 @@ pub use Rattle.examination.proofs.ExportHundred.{hundred-export-means, 
 pub use Rattle.examination.proofs.HundredMark.{marks-have-one-best, marks-rank}
 pub use Rattle.examination.proofs.ExportHundred.{hundred-export-ranks}
 -- Many sheets by one search: beside its starts the call by a key has the same two numbers, by which sheets are ranked alike
-pub use Rattle.examination.proofs.HundredMark.{by-key-divides, by-key-as-mark}
+pub use Rattle.examination.proofs.HundredMark.{by-key-divides, by-key-as-mark, keyAnswer-marked, keyAnswer-refused}
 pub use Rattle.examination.proofs.ExportHundred.{by-key-export-returns, by-key-export-divides, by-key-export-of-search, by-key-export-ranks}
 pub use Rattle.examination.proofs.ExportHundred.{by-key-export-as-mark}
 -- ---- Document 02, A.6
