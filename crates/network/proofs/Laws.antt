@@ -61,3 +61,4 @@ pub mod Ranges
 pub mod Classified
 pub mod SameNetwork
 pub mod Gaps
+pub mod Answers
