@@ -1,5 +1,6 @@
--- The order's demands on read, rate, the weighted rating, the class call and the archive call. Each theorem holds of every call that has returned: of what was
--- lent, `a`, its answer, `r`, and the rows at its exit, `s`, where they keep the contract in src/, which every call does. Assumes nothing.
+-- The order's demands on read, rate, the weighted rating, the class call and the archive call. A theorem whose words name a call holds of every one that
+-- has returned: of what was lent, `a`, its answer, `r`, and the rows at its exit, `s`, where they keep the contract in src/, which every call does. Those
+-- named `..-asks-nothing` hold before it. The others are about files, networks and enums, by the definitions by which contracts answer. Assumes nothing.
 use Prim.Native.Nat.{ℕ, _+_, _*_, _≤_, _<_}
 use mathlib.Core.Path.{_≡_, refl, sym, ap, ap₂, subst, _∙_}
 use mathlib.Core.Bool.{true, false}
@@ -15,9 +16,10 @@ use lib.IntN.{ℤ}
 use lib.ListN.{length, getD, take, drop}
 use Rattle.network.specs.Lists.{countBelow}
 use Rattle.network.specs.Divisor.{Divides}
-use Rattle.network.specs.Network.{Net, maxLines, maxPeriod, maxCycle, maxStop, stopCount, maxCalls, isServed, servedStops, cycle, word}
+use Rattle.network.specs.Network.{Net, SoFar, maxLines, maxPeriod, maxCycle, maxStop, stopCount, maxCalls, isServed, servedStops, cycle, word}
 use Rattle.network.specs.Reading.{Reading, Outcome, values, refusal, readFile, accepted, refused, readAnswer, readOutcome}
-use Rattle.network.specs.Gives.{Gives}
+use Rattle.network.specs.Grounds.{first, grounds}
+use Rattle.network.specs.Gives.{Reached, Gives, refuses}
 use Rattle.network.specs.Refusals.{Refuses, Unfit, Not64, TooShort, Demand1}
 use Rattle.network.specs.Archive.{editionBytes, tidied, archive, archiveLength, SameOffsets, SameNetwork, archiveAnswer}
 use Rattle.network.specs.Valid.{IsBytes, noCall, Valid}
@@ -29,6 +31,7 @@ use Rattle.network.specs.Classes.{unserved, classRow, weightRow, classCo
 use Rattle.network.specs.ClassCall.{classAnswer, classOutcome, classRowAfter, weightRowAfter, weightedRating, weightedOutcome}
 use Rattle.network.proofs.Editions.{ArchivedEdition, archived-edition}
 use Rattle.network.proofs.Laws.AlikeByCalls.{alike-by-calls}
+use Rattle.network.proofs.Laws.Network.{command-unknown}
 use Rattle.network.proofs.Laws.Valid.{accepted-valid, cycle-multiple, cycle-least, cycle-pos}
 use Rattle.network.proofs.Laws.Reading.{gives-what-is-read, readFile-gives}
 use Rattle.network.proofs.Laws.Refusals.{read-refuses, read-refuses-only, sheet-refuses, sheet-refuses-only, sheet-answers}
@@ -60,6 +63,10 @@ use Rattle.network.proofs.classes.classes.Reads as classes-contract
 use Rattle.network.proofs.archive.archive as archive-call
 use Rattle.network.proofs.archive.archive.Kinds as archive-kinds
 use Rattle.network.proofs.archive.archive.Reads as archive-contract
+-- ---- What each answer of a call tells: its values in the paper's order, or number and place of the refusal
+
+pub use Rattle.network.proofs.Laws.Answers.{readAnswer-accepted, readAnswer-refused, rateAnswer-rated, rateAnswer-refused}
+pub use Rattle.network.proofs.Laws.Answers.{classAnswer-classes, classAnswer-refused, archiveAnswer-archived, archiveAnswer-refused}
 
 -- ---- Every call may be made: none asks anything of what is lent
 
@@ -129,12 +136,27 @@ module _ (κs : Lfts 1) (a : ArgsD read.signature κs) (r : ResD read.signature 
       let reads = gives-what-is-read g in
       rw (kept .0, reads) (read-values-of (accepted-valid (a .0 .now) n (kept .1) reads))
 
+  -- Every choice of whole-number starts has a rating over all trips, and no other
+  pub every-choice-has-one-rating : {n : Net} → readFile (a .0 .now) ≡ accepted n → (starts : List ℤ)
+      → (least : ℕ) × (sum : ℕ) × IsRating n starts least sum
+      × ((l s : ℕ) → IsRating n starts l s → (l ≡ least) × (s ≡ sum))
+  every-choice-has-one-rating {n} reads starts =
+      let valid = accepted-valid (a .0 .now) n (kept .1) reads in
+      (rating n starts .least, rating n starts .sum, rating-is-rating n valid starts, λ l s is. IsRating-unique valid is)
+
 -- Every file gives one of the two, and no other: what `readFile` computes, in which the other theorems speak of a file
 pub file-gives : (file : List ℕ) → Gives file (readFile file)
 file-gives = readFile-gives
 
 pub file-gives-no-other : {file : List ℕ} {reading : Reading} → Gives file reading → readFile file ≡ reading
 file-gives-no-other = gives-what-is-read
+
+-- 2: wherever reading comes to a byte that is no command, whatever stands behind it
+pub unknown-is-2 : {file : List ℕ} {f : SoFar} {p b : ℕ} {behind : List ℕ} → Reached file f p (b ∷ behind) → (b ≡ 0x4C → ⊥) → (b ≡ 0x43 → ⊥)
+    → (b ≡ 0x46 → ⊥) → (b ≡ 0x45 → ⊥) → (b ≡ 0x56 → ⊥) → readFile file ≡ refused 2 p
+unfolding first grounds
+unknown-is-2 {b = b} r not-line not-call not-ride not-end not-edition =
+    gives-what-is-read (refuses r (rw (command-unknown b not-line not-call not-ride not-edition not-end) refl))
 
 -- ---- Demand 2, its first half: an accepted file and a sheet with one start for each line
 
