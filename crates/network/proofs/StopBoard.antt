@@ -34,6 +34,9 @@ use Rattle.network.proofs.Demands.{alike-of-bytes}
 use Rattle.network.proofs.board.board as board-call
 use Rattle.network.proofs.board.board.Kinds as board-kinds
 use Rattle.network.proofs.board.board.Reads as board-contract
+-- ---- What each answer of the call tells: the count, or number and place of the refusal
+
+pub use Rattle.network.proofs.Laws.Answers.{boardAnswer-listed, boardAnswer-refused}
 
 -- What is lent to a call, and the rows at its exit
 module _ (κs : Lfts 4) (a : ArgsD board-call.signature κs) where
@@ -261,9 +264,12 @@ two = netWith 1 (15 ∷ 20 ∷ []) (callAfter 0 8 ∷ callAfter 1 17 ∷ [])
 abbrev loop : ℕ → ℕ → Net
 loop first second = netWith 1 (10 ∷ []) (callAfter 0 first ∷ callAfter 0 second ∷ [])
 
--- Lines every 20 and 30 minutes, the second's call stated first
+-- Lines every 20 and 30 minutes, the second's call stated first, with the higher offset or the lower
 abbrev crossing : Net
 crossing = netWith 1 (20 ∷ 30 ∷ []) (callAfter 1 5 ∷ callAfter 0 2 ∷ [])
+
+abbrev crossed : Net
+crossed = netWith 1 (20 ∷ 30 ∷ []) (callAfter 1 2 ∷ callAfter 0 5 ∷ [])
 
 -- One line every 7 minutes, whose call has the greatest offset
 abbrev seven : Net
@@ -282,15 +288,19 @@ pub half-open : (times (board two (pos 0 ∷ pos 0 ∷ []) (window 0 (pos 8) 9))
 unfolding board boardFrom boardAt boardCalls arrives residue arrivalOf periodOf keep below insertBy sortBy notAfter times
 half-open = (refl, refl)
 
--- At one minute: a loop's two calls are two arrivals, in order of offset, and two lines come in order of line, whatever order the file has
+-- At one minute: a loop's two calls are two arrivals, in order of offset, and two lines come in order of line, whatever order the
+-- file has and whichever offset is higher
 pub one-minute : (rows (loop 3 3) (board (loop 3 3) (pos 0 ∷ []) (window 0 (pos 0) 10)) ≡ (pos 3 ∷ pos 3 ∷ [], 0 ∷ 0 ∷ []))
     × (board (loop 13 3) (pos 0 ∷ []) (window 0 (pos 0) 10) ≡ record { call = 1; time = pos 3 } ∷ record { call = 0; time = pos 3 } ∷ [])
     × (rows crossing (board crossing (pos 4 ∷ pos 1 ∷ []) (window 0 (pos 0) 10)) ≡ (pos 6 ∷ pos 6 ∷ [], 0 ∷ 1 ∷ []))
+    × (rows crossed (board crossed (pos 1 ∷ pos 4 ∷ []) (window 0 (pos 0) 10)) ≡ (pos 6 ∷ pos 6 ∷ [], 0 ∷ 1 ∷ []))
 unfolding board boardFrom boardAt boardCalls arrives residue arrivalOf periodOf keep below insertBy sortBy notAfter times lines
-one-minute = (refl, refl, refl)
+one-minute = (refl, refl, refl, refl)
 
--- Far apart: from the least 32-bit number on, under the greatest start and offset, none arrives in 4 minutes and one in 5
+-- Far apart: from the least 32-bit number on, under the greatest start and offset, none arrives in 4 minutes and one in 5; from the greatest on, two in 10, at
+-- minutes above every 32-bit number
 pub far-apart : (board seven (pos 2147483647 ∷ []) (window 0 (negsuc 2147483647) 4) ≡ [])
     × (rows seven (board seven (pos 2147483647 ∷ []) (window 0 (negsuc 2147483647) 5)) ≡ (negsuc 2147483643 ∷ [], 0 ∷ []))
+    × (rows seven (board seven (pos 2147483647 ∷ []) (window 0 (pos 2147483647) 10)) ≡ (pos 2147483648 ∷ pos 2147483655 ∷ [], 0 ∷ 0 ∷ []))
 unfolding board boardFrom boardAt boardCalls arrives residue arrivalOf periodOf keep below insertBy sortBy notAfter times lines
-far-apart = (refl, refl)
+far-apart = (refl, refl, refl)
