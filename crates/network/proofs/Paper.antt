@@ -1,6 +1,6 @@
 -- The paper's numbers: what each call has to answer and to leave in its rows, from the bytes of files, at the limits that documents 01 and 02 set, and by which
--- ground, at which place, and before which other. Both sides of a case compute, and each of its numbers is written out, with no name for it, so that a
--- definition and the code that changed one of them together are refused at the case. And every call answers so, by its contract. Assumes nothing.
+-- ground, at which place, and before which other. Both sides of a case compute, and each of its numbers is written out, with no name for it, so that at these
+-- numbers a definition and the code that changed together are refused at the case. And every call answers so, by its contract. Assumes nothing.
 use Prim.Native.Nat.{ℕ, zero, suc}
 use mathlib.Core.Path.{_≡_, refl, _∙_}
 use mathlib.Core.List.{List, [], _∷_, _++_}
@@ -150,6 +150,14 @@ loops = 0x4C ∷ 0 ∷ 10 ∷ 0x43 ∷ 0 ∷ 0 ∷ 0 ∷ 2 ∷ 0x43 ∷ 0 ∷ 0 
 pub sameGap : List ℕ
 sameGap = 0x4C ∷ 0 ∷ 10 ∷ 0x43 ∷ 0 ∷ 0 ∷ 0 ∷ 0 ∷ 0x43 ∷ 0 ∷ 0 ∷ 0 ∷ 3 ∷ 0x43 ∷ 0 ∷ 1 ∷ 0 ∷ 0 ∷ 0x43 ∷ 0 ∷ 1 ∷ 0 ∷ 7 ∷ 0x45 ∷ []
 
+-- Two lines every 10 minutes, both at stops 0 and 1, where the file states them in one order and then in the other; line 0 alone at stop 2, line 1 at stop 3
+pub mixed : List ℕ
+mixed = 0x4C ∷ 0 ∷ 10 ∷ 0x4C ∷ 0 ∷ 10 ∷ 0x43 ∷ 0 ∷ 0 ∷ 0 ∷ 0 ∷ 0x43 ∷ 1 ∷ 0 ∷ 0 ∷ 3 ∷ 0x43 ∷ 1 ∷ 1 ∷ 0 ∷ 13 ∷ 0x43 ∷ 0 ∷ 1 ∷ 0 ∷ 0 ∷ 0x43 ∷ 0 ∷ 2 ∷ 0 ∷ 0 ∷ 0x43 ∷ 1 ∷ 3 ∷ 0 ∷ 0 ∷ 0x45 ∷ []
+
+-- One line every 15 minutes, at stop 63 alone
+pub lastStop : List ℕ
+lastStop = 0x4C ∷ 0x00 ∷ 0x0F ∷ 0x43 ∷ 0x00 ∷ 0x3F ∷ 0x00 ∷ 0x00 ∷ 0x45 ∷ []
+
 -- Lines every 15 and 20 minutes, and calls of line 1 at stop 0 after 17 minutes, of line 0 at stop 1 after 3, at stop 0 after 8 and after 2; and their
 -- archive form
 pub untidy : List ℕ
@@ -164,6 +172,14 @@ rides = 0x4C ∷ 0x00 ∷ 0x0F ∷ 0x4C ∷ 0x00 ∷ 0x14 ∷ 0x43 ∷ 0x00 ∷ 
 
 pub ridesForm : List ℕ
 ridesForm = 0x4C ∷ 0x00 ∷ 0x0F ∷ 0x4C ∷ 0x00 ∷ 0x14 ∷ 0x43 ∷ 0x00 ∷ 0x00 ∷ 0x00 ∷ 0x08 ∷ 0x43 ∷ 0x00 ∷ 0x01 ∷ 0x00 ∷ 0x0B ∷ 0x43 ∷ 0x00 ∷ 0x02 ∷ 0x00 ∷ 0x0C ∷ 0x43 ∷ 0x01 ∷ 0x00 ∷ 0x00 ∷ 0x11 ∷ 0x43 ∷ 0x01 ∷ 0x01 ∷ 0x00 ∷ 0x16 ∷ 0x45 ∷ []
+
+-- One line every 15 minutes, with calls after 20 and then after 3 minutes, and a ride of 1 minute from the latest, not from the highest offset; and its
+-- archive form
+pub drops : List ℕ
+drops = 0x4C ∷ 0x00 ∷ 0x0F ∷ 0x43 ∷ 0x00 ∷ 0x00 ∷ 0x00 ∷ 0x14 ∷ 0x43 ∷ 0x00 ∷ 0x01 ∷ 0x00 ∷ 0x03 ∷ 0x46 ∷ 0x00 ∷ 0x02 ∷ 0x00 ∷ 0x01 ∷ 0x45 ∷ []
+
+pub dropsForm : List ℕ
+dropsForm = 0x4C ∷ 0x00 ∷ 0x0F ∷ 0x43 ∷ 0x00 ∷ 0x00 ∷ 0x00 ∷ 0x14 ∷ 0x43 ∷ 0x00 ∷ 0x01 ∷ 0x00 ∷ 0x03 ∷ 0x43 ∷ 0x00 ∷ 0x02 ∷ 0x00 ∷ 0x04 ∷ 0x45 ∷ []
 
 -- ---- Read
 
@@ -258,7 +274,7 @@ full-cases-hold =
 -- ---- Rate, the weighted rating and the gaps call
 
 -- 15 for P1's sheets of 0, 1 and 3 starts, and after the file's own ground; the ratings of P1 and P2, and P9's best; P1's gap row, 65,535 for each
--- unserved stop
+-- unserved stop; and stop 63 counts
 pub sheetCases : List Case
 sheetCases =
     rates p1 (zeros 0) (refusal 15 0) ∷
@@ -267,21 +283,23 @@ sheetCases =
     rates p1 (zeros 2) (values (1 ∷ 1 ∷ [])) ∷
     rates p1 (pos 0 ∷ negsuc 16 ∷ []) (values (2 ∷ 2 ∷ [])) ∷
     rates p9 (pos 0 ∷ pos 4 ∷ []) (values (3 ∷ 11 ∷ [])) ∷
+    rates lastStop (zeros 1) (values (15 ∷ 15 ∷ [])) ∷
     rates (0x4C ∷ 0x00 ∷ 0x0F ∷ []) (zeros 0) (refusal 1 3) ∷
     gaps p1 (zeros 3) (row 64) (refusal 15 0) (row 64) ∷
     gaps p1 (zeros 2) (row 64) (values (1 ∷ 1 ∷ [])) (1 ∷ replicate 63 65535) ∷
+    gaps lastStop (zeros 1) (row 64) (values (15 ∷ 15 ∷ [])) (replicate 63 65535 ++ (15 ∷ [])) ∷
     gaps (0x4C ∷ 0x00 ∷ 0x0F ∷ []) (zeros 0) (row 64) (refusal 1 3) (row 64) ∷
     []
 
 pub sheet-cases-hold : Every sheetCases
-unfolding opened p1 p9 row zeros Holds Every sheetCases
+unfolding opened p1 p9 lastStop row zeros Holds Every sheetCases
 sheet-cases-hold =
-    ((refl, refl), ((refl, refl), ((refl, refl), ((refl, refl), ((refl, refl), ((refl, refl), ((refl, refl), ((refl, refl), ((refl, refl), ((refl, refl), tt))))))))))
+    ((refl, refl), ((refl, refl), ((refl, refl), ((refl, refl), ((refl, refl), ((refl, refl), ((refl, refl), ((refl, refl), ((refl, refl), ((refl, refl), ((refl, refl), ((refl, refl), tt))))))))))))
 
 -- ---- The class call
 
 -- 17 for rows of 63 and 64 places, and of 64 and 65, and after the file's own ground; P9's rows, 255 and 0 for each unserved stop; with loops, stops
--- matched in order of offset
+-- matched in order of offset; alike only where the same lines call, in whatever order the file states them; and stop 63 counts
 pub classCases : List Case
 classCases =
     classesStay p1 63 64 (refusal 17 0) ∷
@@ -292,17 +310,19 @@ classCases =
     classifies p9 (row 64) (row 64) (values (2 ∷ [])) (0 ∷ 0 ∷ 2 ∷ replicate 61 255) (2 ∷ 0 ∷ 1 ∷ replicate 61 0) ∷
     classifies loops (row 64) (row 64) (values (3 ∷ [])) (0 ∷ 0 ∷ 2 ∷ 3 ∷ replicate 60 255) (2 ∷ 0 ∷ 1 ∷ 1 ∷ replicate 60 0) ∷
     classifies sameGap (row 64) (row 64) (values (2 ∷ [])) (0 ∷ 1 ∷ replicate 62 255) (1 ∷ 1 ∷ replicate 62 0) ∷
+    classifies mixed (row 64) (row 64) (values (3 ∷ [])) (0 ∷ 0 ∷ 2 ∷ 3 ∷ replicate 60 255) (2 ∷ 0 ∷ 1 ∷ 1 ∷ replicate 60 0) ∷
+    classifies lastStop (row 64) (row 64) (values (1 ∷ [])) (replicate 63 255 ++ (63 ∷ [])) (replicate 63 0 ++ (1 ∷ [])) ∷
     []
 
 pub class-cases-hold : Every classCases
-unfolding opened p1 p9 loops sameGap row classesStay Holds Every classCases
+unfolding opened p1 p9 loops sameGap mixed lastStop row classesStay Holds Every classCases
 class-cases-hold =
-    ((refl, refl, refl), ((refl, refl, refl), ((refl, refl, refl), ((refl, refl, refl), ((refl, refl, refl), ((refl, refl, refl), ((refl, refl, refl), ((refl, refl, refl), tt))))))))
+    ((refl, refl, refl), ((refl, refl, refl), ((refl, refl, refl), ((refl, refl, refl), ((refl, refl, refl), ((refl, refl, refl), ((refl, refl, refl), ((refl, refl, refl), ((refl, refl, refl), ((refl, refl, refl), tt))))))))))
 
 -- ---- The archive call
 
 -- 18 for a row of 16 places, where P1 takes 17, and after the file's own ground; lines in order, then calls by line, then stop, then offset, as 43, then 45,
--- 27 bytes; calls by rides as calls by offset; in edition 2 its 56 first, 29 bytes; what lies behind stays
+-- 27 bytes; calls by rides as calls by offset, each from its line's latest call; in edition 2 its 56 first, 29 bytes; what lies behind stays
 pub archiveCases : List Case
 archiveCases =
     archiveStays p1 16 (refusal 18 0) ∷
@@ -312,13 +332,14 @@ archiveCases =
     archives untidy (row 28) (values (27 ∷ [])) (tidyForm ++ (77 ∷ [])) ∷
     archiveStays (0x56 ∷ 0x02 ∷ untidy) 28 (refusal 18 0) ∷
     archives rides (row 32) (values (32 ∷ [])) ridesForm ∷
+    archives drops (row 19) (values (19 ∷ [])) dropsForm ∷
     archives (0x56 ∷ 0x02 ∷ untidy) (row 30) (values (29 ∷ [])) (0x56 ∷ 0x02 ∷ tidyForm ++ (77 ∷ [])) ∷
     []
 
 pub archive-cases-hold : Every archiveCases
-unfolding opened p1 untidy tidyForm rides ridesForm row archiveStays Holds Every archiveCases
+unfolding opened p1 untidy tidyForm rides ridesForm drops dropsForm row archiveStays Holds Every archiveCases
 archive-cases-hold =
-    ((refl, refl), ((refl, refl), ((refl, refl), ((refl, refl), ((refl, refl), ((refl, refl), ((refl, refl), ((refl, refl), tt))))))))
+    ((refl, refl), ((refl, refl), ((refl, refl), ((refl, refl), ((refl, refl), ((refl, refl), ((refl, refl), ((refl, refl), ((refl, refl), tt)))))))))
 
 -- ---- The board call
 
