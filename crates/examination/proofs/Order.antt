@@ -36,6 +36,11 @@ pub use Rattle.examination.proofs.HundredMark.{by-key-demand-1}
 pub use Rattle.examination.proofs.ExportHundred.{hundred-export-demand-1, by-key-export-demand-1}
 pub use Rattle.examination.proofs.ExportBoard.{board-export-demand-1}
 pub use Rattle.examination.proofs.ExportGaps.{gaps-export-demand-1}
+-- .. what each answer of the network's calls tells, and 2 wherever reading comes to a byte that is no command
+pub use Rattle.network.proofs.Demands.{readAnswer-accepted, readAnswer-refused, rateAnswer-rated, rateAnswer-refused}
+pub use Rattle.network.proofs.Demands.{classAnswer-classes, classAnswer-refused, archiveAnswer-archived, archiveAnswer-refused}
+pub use Rattle.network.proofs.StopBoard.{boardAnswer-listed, boardAnswer-refused}
+pub use Rattle.network.proofs.Demands.{unknown-is-2}
 -- "(better-of-two answers by its part alone)"
 pub use Rattle.examination.proofs.Demands.{better-file-refused, better-neither-fits, better-only-first-fits, better-only-second-fits}
 pub use Rattle.examination.proofs.Demands.{better-both-fit}
@@ -65,7 +70,7 @@ pub use Rattle.examination.proofs.ExportDemands.{read-export-answers}
 
 -- "The rating of a timetable is the one defined over all trips of all lines, past and future, in source document 000, for every accepted network
 -- and every sheet of whole-number start times"
-pub use Rattle.network.proofs.Demands.{rate-demand-2}
+pub use Rattle.network.proofs.Demands.{rate-demand-2, every-choice-has-one-rating}
 pub use Rattle.examination.proofs.ExportDemands.{rate-export-demand-2, weighted-export-demand-2}
 -- .. and stop by stop: the gap row has each served stop's gap over all trips, no other row has, and rate's least gap and sum are those of the row
 pub use Rattle.network.proofs.StopGaps.{gap-row-is-gap-row, gap-row-only, rating-of-gap-row, gaps-fills, gaps-answers-as-rate, rate-of-gap-row, gap-rows}
