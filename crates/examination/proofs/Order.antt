@@ -41,6 +41,12 @@ pub use Rattle.network.proofs.Demands.{readAnswer-accepted, readAnswer-refused,
 pub use Rattle.network.proofs.Demands.{classAnswer-classes, classAnswer-refused, archiveAnswer-archived, archiveAnswer-refused}
 pub use Rattle.network.proofs.StopBoard.{boardAnswer-listed, boardAnswer-refused}
 pub use Rattle.network.proofs.Demands.{unknown-is-2}
+-- .. by evaluation from bytes, every number written out: grounds 1 to 14 at their places, each before the next where both can apply, and the limits of
+-- files; 15 after the file's own ground; and every call of the network answers and leaves its rows as a case of it says
+pub use Rattle.network.proofs.Paper.{command-cases-hold, line-cases-hold, call-cases-hold, full-cases-hold, sheet-cases-hold}
+pub use Rattle.network.proofs.Paper.{read-as-case, rate-as-case, weighted-as-case, gaps-as-case, classes-as-case, archive-as-case, board-as-case}
+-- .. of start rows 16 at 0, and a refused file's own ground before it; and every call of the search and with a wanted gap answers and leaves its row so
+pub use Rattle.search.proofs.Cases.{start-rows-refused, search-as-case, wanted-as-case}
 -- "(better-of-two answers by its part alone)"
 pub use Rattle.examination.proofs.Demands.{better-file-refused, better-neither-fits, better-only-first-fits, better-only-second-fits}
 pub use Rattle.examination.proofs.Demands.{better-both-fit}
@@ -48,12 +54,6 @@ pub use Rattle.examination.proofs.Demands.{choiceOf-first, choiceOf-sec
 pub use Rattle.examination.proofs.ExportBetter.{better-export-file-refused, better-export-neither-fits, better-export-only-first-fits}
 pub use Rattle.examination.proofs.ExportBetter.{better-export-only-second-fits, better-export-both-fit}
 pub use Rattle.examination.proofs.ExportBetter.{better-export-returns, better-export-names-the-part}
--- .. by evaluation from bytes, every number written out: grounds 1 to 14 at their places, each before the next where both can apply, and the limits of
--- files; 15 after the file's own ground; and every call of the network answers and leaves its rows as a case of it says
-pub use Rattle.network.proofs.Paper.{command-cases-hold, line-cases-hold, call-cases-hold, full-cases-hold, sheet-cases-hold}
-pub use Rattle.network.proofs.Paper.{read-as-case, rate-as-case, weighted-as-case, gaps-as-case, classes-as-case, archive-as-case, board-as-case}
--- .. of start rows 16 at 0, and a refused file's own ground before it; and every call of the search and with a wanted gap answers and leaves its row so
-pub use Rattle.search.proofs.Cases.{start-rows-refused, search-as-case, wanted-as-case}
 -- Document 01, "It hands a sheet over as 4 bytes per start, two's complement, most significant first; a byte count other than 4×lines is ground 15": a sheet
 -- comes back from its bytes, both ends included, and every row of 4×lines bytes is a sheet's, of every call of an export that takes one
 pub use Rattle.examination.proofs.SheetBytes.{starts-of-bytes, sheet-of-bytes, ends}
@@ -90,9 +90,9 @@ pub use Rattle.examination.proofs.ExportSearch.{search-export-none-exac
 pub use Rattle.search.proofs.Cases.{caps-by-tries}
 -- The papers' numbers as a host sees them, by evaluation from bytes: P1 to P9, their marks, and each ground as one number; and every call of an export returns
 -- and leaves what is evaluated there
-pub use Rattle.examination.proofs.Paper.{read-numbers, refusal-numbers, rate-numbers, weighted-numbers, gaps-numbers, classes-numbers}
-pub use Rattle.examination.proofs.Paper.{archive-numbers}
-pub use Rattle.examination.proofs.Paper.{board-numbers, search-numbers, wanted-numbers, better-numbers, mark-numbers, key-numbers, file-before-all}
+pub use Rattle.examination.proofs.Paper.{read-numbers, refusal-numbers, rate-numbers, weighted-numbers, gaps-numbers}
+pub use Rattle.examination.proofs.Paper.{classes-numbers, archive-numbers, board-numbers, search-numbers, wanted-numbers}
+pub use Rattle.examination.proofs.Paper.{better-numbers, mark-numbers, key-numbers, file-before-all}
 pub use Rattle.examination.proofs.Paper.{read-export-told, rate-export-told, weighted-export-told, gaps-export-told, classes-export-told}
 pub use Rattle.examination.proofs.Paper.{archive-export-told, board-export-told, search-export-told, wanted-export-told, better-export-told}
 pub use Rattle.examination.proofs.Paper.{mark-export-told, hundred-export-told, by-key-export-told}
