@@ -14,7 +14,7 @@ use search::SearchAnswer;
 const BUDGET: u32 = 1000000;
 
 // How many bytes were read, and whether a failure ended them.
-#[derive(Drop)]
+#[derive(Clone, Copy)]
 struct Input {
     end: usize,
     failed: bool,

@@ -9,7 +9,7 @@ mod hundred;
 pub mod marking;
 
 // Which of two sheets is the better.
-#[derive(Drop)]
+#[derive(Clone, Copy)]
 pub enum Choice {
     First,
     Second,
@@ -18,7 +18,7 @@ pub enum Choice {
 
 // What the mark call answers: decided, the sheet's rating, the best rating, whether they are equal, the mark out of a hundred with its
 // remainder, and the tries; undecided, the sheet's rating and the tries, and no mark; or a refusal.
-#[derive(Drop)]
+#[derive(Clone, Copy)]
 pub enum MarkAnswer {
     Decided {
         least: u32,
@@ -42,14 +42,14 @@ pub enum MarkAnswer {
 }
 
 // A mark out of a hundred: the whole part, and what is left.
-#[derive(Drop)]
+#[derive(Clone, Copy)]
 struct OutOfHundred {
     pub mark: u32,
     pub remainder: u32,
 }
 
 // What the call by a key answers: the mark out of a hundred with its remainder, or a refusal.
-#[derive(Drop)]
+#[derive(Clone, Copy)]
 pub enum KeyAnswer {
     Marked { mark: u32, remainder: u32 },
     Refused { number: u8, place: usize },
@@ -57,7 +57,7 @@ pub enum KeyAnswer {
 
 // A sheet taken apart: how many starts it has, and the starts. More starts than any network has lines stand for a byte count that is no
 // whole number of starts, or is too large.
-#[derive(Drop)]
+#[derive(Clone, Copy)]
 pub struct Sheet {
     pub count: usize,
     pub starts: [i32; Sheet::PLACES],

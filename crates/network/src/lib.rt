@@ -20,7 +20,7 @@ ghost use Rattle.network.specs.Engine.Scan as scan;
 ghost use Rattle.network.specs.Engine.Stored.{net_of, packed, call_in, Sound};
 
 // A line calls at a stop, `offset` minutes after its start.
-#[derive(Drop)]
+#[derive(Clone, Copy)]
 pub struct Call {
     pub line: u8,
     pub stop: u8,
@@ -55,7 +55,7 @@ impl Call {
 
 // A network: the periods of its lines and its calls, each packed, both in file order, the common cycle, and its edition. Of each row the first
 // places count: `lines` says how many places of `periods` count, and `count` says how many places of `list` count.
-#[derive(Drop)]
+#[derive(Clone, Copy)]
 pub struct Network {
     pub lines: usize,
     pub periods: [u16; Network::MAX_LINES],
@@ -137,7 +137,7 @@ impl Network {
 }
 
 // The calls of each stop in their order: each stop has MAX_AT_STOP places, of which the first hold its calls, as many as it has.
-#[derive(Drop)]
+#[derive(Clone, Copy)]
 struct StopCalls {
     pub codes: [u32; Network::PLACES],
     pub counts: [u8; Network::STOPS],
@@ -145,7 +145,7 @@ struct StopCalls {
 
 // A stop's calls in their order: of the first `count` places each row has one for each call, its line, its line's period, and the minutes that have
 // passed since its latest arrival.
-#[derive(Drop)]
+#[derive(Clone, Copy)]
 struct Due {
     pub count: usize,
     pub lines: [u8; Network::MAX_AT_STOP],
@@ -154,21 +154,21 @@ struct Due {
 }
 
 // Whether a ground for refusing applies: its number, and the place of the file that it names.
-#[derive(Drop)]
+#[derive(Clone, Copy)]
 pub enum Check {
     Passes,
     Refused { number: u8, place: usize },
 }
 
 // What a file gives: whether a ground refuses it, and the network up to there.
-#[derive(Drop)]
+#[derive(Clone, Copy)]
 pub struct Step {
     pub check: Check,
     pub network: Network,
 }
 
 // The numbers of a network that the grounds ask for, so that they are tried without a copy of its rows.
-#[derive(Drop)]
+#[derive(Clone, Copy)]
 struct Totals {
     pub lines: usize,
     pub calls: usize,
@@ -177,7 +177,7 @@ struct Totals {
 }
 
 // What a command tells: the ground that refuses it, or the line, call or edition that it states, or that the file ends.
-#[derive(Drop)]
+#[derive(Clone, Copy)]
 enum Parsed {
     Refused { number: u8, place: usize },
     Line { period: u16, cycle: u32 },
@@ -187,7 +187,7 @@ enum Parsed {
 }
 
 // A rating: the least gap over all stops, then the sum of the gaps; or none.
-#[derive(Drop)]
+#[derive(Clone, Copy)]
 pub struct Rating {
     pub some: bool,
     pub least: u32,
@@ -281,7 +281,7 @@ impl Rating {
 }
 
 // What the read call answers.
-#[derive(Drop)]
+#[derive(Clone, Copy)]
 pub enum ReadAnswer {
     Accepted {
         lines: u32,
@@ -296,35 +296,35 @@ pub enum ReadAnswer {
 }
 
 // What the rate call and the weighted rating answer.
-#[derive(Drop)]
+#[derive(Clone, Copy)]
 pub enum RateAnswer {
     Rated { least: u32, sum: u32 },
     Refused { number: u8, place: usize },
 }
 
 // What rate answers for each of two sheets.
-#[derive(Drop)]
+#[derive(Clone, Copy)]
 pub struct RatedBoth {
     pub first: RateAnswer,
     pub second: RateAnswer,
 }
 
 // What the class call answers.
-#[derive(Drop)]
+#[derive(Clone, Copy)]
 pub enum ClassAnswer {
     Classes { count: u32 },
     Refused { number: u8, place: usize },
 }
 
 // What the archive call answers.
-#[derive(Drop)]
+#[derive(Clone, Copy)]
 pub enum ArchiveAnswer {
     Archived { bytes: u32 },
     Refused { number: u8, place: usize },
 }
 
 // What the board call answers.
-#[derive(Drop)]
+#[derive(Clone, Copy)]
 pub enum BoardAnswer {
     Listed { count: u32 },
     Refused { number: u8, place: usize },

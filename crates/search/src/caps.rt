@@ -57,7 +57,7 @@ fn least_pair_cap(network: Network, call: Call, at: usize, least: u32) -> u32
 
 // What the cap of a stop is made of: how many calls it has, the sum of C/T over them, and the least of the first one's period and what
 // their pairs cap it at.
-#[derive(Drop)]
+#[derive(Clone, Copy)]
 pub struct Bounds {
     pub calls: u32,
     pub visits: u32,

@@ -12,7 +12,7 @@ pub mod wanted;
 use network::{Check, Network, RateAnswer, Rating};
 
 // What the search call answers.
-#[derive(Drop)]
+#[derive(Clone, Copy)]
 pub enum SearchAnswer {
     Finished { least: u32, sum: u32, tries: u32 },
     Stopped { least: u32, sum: u32, tries: u32 },
@@ -21,14 +21,14 @@ pub enum SearchAnswer {
 }
 
 // What rate and search answer on one file.
-#[derive(Drop)]
+#[derive(Clone, Copy)]
 pub struct RatedAndSearched {
     pub rated: RateAnswer,
     pub found: SearchAnswer,
 }
 
 // What the call with a wanted gap answers.
-#[derive(Drop)]
+#[derive(Clone, Copy)]
 pub enum WantedAnswer {
     Found { tries: u32 },
     None { tries: u32 },
@@ -38,7 +38,7 @@ pub enum WantedAnswer {
 
 // What a walk goes by: document 01's rule drops what isn't above the best so far; request A.3's what doesn't reach a wanted gap, and its first
 // full timetable ends the walk; that of request A.11's second pass what doesn't reach a floor or, once there is a best, its sum.
-#[derive(Drop)]
+#[derive(Clone, Copy)]
 enum Rule {
     AboveBest,
     AtLeast { wanted: u32 },
@@ -47,7 +47,7 @@ enum Rule {
 
 // What a placing is given up for beside the best so far, whatever the rule, so that it is one test after each call: a least gap below the floor
 // and, if there is something beside it, a sum not above that, at the floor itself or anywhere.
-#[derive(Drop)]
+#[derive(Clone, Copy)]
 struct Cut {
     pub floor: u32,
     pub beside: bool,
@@ -56,7 +56,7 @@ struct Cut {
 }
 
 // What a walk is given: its rule, how many tries it may make, and its last line.
-#[derive(Drop)]
+#[derive(Clone, Copy)]
 struct Task {
     pub rule: Rule,
     pub budget: u32,
@@ -64,14 +64,14 @@ struct Task {
 }
 
 // A try: a line at a start.
-#[derive(Drop)]
+#[derive(Clone, Copy)]
 struct Try {
     pub line: usize,
     pub start: u16,
 }
 
 // A line's starts from `from` on, `count` of them.
-#[derive(Drop)]
+#[derive(Clone, Copy)]
 struct Starts {
     pub line: usize,
     pub from: u16,
@@ -79,7 +79,7 @@ struct Starts {
 }
 
 // A network with its calls in the order of their lines, and for each line the place of its first call.
-#[derive(Drop)]
+#[derive(Clone, Copy)]
 struct Ordered {
     pub network: Network,
     pub first: [u16; Ordered::FIRSTS],
@@ -103,7 +103,7 @@ impl Ordered {
 }
 
 // A partial timetable: the starts of the placed lines, the upper values of the stops, and the upper rating that they make.
-#[derive(Drop)]
+#[derive(Clone, Copy)]
 struct Placed {
     pub starts: [u16; Network::MAX_LINES],
     pub values: [u16; Network::STOPS],
@@ -112,7 +112,7 @@ struct Placed {
 }
 
 // A walk on its way: the tries made, whether it has stopped, and the best so far with its starts.
-#[derive(Drop)]
+#[derive(Clone, Copy)]
 struct Walk {
     pub tries: u32,
     pub stopped: bool,
@@ -131,7 +131,7 @@ impl Walk {
 }
 
 // How a walk on a file ends: what the file or the row is refused for, if anything, and if nothing the walk at its end.
-#[derive(Drop)]
+#[derive(Clone, Copy)]
 struct Ended {
     pub check: Check,
     pub walk: Walk,
