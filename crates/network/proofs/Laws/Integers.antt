@@ -121,7 +121,7 @@ minus_one_sub k = eq_of_difference (difference_sub (difference (negsuc 0)) (diff
 
 module _ {x : ℤ} (fits : SFits w32 x) where
   pub widened : to_z w64 (of_z w64 (to_z w32 (of_z w32 x))) ≡ x
-  widened = ap (λ (z : ℤ). to_z w64 (of_z w64 z)) (to_z-of_z fits) ∙ to_z-of_z (sfits_widen tt fits)
+  widened = ap (λ (z : ℤ). to_z w64 (of_z w64 z)) (to_z-of_z {w = w32} fits) ∙ to_z-of_z {w = w64} (sfits_widen tt fits)
 
   pub widens : SFits w64 (to_z w32 (of_z w32 x))
   widens = rw (to_z-of_z {w = w32} fits) (sfits_widen tt fits)

@@ -33,6 +33,7 @@ AllPairs d R xs = (j k : ℕ) → j < k → k < length xs → R (get_or xs j d) 
 
 module _ {A : Type 0} where
   pub place_of_member : {a : A} (xs : List A) (d : A) → Memᴰ a xs → (i : ℕ) × (i < length xs) × (get_or xs i d ≡ a)
+  place_of_member [] d m = elim m [ ]
   place_of_member (x ∷ xs) d (Memᴰ.head e) = (0, zero-lt-suc _, sym e)
   place_of_member (x ∷ xs) d (Memᴰ.tail m) = let (i, h, e) = place_of_member xs d m in (suc i, suc-le-suc h, e)
 
@@ -50,6 +51,7 @@ module _ {A : Type 0} where
   module _ (p : A → Bool) where
     pub any_of_member : {a : A} (xs : List A) → Memᴰ a xs → p a ≡ true → any p xs ≡ true
     unfolding any
+    any_of_member [] m e = elim m [ ]
     any_of_member (x ∷ xs) (Memᴰ.head k) e = or_left (p x) (any p xs) (ap p (sym k) ∙ e)
     any_of_member (x ∷ xs) (Memᴰ.tail m) e = or_right (p x) (any p xs) (any_of_member xs m e)
 

@@ -39,6 +39,7 @@ module _ {A : Type 0} where
 
   -- Two lists with the same members, each once, are each other's permutation: the one's first is brought to the other's front
   to_front : {a : A} (xs : List A) → Memᴰ a xs → (rest : List A) × Permᴰ xs (a ∷ rest)
+  to_front [] m = elim m [ ]
   to_front (x ∷ xs) (Memᴰ.head e) = (xs, Permᴰ.cons (sym e) (Permᴰ.refl xs))
   to_front (x ∷ xs) (Memᴰ.tail m) =
       let (rest, π) = to_front xs m in (x ∷ rest, Permᴰ.trans (Permᴰ.cons refl π) (Permᴰ.swap refl refl))

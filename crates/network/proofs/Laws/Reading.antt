@@ -176,7 +176,7 @@ read_from_not_before f p zero (b ∷ behind) number place e =
     (first (grounds c f p behind)) c f
     (λ n q i k. let same : q ≡ place = cc (k) in omega (arith, same, refused_named c f p behind n q i))
     (λ i passes k. absurd (zero_ne_one (cc (k))))
-    (λ i passes k. omega (arith, read_from_not_before _ (p + 1) _ behind number place k))
+    (λ i passes k. omega (arith, read_from_not_before (extend c f behind) (p + 1) (operand_bytes c) behind number place k))
     e
 
 pub reached_not_behind : {file : List ℕ} {f : SoFar} {p : ℕ} {rest : List ℕ} {number place : ℕ} → Reached file f p rest
@@ -293,7 +293,7 @@ read_from_take f p zero (suc m) (b ∷ bs) r h =
     (proceed_cases (λ step. step (onward (take m bs)) ≡ step (onward bs)) (first (grounds c f p bs)) c f
     (λ number place e. refl)
     (λ i e. refl)
-    (λ i e. read_from_take _ _ _ m bs (within_next c f p bs e i (subst (Within f) (omega arith) r)) (omega arith)))
+    (λ i e. read_from_take (extend c f bs) (p + 1) (operand_bytes c) m bs (within_next c f p bs e i (subst (Within f) (omega arith) r)) (omega arith)))
 
 pub first_4096 : (file : List ℕ) → read_file (take 4096 file) ≡ read_file file
 unfolding read_file

@@ -62,6 +62,7 @@ module _ {A : Type 0} where
 
   pub le_sum_of : {a : A} (f : A → ℕ) (xs : List A) → Memᴰ a xs → f a ≤ sum_of f xs
   unfolding sum_of
+  le_sum_of f [] m = elim m [ ]
   le_sum_of f (x ∷ xs) (Memᴰ.head e) = omega (arith, ap f e)
   le_sum_of f (x ∷ xs) (Memᴰ.tail m) = omega (arith, le_sum_of f xs m)
 

@@ -1,0 +1,34 @@
+-- `network::board::list_minute` meets its contract. The loop's invariant: behind what stands before the place the rows have the calls passed that are due,
+-- and behind them what stood there, and the minutes of the calls passed are one later. Assumes nothing.
+use Prim.Native.Nat.{ℕ, ◌+◌, ◌-◌, ◌<◌, ◌≤◌}
+use mathlib.Core.Path.{◌≡◌, refl, sym, ap, ap₂, ◌∙◌}
+use mathlib.Core.Bool.{Bool, true, false}
+use mathlib.Core.Logic.{⊎_elim}
+use mathlib.Core.List.{List}
+use native.Mathlib.Nat.{le_antisymm}
+use native.Mathlib.Omega.{arith}
+use borrow.Author.Count.{below_more}
+use borrow.Author.Tests.{eq-eqb, ne_eqb}
+use lib.IntN.{ℤ}
+use lib.ListN.{length, get_or, set, length-set}
+use lib.Seq.{get_or-set_same, get_or-set_other}
+use mir.Syntax.{w64}
+use mir.Val.{to_z, of_z}
+use mir.Facts.{to_z-of_z}
+use Rattle.network.specs.Lists.{pick, count_below}
+use Rattle.network.specs.Engine.Due.{due_in, one_later, listed_in}
+use Rattle.network.proofs.Laws.Listed.{length_listed_in, listed_in_none, listed_in_skip, listed_in_put}
+use Rattle.network.proofs.Laws.Tables.{count_below_next, count_below_add}
+use Rattle.network.proofs.board.list_minute.Given as goal
+
+abbrev pub invariant-loop-j : goal.invariant-loop-j
+invariant-loop-j l = (l.j ≤ l.count)
+    × (l.next ≡ l.at + count_below (due_in l.periods l.initial.since) l.j)
+    × (length l.since ≡ 32)
+    × ((i : ℕ) → i < l.j → get_or l.since i 0 ≡ one_later l.periods l.initial.since i)
+    × ((i : ℕ) → l.j ≤ i → get_or l.since i 0 ≡ get_or l.initial.since i 0)
+    × (l.time_row ≡ listed_in l.initial.time_row l.at (λ (i : ℕ). l.time) (due_in l.periods l.initial.since) l.j)
+    × (l.line_row ≡ listed_in l.initial.line_row l.at (λ (i : ℕ). get_or l.lines i 0) (due_in l.periods l.initial.since) l.j)
+
+abbrev pub decreases-loop-j : goal.decreases-loop-j
+decreases-loop-j l = l.count - l.j
