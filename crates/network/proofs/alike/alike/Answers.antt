@@ -114,7 +114,7 @@ told c h n =
 pub returns-then-not-same_differences : goal.returns-then-not-same_differences
 returns-then-not-same_differences c h n served = sym
     (whole (goal.at.returns-then-not-same_differences c).Else-not-same_lines h n served
-    ∙ all_below_fails _ _ c.loop-place.place c.loop-place-test.true (sym (told (goal.at.returns-then-not-same_differences c).After-same_differences h n) ∙ not-true _ c.if-not-same_differences.true))
+    ∙ all_below_fails _ _ c.loop-place.place c.loop-place-test.true (sym (told (goal.at.returns-then-not-same_differences c).After-same_differences h n) ∙ c.if-not-same_differences.true))
 
 pub overflow_step-place : goal.overflow_step-place
 overflow_step-place c = omega (arith, c.loop-place-test.true, few (goal.at.overflow_step-place c).Start)
@@ -125,7 +125,7 @@ loop-place-smaller c = omega (arith, c.loop-place-test.true)
 pub loop-place-preserved : goal.loop-place-preserved
 loop-place-preserved c = (
   omega (arith, c.loop-place-test.true),
-  λ h n. all_below_next _ c.loop-place.place (c.loop-place.invariant.1 h n) (sym (told (goal.at.loop-place-preserved c).After-same_differences h n) ∙ not-false _ c.if-not-same_differences.false),
+  λ h n. all_below_next _ c.loop-place.place (c.loop-place.invariant.1 h n) (sym (told (goal.at.loop-place-preserved c).After-same_differences h n) ∙ c.if-not-same_differences.false),
 )
 
 pub returns : goal.returns

@@ -168,11 +168,11 @@ loop-j-smaller c = omega (arith, c.loop-j-test.true)
 -- What is computed are the minutes since the call's latest arrival
 since_is : (c : After-minutes_since)
     → let turn = c.before.before.before.before.before.before in
-    c.minutes_since.result ≡ since_at (net turn) c.args.sheet.now (stop (placing turn)) c.args.from (j turn)
+    c.minutes_since.result ≡ since_at (net turn) c.args.sheet.now (stop (placing turn)) (to_z w32 (of_z w32 c.args.from)) (j turn)
 unfolding arrival_of
 since_is c =
     c.minutes_since.ensures
-    ∙ ap₂ (λ (a : ℤ) (t : ℕ). residue (c.args.from -ℤ pos 1 -ℤ a) t)
+    ∙ ap₂ (λ (a : ℤ) (t : ℕ). residue (to_z w32 (of_z w32 c.args.from) -ℤ pos 1 -ℤ a) t)
     (ap₂ (λ (x : ℤ) (k : ℕ). x +ℤ pos k)
     (to_z-of_z {w = w32} (record { sfits = c.minutes_since-arg-1.given }) ∙ ap (λ (l : ℕ). get_or c.args.sheet.now l (pos 0)) (line_is c.before.before.before.before))
     (ap (λ (d : Call). d.offset) (unpacked_is c.before.before.before.before)))

@@ -112,11 +112,11 @@ minute_after-time-requires c = tt
 pub list_minute-at-requires : goal.list_minute-at-requires
 list_minute-at-requires c =
     let u = (goal.at.list_minute-at-requires c).At-loop-minute in
-    let d = ready_there u in (
-      ready_within (valid d) (listed_here u).ready,
-      room_for_minute (listed_here u) c.args.minutes c.loop-minute.invariant.0 (times_fit u) (lines_fit u) (ordered_period_pos (valid d) c.args.stop)
-          c.loop-minute-test.true,
-    )
+    let d = ready_there u in record {
+      within_periods = ready_within (valid d) (listed_here u).ready;
+      count_in_bounds = room_for_minute (listed_here u) c.args.minutes c.loop-minute.invariant.0 (times_fit u) (lines_fit u) (ordered_period_pos (valid d) c.args.stop)
+          c.loop-minute-test.true;
+    }
 
 pub overflow_step-minute : goal.overflow_step-minute
 overflow_step-minute c = omega (arith, c.loop-minute-test.true, c.requires.4)
@@ -125,15 +125,14 @@ pub loop-minute-smaller : goal.loop-minute-smaller
 loop-minute-smaller c = omega (arith, c.loop-minute-test.true)
 
 pub loop-minute-preserved : goal.loop-minute-preserved
-loop-minute-preserved c = let d = ready_there (goal.at.loop-minute-preserved c).At-loop-minute in
-    let time_is = to_z-of_z {w = w64} (record { sfits = c.minute_after-time.type_inv }) ∙ c.minute_after-time.ensures in
+loop-minute-preserved c = let time_is = to_z-of_z {w = w64} (record { sfits = c.minute_after-time.type_inv }) ∙ c.minute_after-time.ensures in
     let due = due_in c.due_before-before.result.periods c.loop-minute.since in
     let told = c.list_minute-at.ensures in (
       omega (arith, c.loop-minute-test.true),
       λ n v r.
-          listed_next (ordered_period_pos v c.args.stop) (c.loop-minute.invariant.1 n v r) told.0
-          (told.1.0 ∙ ap (λ (x : ℤ). listed_in c.loop-minute.time_row c.loop-minute.at (λ (j : ℕ). x) due c.due_before-before.result.count) time_is)
-          told.1.1.0 told.1.1.1.0 told.1.1.1.1,
+          listed_next (ordered_period_pos v c.args.stop) (c.loop-minute.invariant.1 n v r) told.next
+          (told.times ∙ ap (λ (x : ℤ). listed_in c.loop-minute.time_row c.loop-minute.at (λ (j : ℕ). x) due c.due_before-before.result.count) time_is)
+          told.lines told.since.0 told.since.1,
     )
 
 pub shape_of-time_row : goal.shape_of-time_row

@@ -19,7 +19,7 @@ use Rattle.network.specs.Engine.Due.{due_in, one_later, listed_in}
 use Rattle.network.proofs.Laws.Listed.{length_listed_in, listed_in_none, listed_in_skip, listed_in_put}
 use Rattle.network.proofs.Laws.Tables.{count_below_next, count_below_add}
 use Rattle.network.proofs.board.list_minute.Goals as goal
-use Rattle.network.proofs.board.list_minute.Goals.{After-loop-j, Else-passed-periods, In-loop-j, Then-passed-periods, else-passed-periods, then-passed-periods}
+use Rattle.network.proofs.board.list_minute.Goals.{After-loop-j, In-loop-j, else-passed-periods, then-passed-periods}
 
 -- At a turn of the loop
 module _ (t : In-loop-j) where
@@ -85,10 +85,9 @@ module _ (t : In-loop-j) where
     later_left i h = get_or-set_other t.loop-j.since j i passed 0 (λ e. omega arith) ∙ t.loop-j.invariant.4 i (omega arith)
 
 -- The call is due, by the test that is taken
-is_due : (c : Then-passed-periods) → due c.before.before.before.before.before.before (j c.before.before.before.before.before.before) ≡ true
+is_due : (t : In-loop-j) → get_or t.loop-j.since (j t) 0 + 1 ≡ get_or (periods t) (j t) 0 → due t (j t) ≡ true
 unfolding due_in
-is_due c =
-    eq-eqb (get_or (since c.before.before.before.before.before.before) (j c.before.before.before.before.before.before) 0 + 1) (get_or (periods c.before.before.before.before.before.before) (j c.before.before.before.before.before.before) 0) (ap (λ (k : ℕ). k + 1) (sym (since_is c.before.before.before.before.before.before)) ∙ c.if-passed-periods.true)
+is_due t e = eq-eqb (get_or (since t) (j t) 0 + 1) (get_or (periods t) (j t) 0) (ap (λ (k : ℕ). k + 1) (sym (since_is t)) ∙ e)
 
 pub loop-j-init : goal.loop-j-init
 unfolding count_below
@@ -120,12 +119,12 @@ pub bounds-periods-j : goal.bounds-periods-j
 bounds-periods-j c = small (goal.at.bounds-periods-j c).In-loop-j
 
 pub offset_bounds-time_row-next : goal.offset_bounds-time_row-next
-offset_bounds-time_row-next c = omega (arith, room (goal.at.offset_bounds-time_row-next c).In-loop-j (is_due c), c.loop-j.invariant.1, c.well_formed)
+offset_bounds-time_row-next c = omega (arith, room (goal.at.offset_bounds-time_row-next c).In-loop-j (is_due (goal.at.offset_bounds-time_row-next c).In-loop-j c.if-passed-periods.true), c.loop-j.invariant.1, c.well_formed)
 
 pub bounds-time_row-next : goal.bounds-time_row-next
 bounds-time_row-next c =
     let u = (goal.at.bounds-time_row-next c).In-loop-j in
-    omega (arith, room u (is_due c), c.loop-j.invariant.1, times_length u)
+    omega (arith, room u (is_due u c.if-passed-periods.true), c.loop-j.invariant.1, times_length u)
 
 pub bounds-lines-j : goal.bounds-lines-j
 bounds-lines-j c = small (goal.at.bounds-lines-j c).In-loop-j
@@ -133,10 +132,10 @@ bounds-lines-j c = small (goal.at.bounds-lines-j c).In-loop-j
 pub bounds-line_row-next : goal.bounds-line_row-next
 bounds-line_row-next c =
     let u = (goal.at.bounds-line_row-next c).In-loop-j in
-    omega (arith, room u (is_due (goal.at.bounds-line_row-next c).Then-passed-periods), c.loop-j.invariant.1, lines_length u)
+    omega (arith, room u (is_due u c.if-passed-periods.true), c.loop-j.invariant.1, lines_length u)
 
 pub overflow_add-next : goal.overflow_add-next
-overflow_add-next c = omega (arith, room (goal.at.overflow_add-next c).In-loop-j (is_due (goal.at.overflow_add-next c).Then-passed-periods), c.loop-j.invariant.1, c.well_formed)
+overflow_add-next c = omega (arith, room (goal.at.overflow_add-next c).In-loop-j (is_due (goal.at.overflow_add-next c).In-loop-j c.if-passed-periods.true), c.loop-j.invariant.1, c.well_formed)
 
 pub offset_bounds-since-j-then-passed-periods : goal.offset_bounds-since-j-then-passed-periods
 offset_bounds-since-j-then-passed-periods c = omega (arith, small (goal.at.offset_bounds-since-j-then-passed-periods c).In-loop-j)
@@ -157,40 +156,38 @@ pub loop-j-smaller : goal.loop-j-smaller
 loop-j-smaller c = omega (arith, c.loop-j-test.true)
 
 -- The call isn't due, by the test that is not taken
-not_due : (c : Else-passed-periods) → due c.before.before.before.before.before.before (j c.before.before.before.before.before.before) ≡ false
+not_due : (t : In-loop-j) → (get_or t.loop-j.since (j t) 0 + 1 ≡ get_or (periods t) (j t) 0 → ⊥) → due t (j t) ≡ false
 unfolding due_in
-not_due c =
-    ne_eqb (get_or (since c.before.before.before.before.before.before) (j c.before.before.before.before.before.before) 0 + 1) (get_or (periods c.before.before.before.before.before.before) (j c.before.before.before.before.before.before) 0) (λ e. c.if-passed-periods.false (ap (λ (k : ℕ). k + 1) (since_is c.before.before.before.before.before.before) ∙ e))
+not_due t f = ne_eqb (get_or (since t) (j t) 0 + 1) (get_or (periods t) (j t) 0) (λ e. f (ap (λ (k : ℕ). k + 1) (since_is t) ∙ e))
 
 pub loop-j-preserved : goal.loop-j-preserved
 unfolding one_later
 loop-j-preserved c =
     let u = (goal.at.loop-j-preserved c).In-loop-j in
-    let v = c.before.before in
     let inv = c.loop-j.invariant in
     elim c.if-passed-periods.branch [
-      | then-passed-periods w ↦ let e : due u (j u) ≡ true = is_due (record { before = v; if1 = w.if-passed-periods }) in
-          let zero-later : 0 ≡ one_later (periods u) (since u) (j u) = ap (λ (b : Bool). pick b 0 (get_or (since u) (j u) 0 + 1)) (sym e) in
+      | then-passed-periods w ↦ let e : due u (j u) ≡ true = is_due u w.if-passed-periods.true in
+          let zero_later : 0 ≡ one_later (periods u) (since u) (j u) = ap (λ (b : Bool). pick b 0 (get_or (since u) (j u) 0 + 1)) (sym e) in
           let more : count_below (due u) (j u + 1) ≡ count_below (due u) (j u) + 1 = count_below_next (due u) (j u) ∙ ap (λ (b : Bool). count_below (due u) (j u) + pick b 1 0) e in (
             omega (arith, c.loop-j-test.true),
-            w.since-is ∙ omega (arith, inv.1, more),
-            ap length w.?? ∙ length-set c.loop-j.since (j u) 0 ∙ inv.2,
-            λ i h. ap (λ (l : List ℕ). get_or l i 0) w.?? ∙ later_passed u 0 zero-later i h,
-            λ i h. ap (λ (l : List ℕ). get_or l i 0) w.?? ∙ later_left u 0 zero-later i h,
-            w.?? ∙ ap₂ (λ (l : List ℤ) (k : ℕ). set l k (to_z w64 (of_z w64 c.args.time))) inv.5 inv.1 ∙ listed_in_put _ _ _ (due u) (j u) e (room u e).0,
-            w.?? ∙ ap₂ (λ (l : List ℕ) (k : ℕ). set l k (get_or c.args.lines.now (j u) 0)) inv.6 inv.1 ∙ listed_in_put _ _ _ (due u) (j u) e (room u e).1,
+            w.next-is ∙ omega (arith, inv.1, more),
+            ap length w.since-is ∙ length-set c.loop-j.since (j u) 0 ∙ inv.2,
+            λ i h. ap (λ (l : List ℕ). get_or l i 0) w.since-is ∙ later_passed u 0 zero_later i h,
+            λ i h. ap (λ (l : List ℕ). get_or l i 0) w.since-is ∙ later_left u 0 zero_later i h,
+            w.time_row-is ∙ ap₂ (λ (l : List ℤ) (k : ℕ). set l k (to_z w64 (of_z w64 c.args.time))) inv.5 inv.1 ∙ listed_in_put _ _ _ (due u) (j u) e (room u e).0,
+            w.line_row-is ∙ ap₂ (λ (l : List ℕ) (k : ℕ). set l k (get_or c.args.lines.now (j u) 0)) inv.6 inv.1 ∙ listed_in_put _ _ _ (due u) (j u) e (room u e).1,
           )
-      | else-passed-periods w ↦ let e : due u (j u) ≡ false = not_due (record { before = v; if1 = w.if-passed-periods }) in
+      | else-passed-periods w ↦ let e : due u (j u) ≡ false = not_due u w.if-passed-periods.false in
           let one_later : get_or c.loop-j.since (j u) 0 + 1 ≡ one_later (periods u) (since u) (j u) =
           ap (λ (k : ℕ). k + 1) (since_is u) ∙ ap (λ (b : Bool). pick b 0 (get_or (since u) (j u) 0 + 1)) (sym e) in
           let same : count_below (due u) (j u + 1) ≡ count_below (due u) (j u) + 0 = count_below_next (due u) (j u) ∙ ap (λ (b : Bool). count_below (due u) (j u) + pick b 1 0) e in (
             omega (arith, c.loop-j-test.true),
-            w.since-is ∙ omega (arith, inv.1, same),
-            ap length w.?? ∙ length-set c.loop-j.since (j u) (get_or c.loop-j.since (j u) 0 + 1) ∙ inv.2,
-            λ i h. ap (λ (l : List ℕ). get_or l i 0) w.?? ∙ later_passed u _ one_later i h,
-            λ i h. ap (λ (l : List ℕ). get_or l i 0) w.?? ∙ later_left u _ one_later i h,
-            w.?? ∙ inv.5 ∙ sym (listed_in_skip _ _ _ (due u) (j u) e),
-            w.?? ∙ inv.6 ∙ sym (listed_in_skip _ _ _ (due u) (j u) e),
+            w.next-is ∙ omega (arith, inv.1, same),
+            ap length w.since-is ∙ length-set c.loop-j.since (j u) (get_or c.loop-j.since (j u) 0 + 1) ∙ inv.2,
+            λ i h. ap (λ (l : List ℕ). get_or l i 0) w.since-is ∙ later_passed u _ one_later i h,
+            λ i h. ap (λ (l : List ℕ). get_or l i 0) w.since-is ∙ later_left u _ one_later i h,
+            w.time_row-is ∙ inv.5 ∙ sym (listed_in_skip _ _ _ (due u) (j u) e),
+            w.line_row-is ∙ inv.6 ∙ sym (listed_in_skip _ _ _ (due u) (j u) e),
           )
     ]
 
@@ -220,8 +217,10 @@ shape_of-line_row c = ap length (lines_are c) ∙ length_listed_in _ _ _ (due_at
 
 pub returns : goal.returns
 returns c = let l = c.loop-j in
-    let times-listed =
-    times_are c ∙ ap (λ (x : ℤ). listed_in c.args.time_row.now c.args.at (λ (i : ℕ). x) (due_at_start c) c.args.count) (to_z-of_z c.ranges.time) in (
-      l.invariant.1 ∙ ap (λ (k : ℕ). c.args.at + count_below (due_at_start c) k) (all c),
-      (times-listed, (lines_are c, (l.invariant.2, λ i h. l.invariant.3 i (omega (arith, h, all c))))),
-    )
+    let times_listed =
+    times_are c ∙ ap (λ (x : ℤ). listed_in c.args.time_row.now c.args.at (λ (i : ℕ). x) (due_at_start c) c.args.count) (to_z-of_z c.ranges.time) in record {
+      next = l.invariant.1 ∙ ap (λ (k : ℕ). c.args.at + count_below (due_at_start c) k) (all c);
+      times = times_listed;
+      lines = lines_are c;
+      since = (l.invariant.2, λ i h. l.invariant.3 i (omega (arith, h, all c)));
+    }

@@ -22,5 +22,5 @@ unfolding command operand_bytes
 returns-in-86 c = sym (ap (λ b. operand_bytes (command b)) c.in-86.is)
 
 pub returns-in_default : goal.returns-in_default
-returns-in_default c = let r = c.in_default.rest in
+returns-in_default c = let r = c.in_default.in_default-own.rest in
     sym (operand_bytes_others c.args.code r.0.0.0.1 r.0.0.1 r.0.1 r.1)

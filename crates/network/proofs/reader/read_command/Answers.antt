@@ -34,5 +34,5 @@ returns-in-86 c = let e : command c.args.code ≡ states_edition = ap command c.
 
 pub returns-in_default : goal.returns-in_default
 unfolding IsParsed grounds
-returns-in_default c = let r = c.in_default.rest in
+returns-in_default c = let r = c.in_default.in_default-own.rest in
     λ f h o l. rw (command_unknown c.args.code r.0.0.0.0.1 r.0.0.0.1 r.0.0.1 r.1 r.0.1) (first_hit _ _ _ _ refl)

@@ -27,7 +27,7 @@ use Rattle.network.proofs.Laws.Stored.{call_of_parsed, edition_of_parsed}
 use Rattle.network.proofs.Laws.Latest.{latest_none}
 use Rattle.network.proofs.Laws.ReaderRows.{ReaderRows, ReaderTurn, rows_with_edition, rows_with_line, rows_with_call}
 use Rattle.network.proofs.reader.read_network.Goals as goal
-use Rattle.network.proofs.reader.read_network.Goals.{After-read_command-parsed, Joined-parsed}
+use Rattle.network.proofs.reader.read_network.Goals.{After-read_command-parsed, Joined-parsed, in-Calls, in-Edition, in-Line}
 
 -- Where a command has been read: the part that was left is the command's byte and what stands behind it
 module _ (r : After-read_command-parsed) where
