@@ -1,0 +1,63 @@
+-- `search::caps::cap_of` meets its contract: with one call at most what its pairs give is the cap, and otherwise the lesser of it and the spacing.
+-- Assumes nothing.
+-- The bounds that come back, by the definitions
+use Prim.Native.Nat.{◌/◌, ◌≤◌, min}
+use mathlib.Core.Path.{◌≡◌, ap, ap₂, ◌∙◌}
+use mathlib.Core.List.{List}
+use native.Mathlib.Omega.{arith}
+use lib.ListN.{length}
+use Rattle.network.specs.declared.Call.{Call}
+use Rattle.network.specs.Rating.{calls_of_stop}
+use Rattle.network.specs.Engine.Stored.{net_of}
+use Rattle.search.specs.declared.caps.Bounds.{Bounds}
+use Rattle.search.specs.Caps.{cap}
+use Rattle.search.specs.Engine.CapScan.{visits_of, least_pair_cap, bounds_of}
+use Rattle.search.proofs.Laws.CapScan.{visits_pos, cap_few, cap_many}
+use Rattle.search.proofs.caps.cap_of.Goals as goal
+use Rattle.search.proofs.caps.cap_of.Goals.{After-bounds_of-bounds}
+
+module _ (a : After-bounds_of-bounds) where
+  abbrev calls : List Call
+  calls = calls_of_stop (net_of a.args.network) a.args.stop
+
+  calls_are : a.bounds_of-bounds.result.calls ≡ length calls
+  unfolding bounds_of
+  calls_are = ap (λ (b : Bounds). b.calls) a.bounds_of-bounds.ensures
+
+  visits_are : a.bounds_of-bounds.result.visits ≡ visits_of (net_of a.args.network) calls
+  unfolding bounds_of
+  visits_are = ap (λ (b : Bounds). b.visits) a.bounds_of-bounds.ensures
+
+  pair_is : a.bounds_of-bounds.result.pair ≡ least_pair_cap (net_of a.args.network) calls
+  unfolding bounds_of
+  pair_is = ap (λ (b : Bounds). b.pair) a.bounds_of-bounds.ensures
+
+  lesser_is :
+      2 ≤ a.bounds_of-bounds.result.calls
+      → min a.bounds_of-bounds.result.pair (a.args.network.cycle / a.bounds_of-bounds.result.visits) ≡ cap (net_of a.args.network) a.args.stop
+  lesser_is h =
+      ap₂ min pair_is (ap₂ ◌/◌ a.requires.0.cycle_is visits_are)
+      ∙ cap_many (net_of a.args.network) a.requires.1 a.args.stop (omega (arith, calls_are, h))
+
+pub bounds_of-bounds-requires : goal.bounds_of-bounds-requires
+bounds_of-bounds-requires c = c.requires
+
+pub returns-then-bounds-lt2 : goal.returns-then-bounds-lt2
+returns-then-bounds-lt2 c =
+    let u = (goal.at.returns-then-bounds-lt2 c).After-bounds_of-bounds in
+    pair_is u ∙ cap_few (net_of c.args.network) c.requires.1 c.args.stop (omega (arith, calls_are u, c.if-bounds-lt2.true))
+
+pub nonzero_div-spacing : goal.nonzero_div-spacing
+nonzero_div-spacing c =
+    let u = (goal.at.nonzero_div-spacing c).After-bounds_of-bounds in
+    omega (
+      arith,
+      visits_are u,
+      visits_pos (net_of c.args.network) c.requires.1 c.args.stop (omega (arith, calls_are u, c.if-bounds-lt2.false)),
+    )
+
+pub returns-then-bounds-spacing : goal.returns-then-bounds-spacing
+returns-then-bounds-spacing c = omega (arith, c.if-bounds-spacing.true, lesser_is (goal.at.returns-then-bounds-spacing c).After-bounds_of-bounds c.if-bounds-lt2.false)
+
+pub returns-else-bounds-spacing : goal.returns-else-bounds-spacing
+returns-else-bounds-spacing c = omega (arith, c.if-bounds-spacing.false, lesser_is (goal.at.returns-else-bounds-spacing c).After-bounds_of-bounds c.if-bounds-lt2.false)

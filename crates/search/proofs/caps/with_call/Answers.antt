@@ -1,0 +1,103 @@
+-- `search::caps::with_call` meets its contract: one call more adds its visits, and its pairs with the calls before where there are any.
+-- Assumes nothing.
+-- What is handed over, and what the code makes of it, by the definitions
+use Prim.Native.Nat.{ℕ, ◌+◌, ◌/◌, ◌<◌, ◌≤◌}
+use mathlib.Core.Path.{◌≡◌, sym, ap, ap₂, ◌∙◌}
+use mathlib.Core.List.{List, [], ◌∷◌, ◌++◌, map}
+use native.Mathlib.Nat.{pos_of_ne-zero, div-le_self}
+use native.Mathlib.Omega.{arith}
+use lib.ListN.{length, get_or, length-append}
+use Rattle.network.specs.declared.Call.{Call}
+use Rattle.network.specs.declared.Network.{Network}
+use Rattle.network.specs.Rating.{period_of}
+use Rattle.network.specs.Lists.{least_from}
+use Rattle.network.specs.Engine.Scan.{calls_before}
+use Rattle.network.specs.Engine.Stored.{net_of, calls_in}
+use Rattle.network.proofs.Laws.Stored.{held_lines, held_period, held_period_pos}
+use Rattle.network.proofs.Laws.Gaps.{length_calls_before, period_of_is}
+use Rattle.search.specs.declared.caps.Bounds.{Bounds}
+use Rattle.search.specs.Caps.{pair_cap}
+use Rattle.search.specs.Engine.CapScan.{visits_of, least_pair_cap, bounds_of}
+use Rattle.search.proofs.Laws.CapScan.{least_pair_cap_first, least_pair_cap_snoc, visits_of_snoc, visits_of_le, bounds_of_made}
+use Rattle.search.proofs.caps.with_call.Goals as goal
+use Rattle.search.proofs.caps.with_call.Goals.{Start}
+
+module _ (s : Start) where
+  abbrev network : Network
+  network = s.args.network
+
+  abbrev call : Call
+  call = s.args.call
+
+  abbrev calls : List Call
+  calls = calls_before call.stop (calls_in network.list) s.args.at
+
+  abbrev period : ℕ
+  period = get_or network.periods call.line 0
+
+  own_line : call.line < network.lines
+  own_line = omega (arith, s.requires.line_in_bounds.0, held_lines network s.requires.sound.0)
+
+  period_is : period ≡ period_of (net_of network) call
+  period_is = sym (period_of_is (net_of network) call ∙ held_period network call.line own_line)
+
+  calls_are : s.args.bounds.calls ≡ length calls
+  unfolding bounds_of
+  calls_are = ap (λ (b : Bounds). b.calls) s.requires.bounds_value
+
+  calls_few : length calls ≤ 256
+  calls_few = omega (arith, length_calls_before call.stop (calls_in network.list) s.args.at, s.requires.line_in_bounds.1, s.requires.sound.0.calls)
+
+  visits_are : s.args.bounds.visits ≡ visits_of (net_of network) calls
+  unfolding bounds_of
+  visits_are = ap (λ (b : Bounds). b.visits) s.requires.bounds_value
+
+  visits_few : s.args.bounds.visits ≤ 2580480
+  visits_few =
+      omega (arith, visits_are, visits_of_le (net_of network) 10080 calls s.requires.sound.1.cycle_max, calls_few)
+
+  visits_next : s.args.bounds.visits + network.cycle / period ≡ visits_of (net_of network) (calls ++ (call ∷ []))
+  visits_next =
+      ap₂ ◌+◌ visits_are (ap₂ ◌/◌ s.requires.sound.0.cycle_is period_is) ∙ sym (visits_of_snoc (net_of network) calls call)
+
+  pair_is : s.args.bounds.pair ≡ least_pair_cap (net_of network) calls
+  unfolding bounds_of
+  pair_is = ap (λ (b : Bounds). b.pair) s.requires.bounds_value
+
+  pair_next :
+      (pair : ℕ)
+      → (s.args.bounds.calls ≡ 0 → ⊥)
+      → pair ≡ least_from s.args.bounds.pair (map (λ d. pair_cap (net_of network) d call) calls)
+      → pair ≡ least_pair_cap (net_of network) (calls ++ (call ∷ []))
+  pair_next pair f e =
+      e
+      ∙ ap (λ (v : ℕ). least_from v (map (λ d. pair_cap (net_of network) d call) calls)) pair_is
+      ∙ sym (least_pair_cap_snoc (net_of network) calls call (omega (arith, pos_of_ne-zero f, calls_are)))
+
+pub nonzero_div-visits : goal.nonzero_div-visits
+nonzero_div-visits c =
+    let u = (goal.at.nonzero_div-visits c).Start in
+    held_period_pos (network u) c.requires.sound.0 c.requires.sound.1 (call u).line (own_line u)
+
+pub overflow_add-visits : goal.overflow_add-visits
+overflow_add-visits c =
+    let u = (goal.at.overflow_add-visits c).Start in
+    omega (arith, visits_few u, div-le_self (network u).cycle (period u), c.requires.sound.0.cycle_le)
+
+pub returns-then-bounds-eq0 : goal.returns-then-bounds-eq0
+returns-then-bounds-eq0 c =
+    let u = (goal.at.returns-then-bounds-eq0 c).Start in
+    let none : length (calls u) ≡ 0 = sym (calls_are u) ∙ c.if-bounds-eq0.true in
+    bounds_of_made (net_of (network u)) _ _ _ (calls u ++ (call u ∷ [])) (omega (arith, none, length-append (calls u) (call u ∷ []))) (visits_next u)
+    (period_is u ∙ sym (least_pair_cap_first (net_of (network u)) (calls u) (call u) none))
+
+pub overflow_add-result : goal.overflow_add-result
+overflow_add-result c =
+    let u = (goal.at.overflow_add-result c).Start in
+    omega (arith, calls_are u, calls_few u)
+
+pub returns : goal.returns
+returns c =
+    let u = (goal.at.returns c).Start in
+    bounds_of_made (net_of (network u)) _ _ _ (calls u ++ (call u ∷ [])) (omega (arith, calls_are u, length-append (calls u) (call u ∷ []))) (visits_next u)
+    (pair_next u _ c.if-bounds-eq0.false c.least_pair_cap.ensures)

@@ -1,0 +1,28 @@
+-- `search::entry::search` meets its contract: the walk on the file by document 01's rule, and what is made of its ending. Assumes nothing.
+use mathlib.Core.Path.{◌∙◌}
+use lib.ListN.{length}
+use Rattle.network.specs.Network.{Net}
+use Rattle.network.specs.Reading.{read_file}
+use Rattle.search.specs.Engine.Representation.{rule_of}
+use Rattle.search.specs.Search.{above_best, walked, refusal, search_answer, outcome_of, search_outcome, start_row_after}
+use Rattle.search.proofs.Laws.WalkOnFile.{made_of_walk, made_of_refusal}
+use Rattle.search.proofs.entry.search.Goals as goal
+
+pub returns-in-Refused : goal.returns-in-Refused
+unfolding search_answer search_outcome start_row_after rule_of
+returns-in-Refused c = let w = c.walk_on_file-ended in record {
+  answer = made_of_refusal outcome_of refusal (λ (n : Net). walked n above_best c.args.budget) (read_file c.args.file.now) (length c.args.row.now) w.result w.ensures.0
+      c.in-Refused.is;
+  starts = w.ensures.1.0;
+  bytes = w.ensures.1.1;
+}
+
+pub returns-in-Passes : goal.returns-in-Passes
+unfolding search_outcome start_row_after rule_of
+returns-in-Passes c = let w = c.walk_on_file-ended in record {
+  answer = c.outcome.ensures (length c.args.row.now)
+      ∙ made_of_walk outcome_of refusal (λ (n : Net). walked n above_best c.args.budget) (read_file c.args.file.now) (length c.args.row.now) w.result w.ensures.0
+      c.in-Passes.is;
+  starts = w.ensures.1.0;
+  bytes = w.ensures.1.1;
+}

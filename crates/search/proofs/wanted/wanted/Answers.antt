@@ -1,0 +1,29 @@
+-- `search::wanted::wanted` meets its contract: the walk on the file by request A.3's rule, and what is made of its ending. Assumes nothing.
+use mathlib.Core.Path.{◌∙◌}
+use lib.ListN.{length}
+use Rattle.network.specs.Network.{Net}
+use Rattle.network.specs.Reading.{read_file}
+use Rattle.search.specs.Engine.Representation.{rule_of}
+use Rattle.search.specs.Search.{walked}
+use Rattle.search.specs.Wanted.{at_least, refusal, wanted_answer, reached_of, wanted_outcome, wanted_row_after}
+use Rattle.search.proofs.Laws.WalkOnFile.{made_of_walk, made_of_refusal}
+use Rattle.search.proofs.wanted.wanted.Goals as goal
+
+pub returns-in-Refused : goal.returns-in-Refused
+unfolding wanted_answer wanted_outcome wanted_row_after rule_of
+returns-in-Refused c = let w = c.walk_on_file-ended in record {
+  answer = made_of_refusal reached_of refusal (λ (n : Net). walked n (at_least c.args.gap) c.args.budget) (read_file c.args.file.now) (length c.args.row.now) w.result w.ensures.0
+      c.in-Refused.is;
+  starts = w.ensures.1.0;
+  bytes = w.ensures.1.1;
+}
+
+pub returns-in-Passes : goal.returns-in-Passes
+unfolding wanted_outcome wanted_row_after rule_of
+returns-in-Passes c = let w = c.walk_on_file-ended in record {
+  answer = c.reached.ensures (length c.args.row.now)
+      ∙ made_of_walk reached_of refusal (λ (n : Net). walked n (at_least c.args.gap) c.args.budget) (read_file c.args.file.now) (length c.args.row.now) w.result w.ensures.0
+      c.in-Passes.is;
+  starts = w.ensures.1.0;
+  bytes = w.ensures.1.1;
+}
