@@ -51,7 +51,7 @@ module _ (c : After-lines-1) where
 
 pub previous_row-previous-requires : goal.previous_row-previous-requires
 previous_row-previous-requires c = let r = c.by_line-ordered in
-    (r.ensures.0.0, stops_low c.args.network r.result.network c.requires.0 c.requires.1 r.ensures.0.0 r.ensures.0.1)
+    (r.ensures.ordered.0, stops_low c.args.network r.result.network c.requires.0 c.requires.1 r.ensures.ordered.0 r.ensures.ordered.1)
 
 pub line_row-lines-requires : goal.line_row-lines-requires
 line_row-lines-requires c = let n = c.args.network in
@@ -84,5 +84,5 @@ try_starts-requires c = record {
 
 pub returns : goal.returns
 returns c =
-    let u = c.before in
+    let u = (goal.at.returns c).After-lines-1 in
     walked_by_tries (net_of (network u)) (valid u) (rule_of c.args.rule) c.args.budget (replicate 16 0) c.try_starts.result (c.try_starts.ensures.tried (rows u) (can u))

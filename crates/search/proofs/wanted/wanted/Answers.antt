@@ -12,18 +12,18 @@ use Rattle.search.proofs.wanted.wanted.Goals as goal
 pub returns-in-Refused : goal.returns-in-Refused
 unfolding wanted_answer wanted_outcome wanted_row_after rule_of
 returns-in-Refused c = let w = c.walk_on_file-ended in record {
-  answer = made_of_refusal reached_of refusal (λ (n : Net). walked n (at_least c.args.gap) c.args.budget) (read_file c.args.file.now) (length c.args.row.now) w.result w.ensures.0
+  answer = made_of_refusal reached_of refusal (λ (n : Net). walked n (at_least c.args.gap) c.args.budget) (read_file c.args.file.now) (length c.args.row.now) w.result w.ensures.ended
       c.in-Refused.is;
-  starts = w.ensures.1.0;
-  bytes = w.ensures.1.1;
+  starts = w.ensures.starts;
+  bytes = w.ensures.bytes;
 }
 
 pub returns-in-Passes : goal.returns-in-Passes
 unfolding wanted_outcome wanted_row_after rule_of
 returns-in-Passes c = let w = c.walk_on_file-ended in record {
   answer = c.reached.ensures (length c.args.row.now)
-      ∙ made_of_walk reached_of refusal (λ (n : Net). walked n (at_least c.args.gap) c.args.budget) (read_file c.args.file.now) (length c.args.row.now) w.result w.ensures.0
+      ∙ made_of_walk reached_of refusal (λ (n : Net). walked n (at_least c.args.gap) c.args.budget) (read_file c.args.file.now) (length c.args.row.now) w.result w.ensures.ended
       c.in-Passes.is;
-  starts = w.ensures.1.0;
-  bytes = w.ensures.1.1;
+  starts = w.ensures.starts;
+  bytes = w.ensures.bytes;
 }
