@@ -5,6 +5,9 @@ ghost use Rattle.cases_typed.specs.Counts.{IsPrefixLen};
 use std::io;
 use std::io::Read;
 
+// How many bytes a text of cases may have. Of a longer one those behind are left unread.
+pub const ROOM: usize = 65536;
+
 // Reads until the buffer is full or the input ends, and answers how many bytes came. What the buffer has no room for is left unread. A read
 // that fails is answered, since what it left out could be cases.
 pub fn read_full<R: Read>(input: &mut R, buffer: &mut [u8]) -> io::Result<usize>
