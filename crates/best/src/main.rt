@@ -3,7 +3,7 @@
 // status 1.
 #![tactic(auto)]
 
-ghost use Rattle.std.specs.Prelude.{◌≡◌, ◌≤◌, ◌×◌, length, take};
+ghost use Rattle.std.specs.Prelude.{◌≡◌, ◌≤◌, length, take};
 ghost use Rattle.network.specs.Network.{max_lines};
 
 use network::{Network, ReadAnswer};
