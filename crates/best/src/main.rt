@@ -1,17 +1,21 @@
 // Reads a network file on standard input, searches for its best timetable with a budget of 1,000,000 tries, and prints the least gap, the
-// sum, the tries and the starts; or why the file is refused. It can't set its exit status, so it says on standard error when reading or
-// writing failed.
+// sum, the tries and the starts; or why the file is refused. Where reading or writing failed it says so on standard error, and ends with
+// status 1.
 #![tactic(auto)]
 
-ghost use Rattle.std.specs.Prelude.{◌≤◌};
-ghost use Rattle.io.specs.Counts.{IsPrefixLen};
+ghost use Rattle.std.specs.Prelude.{◌≡◌, ◌≤◌, length, take};
 ghost use Rattle.network.specs.Network.{max_lines};
 
-use libc::{STDERR_FILENO, STDIN_FILENO, STDOUT_FILENO};
 use network::{Network, ReadAnswer};
 use search::SearchAnswer;
+use std::io;
+use std::io::Read;
+use std::process::ExitCode;
 
 const BUDGET: u32 = 1000000;
+
+// How much of the input is read. What doesn't fit doesn't decide and is left unread.
+const ROOM: usize = 4096;
 
 // How many bytes were read, and whether a failure ended them.
 #[derive(Clone, Copy)]
@@ -21,105 +25,98 @@ struct Input {
 }
 
 // What a failed read left out could change the answer, so none is printed.
-fn main() {
-    let mut buffer = io::buffer();
-    let input = read_input(&mut buffer);
+fn main(rt: HostRuntime) -> ExitCode {
+    let mut stdin = rt.stdin();
+    let mut buffer = [0u8; ROOM];
+    let input = read_input(&mut stdin, &mut buffer);
     let end = input.end;
     if input.failed {
-        io::write_all(STDERR_FILENO, b"best: reading standard input failed\n");
-    } else if !run(&buffer[..end]) {
-        io::write_all(STDERR_FILENO, b"best: writing standard output failed\n");
+        failed(&rt, "reading standard input")
+    } else if run(&rt, &buffer[..end]).is_err() {
+        failed(&rt, "writing standard output")
+    } else {
+        ExitCode::SUCCESS
     }
 }
 
-// `io::read_full` can't tell a failure from the end. What doesn't fit the buffer doesn't decide and is left unread.
-fn read_input(buffer: &mut [u8]) -> Input
-    ensures { IsPrefixLen result.end buffer.new }
+// Where standard error can't be written either, the status alone says it.
+fn failed(rt: &impl Eprint, what: &str) -> ExitCode {
+    let _ = eprintln!(rt; "best: {what} failed");
+    ExitCode::FAILURE
+}
+
+fn read_input<R: Read>(stdin: &mut R, buffer: &mut [u8]) -> Input
+    ensures { (result.end ≤ length buffer.new) × (result.end ≡ length (take result.end buffer.new)) }
 {
     let mut end = 0;
     while end < buffer.len() {
-        let rest = &mut buffer[end..];
-        let got = libc::read(STDIN_FILENO, rest);
-        let more = io::count(got, rest);
-        if more == 0 {
-            return Input {
-                end,
-                failed: got < 0,
-            };
+        match stdin.read(&mut buffer[end..]) {
+            Ok(0) => return Input { end, failed: false },
+            Ok(more) => end += more,
+            Err(_) => return Input { end, failed: true },
         }
-        end += more;
     }
     Input { end, failed: false }
 }
 
-// The read call says how many starts there are. Like each function below it answers whether all was written.
-fn run(file: &[u8]) -> bool {
+// The read call says how many starts there are. Like each function below it answers an error where not all was written.
+fn run(rt: &impl Print, file: &[u8]) -> io::Result<()> {
     let answer = network::reader::read(file);
     match answer {
-        ReadAnswer::Refused { number, place } => print_refusal(number, place),
+        ReadAnswer::Refused { number, place } => print_refusal(rt, number, place),
         ReadAnswer::Accepted {
             lines,
-            stops,
-            calls,
-            cycle,
-        } => find(file, lines as usize),
+            stops: _,
+            calls: _,
+            cycle: _,
+        } => find(rt, file, lines as usize),
     }
 }
 
-fn find(file: &[u8], lines: usize) -> bool
+fn find(rt: &impl Print, file: &[u8], lines: usize) -> io::Result<()>
     requires { lines ≤ max_lines }
 {
     let mut row = [0i32; Network::MAX_LINES];
     let starts = &mut row[..lines];
     let answer = search::entry::search(file, starts, BUDGET);
     match answer {
-        SearchAnswer::Finished { least, sum, tries } => print_best(least, sum, tries, starts),
+        SearchAnswer::Finished { least, sum, tries } => print_best(rt, least, sum, tries, starts),
         SearchAnswer::Stopped { least, sum, tries } => {
-            io::write_all(STDOUT_FILENO, b"stopped ") && print_best(least, sum, tries, starts)
+            print!(rt; "stopped ")?;
+            print_best(rt, least, sum, tries, starts)
         }
         // The budget is more than the lines, so a full timetable is always reached.
-        SearchAnswer::StoppedWithNone { tries } => print_tries(tries),
-        SearchAnswer::Refused { number, place } => print_refusal(number, place),
+        SearchAnswer::StoppedWithNone { tries } => print_tries(rt, tries),
+        SearchAnswer::Refused { number, place } => print_refusal(rt, number, place),
     }
 }
 
-fn print_best(least: u32, sum: u32, tries: u32, starts: &[i32]) -> bool {
-    io::write_all(STDOUT_FILENO, b"gap ")
-        && io::print_decimal(STDOUT_FILENO, least as u64)
-        && io::write_all(STDOUT_FILENO, b" sum ")
-        && io::print_decimal(STDOUT_FILENO, sum as u64)
-        && io::write_all(STDOUT_FILENO, b" tries ")
-        && io::print_decimal(STDOUT_FILENO, tries as u64)
-        && io::write_all(STDOUT_FILENO, b" starts")
-        && print_starts(starts)
-        && io::write_all(STDOUT_FILENO, b"\n")
+fn print_best(rt: &impl Print, least: u32, sum: u32, tries: u32, starts: &[i32]) -> io::Result<()> {
+    print!(rt; "gap {least} sum {sum} tries {tries} starts")?;
+    print_starts(rt, starts)?;
+    println!(rt)
 }
 
-fn print_starts(starts: &[i32]) -> bool {
-    for i in 0..starts.len() {
-        if !print_start(starts[i]) {
-            return false;
-        }
+fn print_starts(rt: &impl Print, starts: &[i32]) -> io::Result<()> {
+    for start in starts {
+        print_start(rt, *start)?;
     }
-    true
+    Ok(())
 }
 
 // The walk's starts are below the periods and never negative.
-fn print_start(start: i32) -> bool {
-    io::write_all(STDOUT_FILENO, b" ")
-        && (start < 0 || io::print_decimal(STDOUT_FILENO, start as u64))
+fn print_start(rt: &impl Print, start: i32) -> io::Result<()> {
+    if start < 0 {
+        print!(rt; " ")
+    } else {
+        print!(rt; " {start}")
+    }
 }
 
-fn print_tries(tries: u32) -> bool {
-    io::write_all(STDOUT_FILENO, b"stopped tries ")
-        && io::print_decimal(STDOUT_FILENO, tries as u64)
-        && io::write_all(STDOUT_FILENO, b"\n")
+fn print_tries(rt: &impl Print, tries: u32) -> io::Result<()> {
+    println!(rt; "stopped tries {tries}")
 }
 
-fn print_refusal(number: u8, place: usize) -> bool {
-    io::write_all(STDOUT_FILENO, b"refused ")
-        && io::print_decimal(STDOUT_FILENO, number as u64)
-        && io::write_all(STDOUT_FILENO, b" at ")
-        && io::print_decimal(STDOUT_FILENO, place as u64)
-        && io::write_all(STDOUT_FILENO, b"\n")
+fn print_refusal(rt: &impl Print, number: u8, place: usize) -> io::Result<()> {
+    println!(rt; "refused {number} at {place}")
 }

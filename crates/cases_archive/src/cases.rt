@@ -4,43 +4,44 @@ ghost use Rattle.std.specs.Prelude.{◌≤◌};
 use crate::shown::{FILL, show_answer, show_row, written};
 use cases_typed::show::show_name;
 use cases_typed::{name_length, put_hex};
+use std::io;
 
 // A case: its name, a colon, and a file of at most 64 bytes in hexadecimal, as the paper writes files. The row that is lent has so many
 // places.
-pub fn case(text: &[u8], places: usize)
+pub fn case(rt: &impl Print, text: &[u8], places: usize) -> io::Result<()>
     requires { places ≤ 64 }
 {
     let colon = name_length(text);
-    named(&text[..colon], &text[colon..], places);
+    named(rt, &text[..colon], &text[colon..], places)
 }
 
 // A case whose name stands by itself.
-pub fn named(name: &[u8], text: &[u8], places: usize)
+pub fn named(rt: &impl Print, name: &[u8], text: &[u8], places: usize) -> io::Result<()>
     requires { places ≤ 64 }
 {
     let mut file = [0u8; 64];
     let end = put_hex(text, &mut file, 0);
-    show(name, &file[..end], places);
+    show(rt, name, &file[..end], places)
 }
 
 // A case whose file is what the archive call wrote for the text's file.
-pub fn again(name: &[u8], text: &[u8]) {
+pub fn again(rt: &impl Print, name: &[u8], text: &[u8]) -> io::Result<()> {
     let mut file = [0u8; 64];
     let end = put_hex(text, &mut file, 0);
     let mut form = [FILL; 64];
     network::archive::archive(&file[..end], &mut form);
     let length = written(&form);
-    show(name, &form[..length], 64);
+    show(rt, name, &form[..length], 64)
 }
 
 // The answer for a file and a row that is the first places of 64, on a line of its own. All 64 are shown, so that a byte written behind
 // the row shows too.
-fn show(name: &[u8], file: &[u8], places: usize)
+fn show(rt: &impl Print, name: &[u8], file: &[u8], places: usize) -> io::Result<()>
     requires { places ≤ 64 }
 {
     let mut row = [FILL; 64];
-    show_name(name);
+    show_name(rt, name)?;
     let answer = network::archive::archive(file, &mut row[..places]);
-    show_answer(answer);
-    show_row(&row);
+    show_answer(rt, answer)?;
+    show_row(rt, &row)
 }

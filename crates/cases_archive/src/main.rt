@@ -10,9 +10,11 @@ mod networks;
 mod rows;
 mod shown;
 
-fn main() {
-    rows::all();
-    networks::all();
-    editions::all();
-    large::all();
+use std::io;
+
+fn main(rt: HostRuntime) -> io::Result<()> {
+    rows::all(&rt)?;
+    networks::all(&rt)?;
+    editions::all(&rt)?;
+    large::all(&rt)
 }

@@ -1,24 +1,19 @@
 // The archive call's answer and its row on standard output.
 ghost use Rattle.std.specs.Prelude.{◌<◌, ◌≤◌, length};
-ghost use Rattle.io.specs.Counts.{IsPrefixLen};
+ghost use Rattle.cases_typed.specs.Counts.{IsPrefixLen};
 
-use cases_typed::show::{show_number, show_refusal};
-use libc::STDOUT_FILENO;
+use cases_typed::show::show_refusal;
 use network::ArchiveAnswer;
+use std::io;
 
 // What every place of a row holds before the call. An archive form ends with 45, so that it is told from what stands behind it.
 pub const FILL: u8 = 0xA5;
 
 // The length of the archive form, or the refusal.
-pub fn show_answer(answer: ArchiveAnswer) {
+pub fn show_answer(rt: &impl Print, answer: ArchiveAnswer) -> io::Result<()> {
     match answer {
-        ArchiveAnswer::Archived { bytes } => {
-            io::write_all(STDOUT_FILENO, b" archived");
-            show_number(bytes as u64);
-        }
-        ArchiveAnswer::Refused { number, place } => {
-            show_refusal(number, place);
-        }
+        ArchiveAnswer::Archived { bytes } => print!(rt; " archived {bytes}"),
+        ArchiveAnswer::Refused { number, place } => show_refusal(rt, number, place),
     }
 }
 
@@ -37,33 +32,33 @@ pub fn written(row: &[u8]) -> usize
 }
 
 // A row whole: the bytes that are written, and how many stand behind them as before the call.
-pub fn show_row(row: &[u8]) {
+pub fn show_row(rt: &impl Print, row: &[u8]) -> io::Result<()> {
     let end = written(row);
-    io::write_all(STDOUT_FILENO, b"; row");
-    show_commands(&row[..end]);
-    show_rest(row, end);
+    print!(rt; "; row")?;
+    show_commands(rt, &row[..end])?;
+    show_rest(rt, row, end)
 }
 
 // How many bytes stand behind the written ones as before the call, and the line's end.
-pub fn show_rest(row: &[u8], end: usize)
+pub fn show_rest(rt: &impl Print, row: &[u8], end: usize) -> io::Result<()>
     requires { end ≤ length row.now }
 {
-    io::write_all(STDOUT_FILENO, b", A5");
-    show_number((row.len() - end) as u64);
-    io::write_all(STDOUT_FILENO, b" times\n");
+    let rest = row.len() - end;
+    println!(rt; ", A5 {rest} times")
 }
 
 // Bytes as the paper writes a file: a space before each command, and none before its operands.
-pub fn show_commands(bytes: &[u8]) {
+pub fn show_commands(rt: &impl Print, bytes: &[u8]) -> io::Result<()> {
     let mut left: usize = 0;
-    for i in 0..bytes.len() {
+    for byte in bytes {
         if left == 0 {
-            io::write_all(STDOUT_FILENO, b" ");
-            left = command_length(bytes[i]);
+            print!(rt; " ")?;
+            left = command_length(*byte);
         }
-        show_byte(bytes[i]);
+        show_byte(rt, *byte)?;
         left -= 1;
     }
+    Ok(())
 }
 
 // The length of a command of the archive form, with its operands; any other byte stands by itself.
@@ -79,9 +74,9 @@ fn command_length(byte: u8) -> usize
 }
 
 // A byte as a pair of digits.
-fn show_byte(byte: u8) {
+fn show_byte(rt: &impl Print, byte: u8) -> io::Result<()> {
     let pair = [glyph(byte / 16), glyph(byte % 16)];
-    io::write_all(STDOUT_FILENO, &pair);
+    rt.write_all(&pair)
 }
 
 // The digit of a value, 0 to 9 or A to F.

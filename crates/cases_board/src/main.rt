@@ -7,10 +7,12 @@ mod cases;
 mod shown;
 
 use crate::cases::all;
-use libc::STDIN_FILENO;
+use cases_typed::input::{ROOM, read_full};
+use std::io;
 
-fn main() {
-    let mut text = io::large_buffer();
-    let end = io::read_full(STDIN_FILENO, &mut text);
-    all(&text[..end]);
+fn main(rt: HostRuntime) -> io::Result<()> {
+    let mut input = rt.stdin();
+    let mut text = [0u8; ROOM];
+    let end = read_full(&mut input, &mut text)?;
+    all(&rt, &text[..end])
 }

@@ -1,9 +1,9 @@
 // The board call's answer and its rows on standard output.
 ghost use Rattle.std.specs.Prelude.{◌≤◌};
 
-use cases_typed::show::{show_number, show_refusal};
-use libc::STDOUT_FILENO;
+use cases_typed::show::show_refusal;
 use network::BoardAnswer;
+use std::io;
 
 // How many places the rows have of which parts are lent.
 pub const PLACES: usize = 32;
@@ -14,28 +14,22 @@ pub const NO_TIME: i64 = 9999999999;
 pub const NO_LINE: u8 = 255;
 
 // How many arrivals are listed, or the refusal.
-pub fn show_answer(answer: BoardAnswer) {
+pub fn show_answer(rt: &impl Print, answer: BoardAnswer) -> io::Result<()> {
     match answer {
-        BoardAnswer::Listed { count } => {
-            io::write_all(STDOUT_FILENO, b" listed");
-            show_number(count as u64);
-        }
-        BoardAnswer::Refused { number, place } => {
-            show_refusal(number, place);
-        }
+        BoardAnswer::Listed { count } => print!(rt; " listed {count}"),
+        BoardAnswer::Refused { number, place } => show_refusal(rt, number, place),
     }
 }
 
 // Both rows whole: the places that are written, how many stand behind them as before the call, and the line's end.
-pub fn show_rows(times: &[i64; PLACES], lines: &[u8; PLACES]) {
+pub fn show_rows(rt: &impl Print, times: &[i64; PLACES], lines: &[u8; PLACES]) -> io::Result<()> {
     let end = written(times, lines);
-    io::write_all(STDOUT_FILENO, b"; rows");
+    print!(rt; "; rows")?;
     for i in 0..end {
-        show_arrival(times[i], lines[i]);
+        show_arrival(rt, times[i], lines[i])?;
     }
-    io::write_all(STDOUT_FILENO, b", untouched");
-    show_number((PLACES - end) as u64);
-    io::write_all(STDOUT_FILENO, b"\n");
+    let untouched = PLACES - end;
+    println!(rt; ", untouched {untouched}")
 }
 
 // How many places of the rows are written: up to the last of which either isn't as before the call.
@@ -56,18 +50,12 @@ fn written(times: &[i64; PLACES], lines: &[u8; PLACES]) -> usize
 }
 
 // An arrival: its time, a stroke, and its line.
-fn show_arrival(time: i64, line: u8) {
-    show_time(time);
-    io::write_all(STDOUT_FILENO, b"/");
-    io::print_decimal(STDOUT_FILENO, line as u64);
+fn show_arrival(rt: &impl Print, time: i64, line: u8) -> io::Result<()> {
+    show_time(rt, time)?;
+    print!(rt; "/{line}")
 }
 
-// A time of either sign. -1 - time is at least 0 for every negative time, the lowest included.
-fn show_time(time: i64) {
-    if time < 0 {
-        io::write_all(STDOUT_FILENO, b" -");
-        io::print_decimal(STDOUT_FILENO, (-1 - time) as u64 + 1);
-    } else {
-        show_number(time as u64);
-    }
+// A time of either sign.
+fn show_time(rt: &impl Print, time: i64) -> io::Result<()> {
+    print!(rt; " {time}")
 }

@@ -8,8 +8,10 @@ mod networks;
 mod rows;
 mod sheets;
 
-fn main() {
-    networks::all();
-    rows::all();
-    sheets::all();
+use std::io;
+
+fn main(rt: HostRuntime) -> io::Result<()> {
+    networks::all(&rt)?;
+    rows::all(&rt)?;
+    sheets::all(&rt)
 }

@@ -5,14 +5,20 @@ ghost use Rattle.std.specs.Prelude.{◌≤◌};
 use crate::cases::show_answer;
 use cases_typed::lines::put_sizes;
 use cases_typed::show::{show_name, show_number, show_numbers, sum_of};
-use libc::STDOUT_FILENO;
+use std::io;
 
 // A case for the gaps call. The text says how many places of the row are shown.
-pub fn show_gaps(name: &[u8], file: &[u8], sheet: &[i32], text: &[u8]) {
+pub fn show_gaps(
+    rt: &impl Print,
+    name: &[u8],
+    file: &[u8],
+    sheet: &[i32],
+    text: &[u8],
+) -> io::Result<()> {
     let mut sizes = [0u32; 8];
     put_sizes(text, &mut sizes);
     let shown = places(sizes[0]);
-    show(name, file, sheet, shown);
+    show(rt, name, file, sheet, shown)
 }
 
 fn places(size: u32) -> usize
@@ -22,16 +28,16 @@ fn places(size: u32) -> usize
 }
 
 // The gaps call's answer for a file and a sheet, and the row it leaves, on a line of its own.
-fn show(name: &[u8], file: &[u8], sheet: &[i32], shown: usize)
+fn show(rt: &impl Print, name: &[u8], file: &[u8], sheet: &[i32], shown: usize) -> io::Result<()>
     requires { shown ≤ 64 }
 {
-    show_name(name);
+    show_name(rt, name)?;
     let mut row = [500u16; 64];
     let answer = network::gap_row::gaps(file, sheet, &mut row);
-    show_answer(answer);
-    io::write_all(STDOUT_FILENO, b"; row");
-    show_numbers(&row[..shown]);
-    io::write_all(STDOUT_FILENO, b"; sum");
-    show_number(sum_of(&row));
-    io::write_all(STDOUT_FILENO, b"\n");
+    show_answer(rt, answer)?;
+    print!(rt; "; row")?;
+    show_numbers(rt, &row[..shown])?;
+    print!(rt; "; sum")?;
+    show_number(rt, sum_of(&row))?;
+    println!(rt)
 }

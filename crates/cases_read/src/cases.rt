@@ -2,59 +2,61 @@
 ghost use Rattle.std.specs.Prelude.{◌<◌, ◌≤◌};
 
 use cases_typed::large::large_file;
-use cases_typed::show::{show_name, show_number, show_refusal};
+use cases_typed::show::{show_name, show_refusal};
 use cases_typed::{name_length, put_hex};
-use libc::STDOUT_FILENO;
 use network::ReadAnswer;
+use std::io;
 
 // A case: its name, a colon, and a file of at most 96 bytes in hexadecimal, as the paper writes files.
-pub fn case(text: &[u8]) {
+pub fn case(rt: &impl Print, text: &[u8]) -> io::Result<()> {
     let colon = name_length(text);
-    named(&text[..colon], &text[colon..]);
+    named(rt, &text[..colon], &text[colon..])
 }
 
 // A case whose name stands by itself.
-pub fn named(name: &[u8], text: &[u8]) {
+pub fn named(rt: &impl Print, name: &[u8], text: &[u8]) -> io::Result<()> {
     let mut file = [0u8; 96];
     let end = put_hex(text, &mut file, 0);
-    show(name, &file[..end]);
+    show(rt, name, &file[..end])
 }
 
 // A case whose file begins with so many lines and calls of `large_file`, and goes on as the text says.
-pub fn large_case(text: &[u8], lines: usize, callers: usize, calls: usize)
+pub fn large_case(
+    rt: &impl Print,
+    text: &[u8],
+    lines: usize,
+    callers: usize,
+    calls: usize,
+) -> io::Result<()>
     requires { (lines ≤ 16) × (0 < callers) × (calls ≤ 256) }
 {
     let colon = name_length(text);
     let mut file = large_file(lines, callers, 60, false);
     let end = put_hex(&text[colon..], &mut file, 3 * lines + 5 * calls);
-    show(&text[..colon], &file[..end]);
+    show(rt, &text[..colon], &file[..end])
 }
 
 // A case whose file begins with 16 lines and all 256 calls.
-pub fn full_case(text: &[u8]) {
-    large_case(text, 16, 16, 256);
+pub fn full_case(rt: &impl Print, text: &[u8]) -> io::Result<()> {
+    large_case(rt, text, 16, 16, 256)
 }
 
 // The reader's answer for a file, on a line of its own.
-pub fn show(name: &[u8], file: &[u8]) {
-    show_name(name);
-    let answer = network::reader::read(file);
+pub fn show(rt: &impl Print, name: &[u8], file: &[u8]) -> io::Result<()> {
+    show_name(rt, name)?;
+    show_answer(rt, network::reader::read(file))?;
+    println!(rt)
+}
+
+// The numbers of lines, stops and calls and the cycle, or the refusal.
+fn show_answer(rt: &impl Print, answer: ReadAnswer) -> io::Result<()> {
     match answer {
         ReadAnswer::Accepted {
             lines,
             stops,
             calls,
             cycle,
-        } => {
-            io::write_all(STDOUT_FILENO, b" accepted");
-            show_number(lines as u64);
-            show_number(stops as u64);
-            show_number(calls as u64);
-            show_number(cycle as u64);
-        }
-        ReadAnswer::Refused { number, place } => {
-            show_refusal(number, place);
-        }
+        } => print!(rt; " accepted {lines} {stops} {calls} {cycle}"),
+        ReadAnswer::Refused { number, place } => show_refusal(rt, number, place),
     }
-    io::write_all(STDOUT_FILENO, b"\n");
 }

@@ -8,9 +8,11 @@ mod paper;
 mod refusals;
 mod wanted;
 
-fn main() {
-    paper::all();
-    refusals::all();
-    loops::all();
-    wanted::all();
+use std::io;
+
+fn main(rt: HostRuntime) -> io::Result<()> {
+    paper::all(&rt)?;
+    refusals::all(&rt)?;
+    loops::all(&rt)?;
+    wanted::all(&rt)
 }

@@ -1,19 +1,19 @@
 // What the calls hand back and answer, in words and numbers.
-use cases_typed::show::{show_number, show_rating, show_refusal, show_row};
+use cases_typed::show::{show_rating, show_refusal, show_row};
 use examination::{KeyAnswer, MarkAnswer};
-use libc::STDOUT_FILENO;
+use std::io;
 
 // The part that better-of-two hands back.
-pub fn show_part(part: &[i32]) {
+pub fn show_part(rt: &impl Print, part: &[i32]) -> io::Result<()> {
     if part.len() == 0 {
-        io::write_all(STDOUT_FILENO, b" the empty part");
+        print!(rt; " the empty part")?;
     }
-    show_row(part);
-    io::write_all(STDOUT_FILENO, b"\n");
+    show_row(rt, part)?;
+    println!(rt)
 }
 
 // What mark answers.
-pub fn show_mark(answer: MarkAnswer) {
+pub fn show_mark(rt: &impl Print, answer: MarkAnswer) -> io::Result<()> {
     match answer {
         MarkAnswer::Decided {
             least,
@@ -25,53 +25,48 @@ pub fn show_mark(answer: MarkAnswer) {
             remainder,
             tries,
         } => {
-            io::write_all(STDOUT_FILENO, b" decided");
-            show_rating(least, sum);
-            io::write_all(STDOUT_FILENO, b" best");
-            show_rating(best_least, best_sum);
-            show_equal(equal);
-            show_hundred(mark, remainder);
-            show_tries(tries);
+            print!(rt; " decided")?;
+            show_rating(rt, least, sum)?;
+            print!(rt; " best")?;
+            show_rating(rt, best_least, best_sum)?;
+            show_equal(rt, equal)?;
+            show_hundred(rt, mark, remainder)?;
+            show_tries(rt, tries)
         }
         MarkAnswer::Undecided { least, sum, tries } => {
-            io::write_all(STDOUT_FILENO, b" undecided");
-            show_rating(least, sum);
-            show_tries(tries);
+            print!(rt; " undecided")?;
+            show_rating(rt, least, sum)?;
+            show_tries(rt, tries)
         }
         MarkAnswer::Refused { number, place } => {
-            show_refusal(number, place);
-            io::write_all(STDOUT_FILENO, b"\n");
+            show_refusal(rt, number, place)?;
+            println!(rt)
         }
     }
 }
 
 // What the mark by a key answers.
-pub fn show_key(answer: KeyAnswer) {
+pub fn show_key(rt: &impl Print, answer: KeyAnswer) -> io::Result<()> {
     match answer {
-        KeyAnswer::Marked { mark, remainder } => show_hundred(mark, remainder),
-        KeyAnswer::Refused { number, place } => show_refusal(number, place),
+        KeyAnswer::Marked { mark, remainder } => show_hundred(rt, mark, remainder)?,
+        KeyAnswer::Refused { number, place } => show_refusal(rt, number, place)?,
     }
-    io::write_all(STDOUT_FILENO, b"\n");
+    println!(rt)
 }
 
 // A mark out of a hundred with its remainder.
-fn show_hundred(mark: u32, remainder: u32) {
-    io::write_all(STDOUT_FILENO, b" mark");
-    show_number(mark as u64);
-    io::write_all(STDOUT_FILENO, b" remainder");
-    show_number(remainder as u64);
+fn show_hundred(rt: &impl Print, mark: u32, remainder: u32) -> io::Result<()> {
+    print!(rt; " mark {mark} remainder {remainder}")
 }
 
-fn show_equal(equal: bool) {
+fn show_equal(rt: &impl Print, equal: bool) -> io::Result<()> {
     if equal {
-        io::write_all(STDOUT_FILENO, b" equal");
+        print!(rt; " equal")
     } else {
-        io::write_all(STDOUT_FILENO, b" not equal");
+        print!(rt; " not equal")
     }
 }
 
-fn show_tries(tries: u32) {
-    io::write_all(STDOUT_FILENO, b" tries");
-    show_number(tries as u64);
-    io::write_all(STDOUT_FILENO, b"\n");
+fn show_tries(rt: &impl Print, tries: u32) -> io::Result<()> {
+    println!(rt; " tries {tries}")
 }

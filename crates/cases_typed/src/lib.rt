@@ -1,13 +1,14 @@
 // Network files as the papers write them, for the programs that run cases: a name, a colon, and bytes in pairs of hexadecimal digits.
 #![tactic(auto)]
 
+pub mod input;
 pub mod large;
 pub mod lines;
 pub mod papers;
 pub mod show;
 
 ghost use Rattle.std.specs.Prelude.{◌<◌, ◌≤◌, length};
-ghost use Rattle.io.specs.Counts.{IsPrefixLen};
+ghost use Rattle.cases_typed.specs.Counts.{IsPrefixLen};
 
 // How long the name is: the place of the colon, or the text's length where there is none.
 pub fn name_length(text: &[u8]) -> usize

@@ -1,31 +1,30 @@
 // Names, numbers and starts on standard output: a case's name first, and what follows each behind a space.
 ghost use Rattle.std.specs.Prelude.{◌≤◌, length};
 
-use libc::STDOUT_FILENO;
+use std::io;
 
 // The name of a case.
-pub fn show_name(name: &[u8]) {
-    io::write_all(STDOUT_FILENO, name);
-    io::write_all(STDOUT_FILENO, b":");
+pub fn show_name(rt: &impl Print, name: &[u8]) -> io::Result<()> {
+    rt.write_all(name)?;
+    rt.write_all(b":")
 }
 
 // A number.
-pub fn show_number(number: u64) {
-    io::write_all(STDOUT_FILENO, b" ");
-    io::print_decimal(STDOUT_FILENO, number);
+pub fn show_number(rt: &impl Print, number: u64) -> io::Result<()> {
+    print!(rt; " {number}")
 }
 
 // A rating.
-pub fn show_rating(least: u32, sum: u32) {
-    show_number(least as u64);
-    show_number(sum as u64);
+pub fn show_rating(rt: &impl Print, least: u32, sum: u32) -> io::Result<()> {
+    print!(rt; " {least} {sum}")
 }
 
 // The numbers of a row.
-pub fn show_numbers(row: &[u16]) {
-    for i in 0..row.len() {
-        show_number(row[i] as u64);
+pub fn show_numbers(rt: &impl Print, row: &[u16]) -> io::Result<()> {
+    for number in row {
+        show_number(rt, *number as u64)?;
     }
+    Ok(())
 }
 
 // The sum of a row, by which a change anywhere shows.
@@ -33,32 +32,30 @@ pub fn sum_of(row: &[u16]) -> u64
     requires { length row.now ≤ 4096 }
 {
     let mut sum: u64 = 0;
-    for i in 0..row.len() {
-        sum += row[i] as u64;
+    for number in row {
+        sum += *number as u64;
     }
     sum
 }
 
 // The starts of a row.
-pub fn show_row(row: &[i32]) {
-    for i in 0..row.len() {
-        show_start(row[i]);
+pub fn show_row(rt: &impl Print, row: &[i32]) -> io::Result<()> {
+    for start in row {
+        show_start(rt, *start)?;
     }
+    Ok(())
 }
 
 // A start; of a negative one only that it is.
-fn show_start(start: i32) {
+fn show_start(rt: &impl Print, start: i32) -> io::Result<()> {
     if 0 <= start {
-        show_number(start as u64);
+        print!(rt; " {start}")
     } else {
-        io::write_all(STDOUT_FILENO, b" negative");
+        print!(rt; " negative")
     }
 }
 
 // A refusal, by its number and place.
-pub fn show_refusal(number: u8, place: usize) {
-    io::write_all(STDOUT_FILENO, b" refused");
-    show_number(number as u64);
-    io::write_all(STDOUT_FILENO, b" at");
-    show_number(place as u64);
+pub fn show_refusal(rt: &impl Print, number: u8, place: usize) -> io::Result<()> {
+    print!(rt; " refused {number} at {place}")
 }

@@ -1,0 +1,9 @@
+-- `end` is within the buffer; the measure is what is left of it.
+use Rattle.std.proofs.Common.{length, ◌-◌, ◌≤◌}
+use Rattle.best.proofs.read_input.Given as goal
+
+abbrev pub invariant-loop-end : goal.invariant-loop-end
+invariant-loop-end g l = l.end ≤ length l.buffer
+
+abbrev pub decreases-loop-end : goal.decreases-loop-end
+decreases-loop-end g l = length l.initial.buffer - l.end

@@ -1,0 +1,6 @@
+-- The sum is at most 255 for each byte passed, and that of the running sums at most 255 × 2,048.
+use Rattle.std.proofs.Common.{◌*◌, ◌≤◌}
+use Rattle.cases_archive.proofs.large.show_sums.Given as goal
+
+abbrev pub invariant-loop-byte : goal.invariant-loop-byte
+invariant-loop-byte g l = record { sum : l.sum ≤ 255 * l.byte-index; sums : l.sums ≤ 522240 * l.byte-index }
