@@ -1,5 +1,5 @@
-//! Finds the engine's static library, which `rt staticlib examination` writes
-//! to `target/staticlib` of the repository. The variable EXAMINATION_LIB names
+//! Finds the engine's static library, which `tools/staticlib` writes to
+//! `target/staticlib` of the repository. The variable EXAMINATION_LIB names
 //! another folder.
 
 use std::path::{Path, PathBuf};
@@ -15,7 +15,7 @@ fn main() {
     if !library.is_file() {
         // Without the engine there is nothing to wrap and nothing to compare.
         eprintln!("There is no {}.", library.display());
-        eprintln!("run: rt staticlib examination   (in the folder above host/)");
+        eprintln!("run: tools/staticlib   (in the folder above host/)");
         exit(1);
     }
     println!("cargo:rustc-link-search=native={}", folder.display());

@@ -1,4 +1,5 @@
-// The exports: the calls for programs in other languages, as docs/ABI.md sets them down.
+// The exports: the calls for programs in other languages, as docs/ABI.md sets them down. The static library `examination_c` exports each under
+// its name here, with the same clauses.
 ghost use Rattle.std.specs.Prelude.{◌≡◌, ℕ, ◌<◌, length};
 ghost use Rattle.network.specs.Archive as form;
 ghost use Rattle.network.specs.Board.{window};
@@ -62,8 +63,7 @@ fn put_rating(told: RateAnswer, answer: &mut [u32; 2]) -> u32
 }
 
 // Read.
-#[unsafe(no_mangle)]
-pub extern "C" fn examination_read(file: &[u8], answer: &mut [u32; 4]) -> u32
+pub fn examination_read(file: &[u8], answer: &mut [u32; 4]) -> u32
     ensures returned { result ≡ export.status (read_outcome (read_file file.now)) }
     ensures row { answer.new ≡ export.row_after (read_outcome (read_file file.now)) answer.old }
     ensures bytes { IsBytes file.now }
@@ -84,8 +84,7 @@ pub extern "C" fn examination_read(file: &[u8], answer: &mut [u32; 4]) -> u32
 }
 
 // Rate, the sheet as bytes.
-#[unsafe(no_mangle)]
-pub extern "C" fn examination_rate(file: &[u8], sheet: &[u8], answer: &mut [u32; 2]) -> u32
+pub fn examination_rate(file: &[u8], sheet: &[u8], answer: &mut [u32; 2]) -> u32
     ensures returned { result ≡ export.status (bytes.by_bytes rate_outcome refusal (read_file file.now) sheet.now) }
     ensures row { answer.new ≡ export.row_after (bytes.by_bytes rate_outcome refusal (read_file file.now) sheet.now) answer.old }
     ensures bytes { IsBytes file.now }
@@ -99,8 +98,7 @@ pub extern "C" fn examination_rate(file: &[u8], sheet: &[u8], answer: &mut [u32;
 }
 
 // The weighted rating, the sheet as bytes.
-#[unsafe(no_mangle)]
-pub extern "C" fn examination_weighted(file: &[u8], sheet: &[u8], answer: &mut [u32; 2]) -> u32
+pub fn examination_weighted(file: &[u8], sheet: &[u8], answer: &mut [u32; 2]) -> u32
     ensures returned { result ≡ export.status (bytes.by_bytes call.weighted_outcome refusal (read_file file.now) sheet.now) }
     ensures row { answer.new ≡ export.row_after (bytes.by_bytes call.weighted_outcome refusal (read_file file.now) sheet.now) answer.old }
     ensures bytes { IsBytes file.now }
@@ -114,8 +112,7 @@ pub extern "C" fn examination_weighted(file: &[u8], sheet: &[u8], answer: &mut [
 }
 
 // The gap of each stop, the sheet as bytes.
-#[unsafe(no_mangle)]
-pub extern "C" fn examination_gaps(
+pub fn examination_gaps(
     file: &[u8],
     sheet: &[u8],
     gap_row: &mut [u16; Network::STOPS],
@@ -135,8 +132,7 @@ pub extern "C" fn examination_gaps(
 }
 
 // The class call.
-#[unsafe(no_mangle)]
-pub extern "C" fn examination_classes(
+pub fn examination_classes(
     file: &[u8],
     class_row: &mut [u8],
     weight_row: &mut [u16],
@@ -159,8 +155,7 @@ pub extern "C" fn examination_classes(
 }
 
 // The archive call: returns the length of the archive form.
-#[unsafe(no_mangle)]
-pub extern "C" fn examination_archive(file: &[u8], row: &mut [u8]) -> u32
+pub fn examination_archive(file: &[u8], row: &mut [u8]) -> u32
     ensures returned { result ≡ export.archive_status (form.archive_outcome (read_file file.now) (length row.old)) }
     ensures row { row.new ≡ form.archive_row_after (read_file file.now) row.old }
     ensures bytes { IsBytes file.now }
@@ -173,8 +168,7 @@ pub extern "C" fn examination_archive(file: &[u8], row: &mut [u8]) -> u32
 }
 
 // The board of a stop, the sheet as bytes.
-#[unsafe(no_mangle)]
-pub extern "C" fn examination_board(
+pub fn examination_board(
     file: &[u8],
     sheet: &[u8],
     stop: u32,
@@ -213,8 +207,7 @@ pub extern "C" fn examination_board(
 }
 
 // The search.
-#[unsafe(no_mangle)]
-pub extern "C" fn examination_search(
+pub fn examination_search(
     file: &[u8],
     start_row: &mut [i32],
     budget: u32,
@@ -244,8 +237,7 @@ pub extern "C" fn examination_search(
 }
 
 // From a wanted gap to a timetable.
-#[unsafe(no_mangle)]
-pub extern "C" fn examination_wanted(
+pub fn examination_wanted(
     file: &[u8],
     start_row: &mut [i32],
     gap: u16,
@@ -276,8 +268,7 @@ pub extern "C" fn examination_wanted(
 }
 
 // Better-of-two, both sheets as bytes: 1 the first, 2 the second, 0 neither.
-#[unsafe(no_mangle)]
-pub extern "C" fn examination_better(file: &[u8], first: &[u8], second: &[u8]) -> u32
+pub fn examination_better(file: &[u8], first: &[u8], second: &[u8]) -> u32
     ensures returned { result ≡ export.better_status (bytes.better_bytes (read_file file.now) first.now second.now) }
     ensures bytes { IsBytes file.now }
     ensures first { IsBytes first.now }
@@ -362,13 +353,7 @@ fn put_hundred(told: MarkAnswer, hundred: &mut [u32; 2])
 }
 
 // Mark, the sheet as bytes.
-#[unsafe(no_mangle)]
-pub extern "C" fn examination_mark(
-    file: &[u8],
-    sheet: &[u8],
-    budget: u32,
-    answer: &mut [u32; 6],
-) -> u32
+pub fn examination_mark(file: &[u8], sheet: &[u8], budget: u32, answer: &mut [u32; 6]) -> u32
     ensures returned { result ≡ export.mark_status (bytes.mark_bytes budget (read_file file.now) sheet.now) }
     ensures row { answer.new ≡ export.mark_row (bytes.mark_bytes budget (read_file file.now) sheet.now) answer.old }
     ensures bytes { IsBytes file.now }
@@ -380,8 +365,7 @@ pub extern "C" fn examination_mark(
 
 // Mark out of a hundred, the sheet as bytes: what the export of mark answers, and mark and remainder in a row of their own, so that a host
 // that lends six places to that one keeps them.
-#[unsafe(no_mangle)]
-pub extern "C" fn examination_hundred(
+pub fn examination_hundred(
     file: &[u8],
     sheet: &[u8],
     budget: u32,
@@ -400,13 +384,7 @@ pub extern "C" fn examination_hundred(
 }
 
 // Mark out of a hundred by a key, sheet and key as bytes.
-#[unsafe(no_mangle)]
-pub extern "C" fn examination_by_key(
-    file: &[u8],
-    sheet: &[u8],
-    key: &[u8],
-    hundred: &mut [u32; 2],
-) -> u32
+pub fn examination_by_key(file: &[u8], sheet: &[u8], key: &[u8], hundred: &mut [u32; 2]) -> u32
     ensures returned { result ≡ export.status (bytes.key_bytes (read_file file.now) sheet.now key.now) }
     ensures row { hundred.new ≡ export.row_after (bytes.key_bytes (read_file file.now) sheet.now key.now) hundred.old }
     ensures bytes { IsBytes file.now }

@@ -1,4 +1,4 @@
-// The examination: better-of-two, mark, marks out of a hundred, and the exports for the host.
+// The examination: better-of-two, mark, marks out of a hundred, and the calls that `examination_c` exports for the host.
 #![tactic(auto)]
 
 pub mod better;

@@ -66,10 +66,9 @@
 //!
 //! # Where the engine comes from
 //!
-//! The build script links `libexamination.a`, which `rt staticlib examination`
-//! writes to `target/staticlib` of the repository. Where this crate stands
-//! elsewhere, or the library does, the variable `EXAMINATION_LIB` names the
-//! library's folder:
+//! The build script links `libexamination.a`, which `tools/staticlib` writes to
+//! `target/staticlib` of the repository. Where this crate stands elsewhere, or
+//! the library does, the variable `EXAMINATION_LIB` names the library's folder:
 //!
 //! ```text
 //! EXAMINATION_LIB=/opt/examination cargo build --release

@@ -201,10 +201,20 @@ fn first_command() -> String {
     command.expect("an indented line").to_string()
 }
 
-/// Runs the first command in an empty folder with other programs in place of the
-/// prover and of cargo.
+/// Where the first command puts the engine's library, from the repository's folder.
+const LIBRARY: &str = "target/staticlib/libexamination.a";
+
+/// Runs the first command with other programs in place of the prover and of cargo, in a
+/// folder that has nothing but the script that it runs, the exports' empty folder, and a
+/// library of an earlier time.
 fn first_command_with(rt: &str) -> (Ran, Folder) {
     let folder = Folder::new();
+    for inner in ["tools", "crates/examination_c", "target/staticlib"] {
+        std::fs::create_dir_all(folder.path().join(inner)).expect("a folder");
+    }
+    let script = folder.path().join("tools/staticlib");
+    std::fs::copy(format!("{ROOT}/tools/staticlib"), script).expect("the script");
+    std::fs::write(folder.path().join(LIBRARY), "of an earlier time").expect("a library");
     for (name, script) in [("rt", rt), ("cargo", "echo cargo \"$@\"")] {
         let program = folder.file(name, format!("#!/bin/sh\n{script}\n"));
         std::fs::set_permissions(&program, Permissions::from_mode(0o755)).expect("a mode");
@@ -223,7 +233,10 @@ fn first_command_with(rt: &str) -> (Ran, Folder) {
 /// fails; then nothing is built.
 #[test]
 fn the_first_command_keeps_the_notes() {
-    let (ran, folder) = first_command_with("echo \"rt $@\"; echo a note >&2");
+    let builds = "mkdir out; echo proved > out/libexamination_c.a";
+    let (ran, folder) = first_command_with(&format!(
+        "echo \"rt $@ in $PWD\"; echo a note >&2; {builds}"
+    ));
     assert_eq!((ran.status, ran.err.as_str()), (0, ""));
     assert!(
         ran.out.starts_with("cargo run -q --release --offline "),
@@ -235,10 +248,19 @@ fn the_first_command_keeps_the_notes() {
     );
     assert_eq!(ran.out.lines().count(), 1);
     let log = std::fs::read_to_string(folder.path().join("target/prove.log"));
-    assert_eq!(log.expect("a log"), "rt staticlib examination\na note\n");
-    let (ran, _folder) = first_command_with("echo a note; echo why it fails >&2; exit 3");
+    let log = log.expect("a log");
+    // Built for every processor, and in the folder of the exports.
+    assert!(log.starts_with("rt lib --cpu x86-64 in "), "{log}");
+    assert!(log.ends_with("/crates/examination_c\na note\n"), "{log}");
+    let library = std::fs::read_to_string(folder.path().join(LIBRARY));
+    assert_eq!(library.expect("the library"), "proved\n");
+    let (ran, folder) = first_command_with(&format!(
+        "echo a note; {builds}; echo why it fails >&2; exit 3"
+    ));
     assert_eq!(ran.out, "a note\nwhy it fails\n");
     assert_ne!(ran.status, 0);
+    // Nothing can be linked that isn't proved, and nothing that was proved before.
+    assert!(!folder.path().join(LIBRARY).exists());
 }
 
 /// What the hall's computer needs: the C library, and what comes with it.

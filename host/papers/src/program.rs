@@ -1,11 +1,11 @@
-//! Runs the proved engine's program `best`, which the gate builds.
+//! Runs the proved engine's program `best`, which `tools/best` builds.
 
 use crate::child::Limited;
 use std::path::Path;
 use std::process::{Command, Stdio};
 use std::time::Duration;
 
-/// Where the gate puts the program.
+/// Where `tools/best` puts the program.
 pub const BEST: &str = concat!(env!("CARGO_MANIFEST_DIR"), "/../../target/bin/best");
 
 /// The command that runs `best`. A missing program is a failure, never a
@@ -26,7 +26,7 @@ pub fn best_on_stack(kilobytes: u32) -> Command {
 
 fn demand_best() {
     let there = Path::new(BEST).is_file();
-    assert!(there, "no program {BEST}: run .ci/run, which builds it");
+    assert!(there, "no program {BEST}: run tools/best, which builds it");
 }
 
 /// What the program prints for a standard input.
