@@ -16,7 +16,7 @@ use Rattle.network.specs.Refusals.{Refuses, Unfit, Demand1}
 use Rattle.network.proofs.Laws.Gaps.{accepted_valid}
 use Rattle.search.specs.Search.{search_answer}
 use Rattle.search.proofs.Demands.{SearchLent, SearchTold, SearchExit, SearchKept, Searches, searches}
-use Rattle.examination.specs.Sheets.{Better, first, second, better_of, mark_answer, refusal}
+use Rattle.examination.specs.Sheets.{Better, first, second, neither, better_of, mark_answer, refusal}
 use Rattle.examination.proofs.Laws.Refusals.{mark_refuses, mark_refuses_only}
 use Rattle.examination.proofs.BetterSheet.{Chosen, first_not_below, second_above, both_fit, only_first, only_second, no_fit, refused_neither}
 use Rattle.examination.proofs.Mark.{MarkMeans, Marks, mark_means, MarkBesideSearch, beside_search}
@@ -44,7 +44,7 @@ mark_asks_nothing κs a = tt
 module _ (κs : Lfts 2) (a : ArgsD better.signature κs) (r : ResD better.signature κs) (s : AtExit (ended_of 2 better_kinds.ps better_kinds.r) κs)
     (kept : better_contract.Post κs a r s) where
   -- if the file is refused, the empty part at the first one's beginning
-  pub better_file_refused : {number place : ℕ} → read_file a.0.now ≡ refused number place → (r.ref_ptr ≡ a.1.0.ptr) × (r.now ≡ [])
+  pub better_file_refused : {number place : ℕ} → read_file a.0.now ≡ refused number place → (r.ref_ptr ≡ a.1.0.ref_ptr) × (r.now ≡ [])
   better_file_refused e = kept.1.1.0 (refused_neither e a.1.0.now a.1.1.0.now)
 
   module _ {n : Net} (reads : read_file a.0.now ≡ accepted n) where
@@ -73,6 +73,7 @@ module _ (κs : Lfts 2) (a : ArgsD better.signature κs) (r : ResD better.signat
             ⊎ ((r ≡ a.1.1.0) × ((least < least') ⊎ ((least ≡ least') × (sum < sum'))))
         go first is (first_not_below c) = inl (kept.0 is, c)
         go second is (second_above c) = inr (kept.1.0 is, c)
+        go neither is x = elim x [ ]
 
 -- ---- Mark
 

@@ -76,7 +76,7 @@ module _ (κs : Lfts 3) (a : ArgsD better.signature κs) (r : ResD better.signat
       (s' : AtExit (ended_of 2 part_kinds.ps part_kinds.r) κs') → part_contract.Post κs' a' r' s'
       → a.0.now ≡ a'.0.now → length a.1.0.now ≡ 4 * length a'.1.0.now → length a.1.1.0.now ≡ 4 * length a'.1.1.0.now
       → starts a.1.0.now ≡ a'.1.0.now → starts a.1.1.0.now ≡ a'.1.1.0.now
-      → ((r ≡ 1) × (r' ≡ a'.1.0)) ⊎ (((r ≡ 2) × (r' ≡ a'.1.1.0)) ⊎ ((r ≡ 0) × (r'.ref_ptr ≡ a'.1.0.ptr) × (r'.now ≡ [])))
+      → ((r ≡ 1) × (r' ≡ a'.1.0)) ⊎ (((r ≡ 2) × (r' ≡ a'.1.1.0)) ⊎ ((r ≡ 0) × (r'.ref_ptr ≡ a'.1.0.ref_ptr) × (r'.now ≡ [])))
   unfolding better_status
   better_export_names_the_part κs' a' r' s' kept' file four four' means means' =
       go (better_of (read_file a'.0.now) a'.1.0.now a'.1.1.0.now) refl
@@ -87,7 +87,7 @@ module _ (κs : Lfts 3) (a : ArgsD better.signature κs) (r : ResD better.signat
     where
       go : (b : Better) → better_of (read_file a'.0.now) a'.1.0.now a'.1.1.0.now ≡ b
           → r ≡ better_status (better_of (read_file a'.0.now) a'.1.0.now a'.1.1.0.now)
-          → ((r ≡ 1) × (r' ≡ a'.1.0)) ⊎ (((r ≡ 2) × (r' ≡ a'.1.1.0)) ⊎ ((r ≡ 0) × (r'.ref_ptr ≡ a'.1.0.ptr) × (r'.now ≡ [])))
+          → ((r ≡ 1) × (r' ≡ a'.1.0)) ⊎ (((r ≡ 2) × (r' ≡ a'.1.1.0)) ⊎ ((r ≡ 0) × (r'.ref_ptr ≡ a'.1.0.ref_ptr) × (r'.now ≡ [])))
       go first e f = inl (f ∙ ap better_status e, kept'.0 e)
       go second e f = inr (inl (f ∙ ap better_status e, kept'.1.0 e))
       go neither e f = inr (inr (f ∙ ap better_status e, (kept'.1.1.0 e).0, (kept'.1.1.0 e).1))
@@ -143,6 +143,7 @@ module _ (κs : Lfts 3) (a : ArgsD better.signature κs) (r : ResD better.signat
             → ((r ≡ 1) × ((least' < least) ⊎ ((least' ≡ least) × (sum' ≤ sum)))) ⊎ ((r ≡ 2) × ((least < least') ⊎ ((least ≡ least') × (sum < sum'))))
         go first is (first_not_below c) = inl (is, c)
         go second is (second_above c) = inr (is, c)
+        go neither is x = elim x [ ]
 
     -- Beside a key that the first sheet doesn't beat, such as the starts of a finished search (`finished_is_best` of `HallSearch`), the answer is the
     -- first exactly where both have one rating: so a host marks many sheets by one search

@@ -35,7 +35,7 @@ module _ (κs : Lfts 2) (a : ArgsD better.signature κs) (r : ResD better.signat
   SamePart =
       ((r ≡ a.1.0) × (r' ≡ a'.1.0))
       ⊎ (((r ≡ a.1.1.0) × (r' ≡ a'.1.1.0))
-      ⊎ (((r.ref_ptr ≡ a.1.0.ptr) × (r.now ≡ [])) × ((r'.ref_ptr ≡ a'.1.0.ptr) × (r'.now ≡ []))))
+      ⊎ (((r.ref_ptr ≡ a.1.0.ref_ptr) × (r.now ≡ [])) × ((r'.ref_ptr ≡ a'.1.0.ref_ptr) × (r'.now ≡ []))))
 
   pub same_network_better_alike : {m n : Net} → read_file a.0.now ≡ accepted m → read_file a'.0.now ≡ accepted n → SameOffsets m n
       → a.1.0.now ≡ a'.1.0.now → a.1.1.0.now ≡ a'.1.1.0.now

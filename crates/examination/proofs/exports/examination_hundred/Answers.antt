@@ -1,0 +1,26 @@
+-- `examination::exports::examination_hundred` meets its contract: it hands on what mark answers on the sheet that the bytes stand for, in two
+-- rows. Assumes nothing.
+-- What was lent as a sheet are bytes
+use mathlib.Core.Path.{sym, ap, ◌∙◌}
+use Rattle.network.specs.Valid.{IsBytes}
+use Rattle.examination.specs.Exports.{mark_status, mark_row, hundred_row}
+use Rattle.examination.specs.Sheets.{MarkOutcome}
+use Rattle.examination.proofs.Laws.Refusals.{mark_bytes_low}
+use Rattle.examination.proofs.exports.examination_hundred.Goals as goal
+use Rattle.examination.proofs.exports.examination_hundred.Goals.{After-mark_bytes-told}
+
+sheet_bytes : (c : After-mark_bytes-told) → IsBytes c.args.sheet.now
+unfolding IsBytes
+sheet_bytes c i = (c.type_inv.sheet i).fits
+
+pub put_mark-requires : goal.put_mark-requires
+put_mark-requires c number place e = mark_bytes_low c.args.file.now c.mark_bytes-told.ensures.bytes c.args.sheet.now c.args.budget (sym c.mark_bytes-told.ensures.answer ∙ e)
+
+pub returns : goal.returns
+returns c = let told = c.mark_bytes-told.ensures.answer in record {
+  returned = c.put_mark.ensures.returned ∙ ap mark_status told;
+  row = c.put_mark.ensures.row ∙ ap (λ (o : MarkOutcome). mark_row o c.args.answer.now) told;
+  hundred = c.put_hundred.ensures ∙ ap (λ (o : MarkOutcome). hundred_row o c.args.hundred.now) told;
+  bytes = c.mark_bytes-told.ensures.bytes;
+  sheet = sheet_bytes (goal.at.returns c).After-mark_bytes-told;
+}
