@@ -15,7 +15,7 @@ use lib.IntN.{ℤ}
 use lib.ListN.{length, get_or}
 use Rattle.network.specs.Lists.{pick}
 use Rattle.network.specs.Network.{Net, max_period}
-use Rattle.network.specs.Reading.{Reading, refusal, accepted, read_file}
+use Rattle.network.specs.Reading.{Reading, accepted, read_file}
 use Rattle.network.specs.Refusals.{Refuses, by_file, after_file, Unfit, Demand1}
 use Rattle.network.specs.Rating.{IsRating}
 use Rattle.network.specs.Valid.{IsBytes, Valid}

@@ -13,7 +13,6 @@ use lib.Seq.{get_or-append_seam}
 use Rattle.network.specs.declared.Call.{Call}
 use Rattle.network.specs.Archive.{word_bytes, edition_bytes, line_bytes, call_bytes, file_of, tidied, archive, archive_length, SameNetwork}
 use Rattle.network.specs.Divisor.{common_cycle}
-use Rattle.network.specs.Grounds.{first}
 use Rattle.network.specs.Lists.{pick, joined}
 use Rattle.network.specs.Network.{Net, net_with, so_far, nothing_read, calls_by_offset, command, operand_bytes}
 use Rattle.network.specs.Network.{first_edition, latest_edition, max_lines, max_period, max_cycle, max_stop, max_offset, max_calls, max_calls_at_stop}

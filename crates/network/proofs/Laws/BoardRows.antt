@@ -1,6 +1,6 @@
 -- The arrivals of a board by the calls at its stop in their order: the calls that a board goes through, by their places in the file, are those, so that a
 -- minute's rows are what the calls that arrive then give. Assumes nothing.
-use Prim.Native.Nat.{ℕ, zero, suc, ◌+◌}
+use Prim.Native.Nat.{ℕ, zero, suc}
 use mathlib.Core.Path.{◌≡◌, refl, sym, ap, ap₂, ◌∙◌}
 use mathlib.Core.Bool.{Bool}
 use mathlib.Core.List.{List, ◌++◌, map, map-map, map-append}

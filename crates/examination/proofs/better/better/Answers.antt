@@ -1,6 +1,5 @@
 -- `examination::better::better` meets its contract: of the three cases only the one that was chosen can be the definition's, and there the
 -- reference is the first, the second, or the empty part of the first. Assumes nothing.
--- The three differ
 use Prim.Native.Nat.{ℕ, ◌+◌}
 use mathlib.Core.Path.{◌≡◌, refl, sym, ap, ◌∙◌}
 use native.Mathlib.Omega.{arith}
@@ -9,6 +8,7 @@ use Rattle.examination.specs.Sheets.{Better, first, second, neither, choice_of, 
 use Rattle.examination.proofs.better.better.Goals as goal
 use Rattle.examination.proofs.better.better.Goals.{After-choose-choice, Start}
 
+-- The three differ
 order : Better → ℕ
 order first = 0
 order second = 1

@@ -1,5 +1,4 @@
 -- `examination::better::choose` meets its contract: it goes by the ratings that rate answers of the two sheets. Assumes nothing.
--- The better of the two by the ratings at hand
 use mathlib.Core.Path.{◌≡◌, sym, ap, ap₂, ◌∙◌}
 use mathlib.Core.Bool.{Bool}
 use Rattle.network.specs.Lists.{pick}
@@ -10,6 +9,7 @@ use Rattle.examination.proofs.Laws.Chosen.{rating_on_of_rate, better_of_from}
 use Rattle.examination.proofs.better.choose.Goals as goal
 use Rattle.examination.proofs.better.choose.Goals.{After-is_above}
 
+-- The better of the two by the ratings at hand
 by_ratings : (c : After-is_above)
     → better_of (read_file c.args.file.now) c.args.first.now c.args.second.now
     ≡ pick c.is_above.result second (pick c.rating_from-one.result.some first neither)

@@ -1,6 +1,5 @@
 -- `examination::by_key::by_key` meets its contract: it refuses as rate does on the sheet, then on the key, and otherwise divides the two least
 -- gaps. Assumes nothing.
--- In the arm of `Rated` the sheet fits the file's network
 use mathlib.Core.Path.{sym, ap, ap₂, ◌∙◌}
 use mathlib.Core.List.{[], ◌∷◌}
 use Prim.Native.Nat.{ℕ}
@@ -11,6 +10,7 @@ use Rattle.examination.proofs.Laws.Chosen.{RatedOn, rated_on, rated_least, key_s
 use Rattle.examination.proofs.by_key.by_key.Goals as goal
 use Rattle.examination.proofs.by_key.by_key.Goals.{In-Rated, In-Rated-of_key}
 
+-- In the arm of `Rated` the sheet fits the file's network
 sheet_rated : (c : In-Rated)
     → RatedOn (read_file c.args.file.now) c.args.sheet.now c.in-Rated.least c.in-Rated.sum
 unfolding rate_answer

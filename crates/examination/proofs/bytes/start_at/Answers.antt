@@ -1,6 +1,5 @@
 -- `examination::bytes::start_at` meets its contract: a number below 2^31 stands for itself, a larger one for -1 less what it lacks of
 -- 2^32 - 1. Assumes nothing.
--- The number that the four bytes make
 use Prim.Native.Nat.{ℕ, ◌+◌, ◌*◌, ◌-◌, ◌<◌}
 use mathlib.Core.Path.{◌≡◌, sym, ap₂, ◌∙◌}
 use native.Mathlib.Omega.{arith}
@@ -8,7 +7,6 @@ use lib.IntN.{ℤ, pos, negsuc, ◌-ℤ◌}
 use mir.Syntax.{w32}
 use mir.Val.{SFits, to_z}
 use mir.Facts.{to_z-of_z, to_z_pos}
-use Rattle.network.specs.Network.{word}
 use Rattle.network.proofs.Laws.Integers.{difference, difference_pos, difference_sub, eq_of_difference}
 use Rattle.examination.specs.Bytes.{signed}
 use Rattle.examination.specs.Engine.Taken.{start_at}
@@ -16,6 +14,7 @@ use Rattle.examination.proofs.Laws.Bytes.{signed_low, signed_high}
 use Rattle.examination.proofs.bytes.start_at.Goals as goal
 use Rattle.examination.proofs.bytes.start_at.Goals.{After-word-low, Else-number-lt2147483648}
 
+-- The number that the four bytes make
 abbrev number : After-word-low → ℕ
 number c = c.word-high.result * 65536 + c.word-low.result
 

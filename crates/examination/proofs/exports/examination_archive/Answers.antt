@@ -1,5 +1,4 @@
 -- `examination::exports::examination_archive` meets its contract: it hands on what the archive call answers and leaves in the row. Assumes nothing.
--- The answer that is due
 use mathlib.Core.Path.{◌≡◌, sym, ap, ◌∙◌}
 use lib.ListN.{length}
 use Rattle.network.specs.Archive.{archive_answer, archive_outcome}
@@ -9,6 +8,7 @@ use Rattle.examination.proofs.Laws.Refusals.{archive_low}
 use Rattle.examination.proofs.exports.examination_archive.Goals as goal
 use Rattle.examination.proofs.exports.examination_archive.Goals.{After-archive-told, In-Refused, Start}
 
+-- The answer that is due
 abbrev due : Start → Outcome
 due s = archive_outcome (read_file s.args.file.now) (length s.args.row.now)
 

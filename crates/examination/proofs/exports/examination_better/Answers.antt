@@ -1,6 +1,5 @@
 -- `examination::exports::examination_better` meets its contract: it answers by number which of the two sheets that the bytes stand for is the
 -- better. Assumes nothing.
--- What was chosen between the starts is due on the bytes
 use mathlib.Core.Path.{◌≡◌, sym, ap, ap₂, ◌∙◌}
 use mathlib.Core.List.{List}
 use lib.IntN.{ℤ}
@@ -15,6 +14,7 @@ use Rattle.examination.proofs.Laws.Bytes.{better_on_bytes}
 use Rattle.examination.proofs.exports.examination_better.Goals as goal
 use Rattle.examination.proofs.exports.examination_better.Goals.{After-choose-choice, After-sheet_of-one}
 
+-- What was chosen between the starts is due on the bytes
 chosen : (c : After-choose-choice) → choice_of c.choose-choice.result ≡ better_bytes (read_file c.args.file.now) c.args.first.now c.args.second.now
 unfolding held
 chosen c =

@@ -1,6 +1,5 @@
 -- `examination::exports::examination_board` meets its contract: it hands on what the board call answers, and leaves in the rows, on the sheet that the bytes
 -- stand for. Assumes nothing.
--- Once the call has returned
 use Prim.Native.Nat.{ℕ}
 use mathlib.Core.Path.{◌≡◌, sym, ap, ap₂, ◌∙◌}
 use mathlib.Core.List.{List}
@@ -20,6 +19,7 @@ use Rattle.examination.proofs.Laws.BoardBytes.{board_on_bytes, times_on_bytes, l
 use Rattle.examination.proofs.exports.examination_board.Goals as goal
 use Rattle.examination.proofs.exports.examination_board.Goals.{After-board-told, In-Refused}
 
+-- Once the call has returned
 module _ (b : After-board-told) where
   abbrev asked : Window
   asked = window b.args.stop b.args.from b.args.minutes

@@ -1,6 +1,5 @@
 -- `examination::exports::examination_by_key` meets its contract: it hands on what the call by a key answers on the sheets that the bytes stand
 -- for. Assumes nothing.
--- The answer that is due
 use mathlib.Core.Path.{◌≡◌, sym, ap, ap₂, ◌∙◌}
 use mathlib.Core.List.{List}
 use lib.IntN.{ℤ}
@@ -16,6 +15,7 @@ use Rattle.examination.proofs.Laws.Refusals.{key_bytes_low}
 use Rattle.examination.proofs.exports.examination_by_key.Goals as goal
 use Rattle.examination.proofs.exports.examination_by_key.Goals.{After-by_key-told, After-sheet_of-taken, In-Refused, Start}
 
+-- The answer that is due
 abbrev due : Start → Outcome
 due s = key_bytes (read_file s.args.file.now) s.args.sheet.now s.args.key.now
 

@@ -1,6 +1,5 @@
 -- `examination::exports::examination_classes` meets its contract: it hands on what the class call answers and leaves in the rows.
 -- Assumes nothing.
--- The answer that is due
 use mathlib.Core.Path.{◌≡◌, sym, ap, ◌∙◌}
 use lib.ListN.{length}
 use Rattle.network.specs.ClassCall.{class_answer, class_outcome}
@@ -10,6 +9,7 @@ use Rattle.examination.proofs.Laws.Refusals.{class_low}
 use Rattle.examination.proofs.exports.examination_classes.Goals as goal
 use Rattle.examination.proofs.exports.examination_classes.Goals.{In-Refused, Start}
 
+-- The answer that is due
 abbrev due : Start → Outcome
 due s = class_outcome (read_file s.args.file.now) (length s.args.class_row.now) (length s.args.weight_row.now)
 

@@ -1,6 +1,5 @@
 -- `examination::exports::examination_gaps` meets its contract: it hands on what the gaps call answers, and leaves in the row, on the sheet that the bytes
 -- stand for. Assumes nothing.
--- Once the call has returned
 use Prim.Native.Nat.{ℕ}
 use mathlib.Core.Path.{◌≡◌, sym, ap, ◌∙◌}
 use mathlib.Core.List.{List}
@@ -19,6 +18,7 @@ use Rattle.examination.proofs.Laws.Refusals.{sheet_low}
 use Rattle.examination.proofs.exports.examination_gaps.Goals as goal
 use Rattle.examination.proofs.exports.examination_gaps.Goals.{After-gaps-told, After-sheet_of-taken}
 
+-- Once the call has returned
 module _ (g : After-gaps-told) where
   abbrev file : List ℕ
   file = g.args.file.now

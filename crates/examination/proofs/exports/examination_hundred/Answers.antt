@@ -1,6 +1,5 @@
 -- `examination::exports::examination_hundred` meets its contract: it hands on what mark answers on the sheet that the bytes stand for, in two
 -- rows. Assumes nothing.
--- What was lent as a sheet are bytes
 use mathlib.Core.Path.{sym, ap, ◌∙◌}
 use Rattle.network.specs.Valid.{IsBytes}
 use Rattle.examination.specs.Exports.{mark_status, mark_row, hundred_row}
@@ -9,6 +8,7 @@ use Rattle.examination.proofs.Laws.Refusals.{mark_bytes_low}
 use Rattle.examination.proofs.exports.examination_hundred.Goals as goal
 use Rattle.examination.proofs.exports.examination_hundred.Goals.{After-mark_bytes-told}
 
+-- What was lent as a sheet are bytes
 sheet_bytes : (c : After-mark_bytes-told) → IsBytes c.args.sheet.now
 unfolding IsBytes
 sheet_bytes c i = (c.type_inv.sheet i).fits

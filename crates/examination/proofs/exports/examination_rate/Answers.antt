@@ -1,5 +1,4 @@
 -- `examination::exports::examination_rate` meets its contract: it hands on what rate answers on the sheet that the bytes stand for. Assumes nothing.
--- What rate answers on the starts is due on the bytes
 use mathlib.Core.Path.{◌≡◌, sym, ap, ◌∙◌}
 use mathlib.Core.List.{List}
 use lib.IntN.{ℤ}
@@ -16,6 +15,7 @@ use Rattle.examination.proofs.Laws.Refusals.{sheet_low}
 use Rattle.examination.proofs.exports.examination_rate.Goals as goal
 use Rattle.examination.proofs.exports.examination_rate.Goals.{After-rate-told, After-sheet_of-taken}
 
+-- What rate answers on the starts is due on the bytes
 answered : (c : After-rate-told) → rate_answer c.rate-told.result ≡ by_bytes rate_outcome refusal (read_file c.args.file.now) c.args.sheet.now
 unfolding held rate_outcome
 answered c =

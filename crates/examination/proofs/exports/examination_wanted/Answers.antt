@@ -1,6 +1,5 @@
 -- `examination::exports::examination_wanted` meets its contract: it hands on what the call with a wanted gap answers and leaves in the start row.
 -- Assumes nothing.
--- The answer that is due
 use mathlib.Core.Path.{◌≡◌, sym, ap, ◌∙◌}
 use lib.ListN.{length}
 use Rattle.network.specs.Reading.{read_file}
@@ -11,6 +10,7 @@ use Rattle.examination.proofs.Laws.Refusals.{wanted_low}
 use Rattle.examination.proofs.exports.examination_wanted.Goals as goal
 use Rattle.examination.proofs.exports.examination_wanted.Goals.{In-Refused, Start}
 
+-- The answer that is due
 abbrev due : Start → WantedOutcome
 due s = wanted_outcome (read_file s.args.file.now) (length s.args.start_row.now) s.args.gap s.args.budget
 

@@ -1,5 +1,4 @@
 -- `examination::exports::examination_weighted` meets its contract: it hands on what weighted answers on the sheet that the bytes stand for. Assumes nothing.
--- What weighted answers on the starts is due on the bytes
 use mathlib.Core.Path.{◌≡◌, sym, ap, ◌∙◌}
 use mathlib.Core.List.{List}
 use lib.IntN.{ℤ}
@@ -16,6 +15,7 @@ use Rattle.examination.proofs.Laws.Refusals.{sheet_low}
 use Rattle.examination.proofs.exports.examination_weighted.Goals as goal
 use Rattle.examination.proofs.exports.examination_weighted.Goals.{After-sheet_of-taken, After-weighted-told}
 
+-- What weighted answers on the starts is due on the bytes
 answered : (c : After-weighted-told) → rate_answer c.weighted-told.result ≡ by_bytes weighted_outcome refusal (read_file c.args.file.now) c.args.sheet.now
 unfolding held weighted_outcome
 answered c =

@@ -1,12 +1,11 @@
 -- `examination::marking::mark` meets its contract: it refuses as rate does, and otherwise sets the rating beside what the search answers with a
 -- start row of the sheet's length. Assumes nothing.
--- In the arm of `Rated` the sheet fits the file's network
 use mathlib.Core.Path.{sym, ap, ◌∙◌}
 use Rattle.network.specs.Rate.{rate_answer}
 use Rattle.network.specs.Reading.{read_file}
 use Rattle.search.specs.Search.{SearchOutcome}
 use Rattle.examination.specs.Sheets as sheets
-use Rattle.examination.proofs.Laws.Chosen.{RatedOn, rated_on, rated_least, mark_refused, mark_rated}
+use Rattle.examination.proofs.Laws.Chosen.{rated_on, rated_least, mark_refused, mark_rated}
 use Rattle.examination.proofs.marking.mark.Goals as goal
 
 -- Least gaps of accepted networks fit

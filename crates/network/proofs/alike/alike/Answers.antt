@@ -1,11 +1,10 @@
 -- `network::alike::alike` meets its contract. The loop's invariant: every place passed differs from those before it by the same remainders, in each
 -- network that has these rows. Assumes nothing.
-use Prim.Native.Nat.{ℕ, ◌<◌, ◌≤◌, ◌-◌}
+use Prim.Native.Nat.{ℕ, ◌<◌, ◌≤◌}
 use mathlib.Core.Path.{◌≡◌, refl, sym, ap, ◌∙◌}
 use mathlib.Core.Bool.{true}
 use native.Mathlib.Omega.{arith}
 use native.Mathlib.Nat.{le_antisymm}
-use borrow.Author.Tests.{not-true, not-false}
 use lib.ListN.{length, get_or}
 use Rattle.network.specs.Lists.{all_below}
 use Rattle.network.specs.Network.{max_stop}

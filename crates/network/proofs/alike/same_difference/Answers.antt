@@ -1,6 +1,5 @@
 -- `network::alike::same_difference` meets its contract: the calls that are read are those at the places of the two stops, and where both stops
 -- have the same lines one divisor serves both. Assumes nothing.
--- The places are within the stops' runs
 use Prim.Native.Nat.{◌<◌}
 use mathlib.Core.Path.{◌≡◌, ◌∙◌}
 use native.Mathlib.Omega.{arith}
@@ -11,6 +10,7 @@ use Rattle.network.proofs.Laws.Placed.{ordered_le_max_at_stop, call_there, perio
 use Rattle.network.proofs.alike.same_difference.Goals as goal
 use Rattle.network.proofs.alike.same_difference.Goals.{After-call_at-b, Start}
 
+-- The places are within the stops' runs
 low : (s : Start) → (s.args.first < 64) × (s.args.second < 64) × (s.args.place < 32) × (s.args.before < 32)
 low s =
     let (h, l, p, b) = s.requires in

@@ -1,16 +1,12 @@
 -- `network::alike::same_differences` meets its contract. The loop's invariant: every place passed differs by the same remainder, in each network that
 -- has these rows. Assumes nothing.
 use Prim.Native.Nat.{◌<◌, ◌≤◌, ◌-◌}
-use mathlib.Core.Path.{◌≡◌, refl, sym, ap, ◌∙◌}
+use mathlib.Core.Path.{◌≡◌}
 use mathlib.Core.Bool.{true}
-use native.Mathlib.Omega.{arith}
-use native.Mathlib.Nat.{le_antisymm}
-use borrow.Author.Tests.{not-true, not-false}
 use lib.ListN.{length}
 use Rattle.network.specs.Lists.{all_below}
 use Rattle.network.specs.Classes.{ordered, same_remainder}
 use Rattle.network.specs.Engine.Placed.{Placed, SameLines}
-use Rattle.network.proofs.Laws.Tables.{all_below_next, all_below_fails}
 use Rattle.network.proofs.alike.same_differences.Given as goal
 
 abbrev pub invariant-loop-before : goal.invariant-loop-before

@@ -1,5 +1,4 @@
 -- `network::alike::same_remainder` meets its contract: differences of numbers of 16 bits are far from the ends of 64 bits. Assumes nothing.
--- What the code subtracts is the difference of the two numbers
 use Prim.Native.Nat.{ℕ, ◌<◌}
 use mathlib.Core.Path.{◌≡◌, ap, ap₂, ◌∙◌}
 use native.Mathlib.Omega.{arith}
@@ -15,6 +14,7 @@ use Rattle.network.proofs.Laws.Integers.{nat_abs_sub_le, sfits_of_nat_abs}
 use Rattle.network.proofs.alike.same_remainder.Goals as goal
 use Rattle.network.proofs.alike.same_remainder.Goals.{Start}
 
+-- What the code subtracts is the difference of the two numbers
 module _ (x y : ℕ) (fx : Fits w16 x) (fy : Fits w16 y) where
   fits : SFits w64 (pos x -ℤ pos y)
   fits = sfits_of_nat_abs (pos x -ℤ pos y) (omega (arith, nat_abs_sub_le (pos x) (pos y)))

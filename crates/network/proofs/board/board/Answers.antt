@@ -1,5 +1,4 @@
 -- `network::board::board` meets its contract: it answers the file's refusal, then the grounds that need no list, and then lists. Assumes nothing.
--- What was lent are bytes
 use Prim.Native.Nat.{ℕ}
 use mathlib.Core.Path.{◌≡◌, sym, ap, ◌∙◌}
 use native.Mathlib.Omega.{arith}
@@ -19,6 +18,7 @@ use Rattle.network.proofs.Laws.Valid.{accepted_valid}
 use Rattle.network.proofs.board.board.Goals as goal
 use Rattle.network.proofs.board.board.Goals.{After-check_asked-asked, After-read_network-step, In-Passes}
 
+-- What was lent are bytes
 bytes_here : (c : After-read_network-step) → IsBytes c.args.file.now
 unfolding IsBytes
 bytes_here c i = (c.type_inv.file i).fits

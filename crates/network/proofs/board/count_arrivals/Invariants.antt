@@ -1,11 +1,7 @@
 -- `network::board::count_arrivals` meets its contract. The loop's invariant: the total is that of the calls passed, of which each has no more arrivals than
 -- minutes and its period together. Assumes nothing.
-use Prim.Native.Nat.{ℕ, ◌+◌, ◌*◌, ◌-◌, ◌/◌, ◌<◌, ◌≤◌}
-use mathlib.Core.Path.{◌≡◌, refl, sym, ap, ◌∙◌}
-use native.Mathlib.Nat.{le_antisymm, div-le_self}
-use native.Mathlib.Numerals.{add-one}
-use native.Mathlib.Omega.{arith}
-use lib.ListN.{get_or}
+use Prim.Native.Nat.{◌*◌, ◌-◌, ◌≤◌}
+use mathlib.Core.Path.{◌≡◌}
 use Rattle.network.specs.Engine.Due.{arrivals_in}
 use Rattle.network.proofs.board.count_arrivals.Given as goal
 

@@ -1,8 +1,6 @@
 -- `network::board::due_before` meets its contract. The loop's invariant: the rows hold what is known of the calls passed. Assumes nothing.
--- What is known of the call at a place of the order
-use Prim.Native.Nat.{ℕ, ◌+◌, ◌*◌, ◌-◌, ◌<◌, ◌≤◌}
+use Prim.Native.Nat.{ℕ, ◌+◌, ◌*◌, ◌<◌, ◌≤◌}
 use mathlib.Core.Path.{◌≡◌, sym, ap, ap₂, subst, ◌∙◌}
-use mathlib.Core.List.{List}
 use native.Mathlib.Nat.{le_antisymm}
 use native.Mathlib.Omega.{arith}
 use lib.IntN.{ℤ, pos, ◌+ℤ◌, ◌-ℤ◌}
@@ -20,14 +18,15 @@ use Rattle.network.specs.Engine.Due.{Ready}
 use Rattle.network.specs.Engine.Placed.{CountsOf, CodesOf}
 use Rattle.network.specs.Engine.Stored.{net_of, call_in}
 use Rattle.network.proofs.Laws.Alike.{ordered_period_pos, ordered_line_lt}
-use Rattle.network.proofs.Laws.Filled.{Filled, filled_none, filled_next}
+use Rattle.network.proofs.Laws.Filled.{filled_none, filled_next}
 use Rattle.network.proofs.Laws.Placed.{ordered_le_max_at_stop}
 use Rattle.network.proofs.Laws.Stored.{held_lines, held_period}
-use Rattle.network.proofs.board.due_before.Invariants.{line_at, period_at, since_at}
+use Rattle.network.proofs.board.due_before.Invariants.{since_at}
 use Rattle.network.proofs.board.due_before.Goals as goal
 use Rattle.network.proofs.board.due_before.Goals.{After-minutes_since, After-place_calls-placed, After-unpacked-call, In-loop-j}
 
 -- Once the calls are placed
+-- What is known of the call at a place of the order
 module _ (p : After-place_calls-placed) where
   abbrev network : Network
   network = p.args.network

@@ -1,30 +1,16 @@
 -- `network::board::due_before` meets its contract. The loop's invariant: the rows hold what is known of the calls passed. Assumes nothing.
--- What is known of the call at a place of the order
-use Prim.Native.Nat.{ℕ, ◌+◌, ◌*◌, ◌-◌, ◌<◌, ◌≤◌}
-use mathlib.Core.Path.{◌≡◌, sym, ap, ap₂, subst, ◌∙◌}
+use Prim.Native.Nat.{ℕ, ◌-◌, ◌≤◌}
 use mathlib.Core.List.{List}
-use native.Mathlib.Nat.{le_antisymm}
-use native.Mathlib.Omega.{arith}
-use lib.IntN.{ℤ, pos, ◌+ℤ◌, ◌-ℤ◌}
-use lib.ListN.{length, get_or}
-use mir.Syntax.{w32}
-use mir.Val.{to_z, of_z}
-use mir.Facts.{to_z-of_z}
-use Rattle.network.specs.declared.Call.{Call}
-use Rattle.network.specs.declared.Network.{Network}
+use lib.IntN.{ℤ, pos, ◌-ℤ◌}
 use Rattle.network.specs.Network.{Net}
 use Rattle.network.specs.Gap.{residue}
 use Rattle.network.specs.Rating.{arrival_of, period_of}
-use Rattle.network.specs.Classes.{ordered, ordered_call}
-use Rattle.network.specs.Engine.Due.{Ready}
-use Rattle.network.specs.Engine.Placed.{CountsOf, CodesOf}
-use Rattle.network.specs.Engine.Stored.{net_of, call_in}
-use Rattle.network.proofs.Laws.Alike.{ordered_period_pos, ordered_line_lt}
-use Rattle.network.proofs.Laws.Filled.{Filled, filled_none, filled_next}
-use Rattle.network.proofs.Laws.Placed.{ordered_le_max_at_stop}
-use Rattle.network.proofs.Laws.Stored.{held_lines, held_period}
+use Rattle.network.specs.Classes.{ordered_call}
+use Rattle.network.specs.Engine.Stored.{net_of}
+use Rattle.network.proofs.Laws.Filled.{Filled}
 use Rattle.network.proofs.board.due_before.Given as goal
 
+-- What is known of the call at a place of the order
 module _ (n : Net) (starts : List ℤ) (stop : ℕ) (from : ℤ) where
   abbrev pub line_at : ℕ → ℕ
   line_at j = (ordered_call n stop j).line

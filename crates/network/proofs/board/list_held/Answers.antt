@@ -1,6 +1,6 @@
 -- `network::board::list_held` meets its contract: what is counted is the board's length, and where both rows have room for it, each minute's arrivals are
 -- written behind those before. The loop's invariant: so many minutes are listed. Assumes nothing.
-use Prim.Native.Nat.{ℕ, ◌+◌, ◌-◌, ◌≤◌}
+use Prim.Native.Nat.{ℕ, ◌≤◌}
 use mathlib.Core.Path.{◌≡◌, ap, ap₂, subst, ◌∙◌}
 use mathlib.Core.List.{List, ◌++◌}
 use native.Mathlib.Nat.{le_antisymm}

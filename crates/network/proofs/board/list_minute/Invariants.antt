@@ -1,24 +1,10 @@
 -- `network::board::list_minute` meets its contract. The loop's invariant: behind what stands before the place the rows have the calls passed that are due,
 -- and behind them what stood there, and the minutes of the calls passed are one later. Assumes nothing.
 use Prim.Native.Nat.{ℕ, ◌+◌, ◌-◌, ◌<◌, ◌≤◌}
-use mathlib.Core.Path.{◌≡◌, refl, sym, ap, ap₂, ◌∙◌}
-use mathlib.Core.Bool.{Bool, true, false}
-use mathlib.Core.Logic.{⊎_elim}
-use mathlib.Core.List.{List}
-use native.Mathlib.Nat.{le_antisymm}
-use native.Mathlib.Omega.{arith}
-use borrow.Author.Count.{below_more}
-use borrow.Author.Tests.{eq-eqb, ne_eqb}
-use lib.IntN.{ℤ}
-use lib.ListN.{length, get_or, set, length-set}
-use lib.Seq.{get_or-set_same, get_or-set_other}
-use mir.Syntax.{w64}
-use mir.Val.{to_z, of_z}
-use mir.Facts.{to_z-of_z}
-use Rattle.network.specs.Lists.{pick, count_below}
+use mathlib.Core.Path.{◌≡◌}
+use lib.ListN.{length, get_or}
+use Rattle.network.specs.Lists.{count_below}
 use Rattle.network.specs.Engine.Due.{due_in, one_later, listed_in}
-use Rattle.network.proofs.Laws.Listed.{length_listed_in, listed_in_none, listed_in_skip, listed_in_put}
-use Rattle.network.proofs.Laws.Tables.{count_below_next, count_below_add}
 use Rattle.network.proofs.board.list_minute.Given as goal
 
 abbrev pub invariant-loop-j : goal.invariant-loop-j

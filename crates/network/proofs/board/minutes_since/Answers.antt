@@ -1,5 +1,4 @@
 -- `network::board::minutes_since` meets its contract: the difference of a minute and an arrival is far from the ends of 64 bits. Assumes nothing.
--- One minute before
 use Prim.Native.Nat.{◌^◌, ◌≤◌}
 use mathlib.Core.Path.{◌≡◌, ap, ap₂, ◌∙◌}
 use native.Mathlib.Omega.{arith}
@@ -12,6 +11,7 @@ use Rattle.network.proofs.Laws.Integers.{nat_abs_sub_le, nat_abs_le_mag, sfits_o
 use Rattle.network.proofs.board.minutes_since.Goals as goal
 use Rattle.network.proofs.board.minutes_since.Goals.{After-arrival, Start}
 
+-- One minute before
 module _ (s : Start) where
   abbrev before : ℤ
   before = s.args.from -ℤ pos 1

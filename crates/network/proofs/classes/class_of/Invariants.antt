@@ -1,17 +1,11 @@
 -- `network::classes::class_of` meets its contract. The loop's invariant: no stop passed is alike, in each network that has these rows. Assumes
 -- nothing.
 use Prim.Native.Nat.{ℕ, ◌-◌, ◌<◌, ◌≤◌}
-use mathlib.Core.Path.{◌≡◌, refl, sym, ◌∙◌}
-use mathlib.Core.Bool.{true, false}
-use native.Mathlib.Omega.{arith}
-use borrow.Author.Count.{below_more}
-use borrow.Author.Tests.{le-leb, lt-leb}
-use lib.ListN.{length, get_or}
-use Rattle.network.specs.Network.{is_served}
-use Rattle.network.specs.Classes.{ordered, is_alike}
+use mathlib.Core.Path.{◌≡◌}
+use mathlib.Core.Bool.{false}
+use lib.ListN.{get_or}
+use Rattle.network.specs.Classes.{is_alike}
 use Rattle.network.specs.Engine.Placed.{CountsOf, Placed}
-use Rattle.network.proofs.Laws.ClassRows.{lowest_alike_found, lowest_alike_none}
-use Rattle.network.proofs.Laws.Placed.{served_of_length}
 use Rattle.network.proofs.classes.class_of.Given as goal
 
 abbrev pub invariant-loop-other : goal.invariant-loop-other

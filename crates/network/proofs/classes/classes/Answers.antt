@@ -1,5 +1,4 @@
 -- `network::classes::classes` meets its contract: it answers the file's refusal, then ground 17, and then fills the rows. Assumes nothing.
--- What was lent are bytes
 use mathlib.Core.Path.{◌≡◌, sym, ap, ◌∙◌}
 use borrow.Author.Tests.{eq-eqb, ne_eqb}
 use lib.Dec.{eqb}
@@ -15,6 +14,7 @@ use Rattle.network.proofs.Laws.Weighted.{answered_refused, answered_unfit, answe
 use Rattle.network.proofs.classes.classes.Goals as goal
 use Rattle.network.proofs.classes.classes.Goals.{After-read_network-step, In-Passes}
 
+-- What was lent are bytes
 bytes_here : (c : After-read_network-step) → IsBytes c.args.file.now
 unfolding IsBytes
 bytes_here c i = (c.type_inv.file i).fits

@@ -1,6 +1,5 @@
 -- `network::classes::lowest_row` meets its contract. The loop's invariant: of the stops passed the row flags the lowest ones. Assumes nothing.
--- The row after so many stops
-use Prim.Native.Nat.{ℕ, ◌+◌, ◌-◌, ◌<◌, ◌≤◌}
+use Prim.Native.Nat.{ℕ, ◌+◌, ◌<◌}
 use mathlib.Core.Path.{◌≡◌, refl, sym, ap, ◌∙◌}
 use mathlib.Core.List.{List}
 use native.Mathlib.Decide.{ℕ_discrete}
@@ -8,7 +7,7 @@ use native.Mathlib.Omega.{arith}
 use borrow.Author.Tests.{eq-eqb, ne_eqb}
 use lib.Arith.{lt_of_le-ne}
 use lib.Dec.{eqb, ltb}
-use lib.ListN.{length, get_or, set, length-set}
+use lib.ListN.{get_or, set, length-set}
 use lib.Seq.{get_or-set_same, get_or-set_other}
 use Rattle.network.proofs.Laws.Lists.{get_d_zeros}
 use Rattle.network.proofs.classes.lowest_row.Invariants.{Flagged}

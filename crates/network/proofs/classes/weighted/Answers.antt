@@ -1,5 +1,4 @@
 -- `network::classes::weighted` meets its contract: it answers the file's refusal, then ground 15, then the weighted rating. Assumes nothing.
--- What was lent are bytes
 use mathlib.Core.Path.{◌≡◌, sym, ap, ◌∙◌}
 use mathlib.Core.Bool.{true, false}
 use borrow.Author.Tests.{eq-eqb, ne_eqb}
@@ -17,6 +16,7 @@ use Rattle.network.proofs.Laws.Stored.{held_lines}
 use Rattle.network.proofs.classes.weighted.Goals as goal
 use Rattle.network.proofs.classes.weighted.Goals.{After-read_network-step, In-Passes}
 
+-- What was lent are bytes
 bytes_here : (c : After-read_network-step) → IsBytes c.args.file.now
 unfolding IsBytes
 bytes_here c i = (c.type_inv.file i).fits

@@ -1,5 +1,4 @@
 -- `network::classes::weighted_rating` meets its contract: the rows give the rating over the lowest stops with their weights. Assumes nothing.
--- Behind the rows: the stops that count are the lowest stops, with their weights
 use Prim.Native.Nat.{ℕ}
 use mathlib.Core.Path.{◌≡◌, refl, ap, ◌∙◌}
 use mathlib.Core.List.{List}
@@ -17,6 +16,7 @@ use Rattle.network.proofs.Laws.Weighted.{counted_lowest, weight_small}
 use Rattle.network.proofs.classes.weighted_rating.Goals as goal
 use Rattle.network.proofs.classes.weighted_rating.Goals.{After-lowest_row-counts}
 
+-- Behind the rows: the stops that count are the lowest stops, with their weights
 module _ (c : After-lowest_row-counts) where
   abbrev net : Net
   net = net_of c.args.network

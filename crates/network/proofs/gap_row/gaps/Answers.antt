@@ -1,6 +1,5 @@
 -- `network::gap_row::gaps` meets its contract: it answers the file's refusal and leaves the row, or what it answers on the network that was read.
 -- Assumes nothing.
--- What was lent are bytes
 use mathlib.Core.Path.{◌≡◌, sym, ap, ◌∙◌}
 use Rattle.network.specs.declared.Check.{Check}
 use Rattle.network.specs.Reading.{Reading, accepted, refused, read_file}
@@ -15,6 +14,7 @@ use Rattle.network.proofs.Laws.Refusals.{rate_refused}
 use Rattle.network.proofs.gap_row.gaps.Goals as goal
 use Rattle.network.proofs.gap_row.gaps.Goals.{After-read_network-step, In-Passes}
 
+-- What was lent are bytes
 bytes_here : (c : After-read_network-step) → IsBytes c.args.file.now
 unfolding IsBytes
 bytes_here c i = (c.type_inv.file i).fits

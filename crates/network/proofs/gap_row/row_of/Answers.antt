@@ -1,13 +1,10 @@
 -- `network::gap_row::row_of` meets its contract. The loop's invariant: the stops passed have their gap, or the number for none. Assumes nothing.
--- What the row is to hold for a stop
-use Prim.Native.Nat.{ℕ, ◌+◌, ◌-◌, ◌≤◌}
+use Prim.Native.Nat.{ℕ, ◌+◌}
 use mathlib.Core.Path.{◌≡◌, sym, ap, subst}
 use mathlib.Core.Bool.{Bool}
-use mathlib.Core.List.{List}
 use native.Mathlib.Nat.{le_antisymm}
 use native.Mathlib.Omega.{arith}
 use borrow.Author.Tests.{lt-ltb, le-ltb}
-use lib.Dec.{ltb}
 use lib.ListN.{get_or}
 use Rattle.network.specs.Lists.{pick}
 use Rattle.network.specs.GapRow.{no_gap}

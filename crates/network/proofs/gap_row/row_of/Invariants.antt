@@ -1,20 +1,14 @@
 -- `network::gap_row::row_of` meets its contract. The loop's invariant: the stops passed have their gap, or the number for none. Assumes nothing.
--- What the row is to hold for a stop
-use Prim.Native.Nat.{ℕ, ◌+◌, ◌-◌, ◌≤◌}
-use mathlib.Core.Path.{◌≡◌, sym, ap, subst}
-use mathlib.Core.Bool.{Bool}
-use mathlib.Core.Logic.{⊎_elim}
+use Prim.Native.Nat.{ℕ, ◌-◌, ◌≤◌}
 use mathlib.Core.List.{List}
-use native.Mathlib.Nat.{le_antisymm}
-use native.Mathlib.Omega.{arith}
-use borrow.Author.Tests.{lt-ltb, le-ltb}
 use lib.Dec.{ltb}
 use lib.ListN.{get_or}
 use Rattle.network.specs.Lists.{pick}
 use Rattle.network.specs.GapRow.{no_gap}
-use Rattle.network.proofs.Laws.Filled.{Filled, filled_none, filled_next, filled_all}
+use Rattle.network.proofs.Laws.Filled.{Filled}
 use Rattle.network.proofs.gap_row.row_of.Given as goal
 
+-- What the row is to hold for a stop
 abbrev pub entry : List ℕ → List ℕ → ℕ → ℕ
 entry gaps counts stop = pick (ltb 0 (get_or counts stop 0)) (get_or gaps stop 0) no_gap
 

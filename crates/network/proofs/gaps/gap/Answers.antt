@@ -1,5 +1,4 @@
 -- `network::gaps::gap` meets its contract: the formula of theorem 3.1.2, the lesser of the two by a test. Assumes nothing.
--- What the code subtracts is the difference of the two arrivals
 use Prim.Native.Nat.{ℕ, ◌-◌, ◌<◌, min}
 use mathlib.Core.Path.{◌≡◌, ap, ap₂, ◌∙◌}
 use native.Mathlib.Omega.{arith}
@@ -13,6 +12,7 @@ use Rattle.network.proofs.Laws.Integers.{nat_abs_sub_le, sfits_of_nat_abs}
 use Rattle.network.proofs.gaps.gap.Goals as goal
 use Rattle.network.proofs.gaps.gap.Goals.{After-residue-d, Start}
 
+-- What the code subtracts is the difference of the two arrivals
 module _ (s : Start) where
   abbrev difference : ℤ
   difference = s.args.a -ℤ s.args.b

@@ -1,5 +1,4 @@
 -- `network::gaps::residue` meets its contract: of a negative number -1 - x is a natural number, of any other x itself. Assumes nothing.
--- What the test tells of a number of 64 bits, and what the code then computes with
 use Prim.Native.Nat.{ℕ, ◌-◌, ◌%◌, ◌^◌, ◌<◌}
 use mathlib.Core.Path.{◌≡◌, refl, sym, ap, subst, ◌∙◌}
 use mathlib.Core.Bool.{true, false}
@@ -17,6 +16,7 @@ use Rattle.network.proofs.Laws.Integers.{minus_one_sub}
 use Rattle.network.proofs.gaps.residue.Goals as goal
 use Rattle.network.proofs.gaps.residue.Goals.{Else-x-lt0, Then-x-lt0}
 
+-- What the test tells of a number of 64 bits, and what the code then computes with
 record Negative (x : ℤ) : Type 0 where
   k : ℕ
   is : x ≡ negsuc k

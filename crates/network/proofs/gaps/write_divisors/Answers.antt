@@ -1,6 +1,6 @@
 -- `network::gaps::write_divisors` meets its contract. The loop's invariant: the row holds the greatest common divisors of the pairs passed, in
 -- both orders, which have the same divisor. Assumes nothing.
-use Prim.Native.Nat.{◌+◌, ◌*◌, ◌-◌, ◌<◌, ◌≤◌}
+use Prim.Native.Nat.{◌+◌, ◌*◌, ◌<◌}
 use mathlib.Core.Path.{◌≡◌, refl, ◌∙◌}
 use mathlib.Core.Bool.{Bool, true, false}
 use native.Mathlib.Omega.{arith}
@@ -9,7 +9,7 @@ use lib.Dec.{leb}
 use lib.ListN.{get_or}
 use Rattle.network.specs.Divisor as divisor
 use Rattle.network.proofs.Laws.Divisor.{gcd_comm}
-use Rattle.network.proofs.Laws.Paired.{Paired, paired_none, paired_next, paired_passed}
+use Rattle.network.proofs.Laws.Paired.{paired_none, paired_next, paired_passed}
 use Rattle.network.proofs.gaps.write_divisors.Goals as goal
 use Rattle.network.proofs.gaps.write_divisors.Goals.{In-loop-k, else-other-line, then-other-line}
 

@@ -1,16 +1,10 @@
 -- `network::gaps::write_divisors` meets its contract. The loop's invariant: the row holds the greatest common divisors of the pairs passed, in
 -- both orders, which have the same divisor. Assumes nothing.
-use Prim.Native.Nat.{◌+◌, ◌*◌, ◌-◌, ◌<◌, ◌≤◌}
-use mathlib.Core.Path.{◌≡◌, refl, ◌∙◌}
-use mathlib.Core.Bool.{Bool, true, false}
-use mathlib.Core.Logic.{⊎_elim}
-use native.Mathlib.Omega.{arith}
-use borrow.Author.Tests.{leb-true, leb-false}
-use lib.Dec.{leb}
+use Prim.Native.Nat.{◌*◌, ◌-◌, ◌≤◌}
+use mathlib.Core.Path.{◌≡◌}
 use lib.ListN.{get_or}
 use Rattle.network.specs.Divisor as divisor
-use Rattle.network.proofs.Laws.Divisor.{gcd_comm}
-use Rattle.network.proofs.Laws.Paired.{Paired, paired_none, paired_next, paired_passed}
+use Rattle.network.proofs.Laws.Paired.{Paired}
 use Rattle.network.proofs.gaps.write_divisors.Given as goal
 
 abbrev pub invariant-loop-k : goal.invariant-loop-k

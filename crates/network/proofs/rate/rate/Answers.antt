@@ -1,5 +1,4 @@
 -- `network::rate::rate` meets its contract: it answers the file's refusal, then ground 15, then the rating. Assumes nothing.
--- What was lent are bytes
 use mathlib.Core.Path.{◌≡◌, sym, ap, ◌∙◌}
 use Rattle.network.specs.declared.Check.{Check}
 use Rattle.network.specs.Reading.{Reading, accepted, read_file}
@@ -13,6 +12,7 @@ use Rattle.network.proofs.Laws.Refusals.{rate_refused}
 use Rattle.network.proofs.rate.rate.Goals as goal
 use Rattle.network.proofs.rate.rate.Goals.{After-read_network-step, In-Passes}
 
+-- What was lent are bytes
 bytes_here : (c : After-read_network-step) → IsBytes c.args.file.now
 unfolding IsBytes
 bytes_here c i = (c.type_inv.file i).fits

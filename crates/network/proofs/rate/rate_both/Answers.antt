@@ -1,6 +1,5 @@
 -- `network::rate::rate_both` meets its contract: for each sheet it answers the file's refusal, or what rate answers on the network that was
 -- read. Assumes nothing.
--- What was lent are bytes
 use mathlib.Core.Path.{◌≡◌, sym, ap, ◌∙◌}
 use Rattle.network.specs.declared.Check.{Check}
 use Rattle.network.specs.Reading.{Reading, accepted, refused, read_file}
@@ -14,6 +13,7 @@ use Rattle.network.proofs.Laws.Refusals.{rate_refused}
 use Rattle.network.proofs.rate.rate_both.Goals as goal
 use Rattle.network.proofs.rate.rate_both.Goals.{After-read_network-step, In-Passes}
 
+-- What was lent are bytes
 bytes_here : (c : After-read_network-step) → IsBytes c.args.file.now
 unfolding IsBytes
 bytes_here c i = (c.type_inv.file i).fits

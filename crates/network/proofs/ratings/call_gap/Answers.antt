@@ -1,5 +1,4 @@
 -- `network::ratings::call_gap` meets its contract: each call arrives at its line's start plus its offset. Assumes nothing.
--- A start that is read from the sheet, and the arrival that is handed on, are the numbers themselves
 use Prim.Native.Nat.{ℕ, ◌+◌, ◌*◌}
 use mathlib.Core.Path.{◌≡◌, ap, ap₂, ◌∙◌}
 use lib.IntN.{ℤ, pos, ◌+ℤ◌, ◌-ℤ◌}
@@ -12,6 +11,7 @@ use Rattle.network.specs.Rating.{arrival_of}
 use Rattle.network.specs.Engine.Scan.{gap_by}
 use Rattle.network.proofs.ratings.call_gap.Goals as goal
 
+-- A start that is read from the sheet, and the arrival that is handed on, are the numbers themselves
 arrives : (start : ℤ) (offset : ℕ) (r : ℤ) → SFits w32 start → SFits w64 r → r ≡ to_z w32 (of_z w32 start) +ℤ pos offset → to_z w64 (of_z w64 r) ≡ start +ℤ pos offset
 arrives start offset r f g e = to_z-of_z g ∙ e ∙ ap (λ (z : ℤ). z +ℤ pos offset) (to_z-of_z f)
 

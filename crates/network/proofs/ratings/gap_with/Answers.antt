@@ -1,6 +1,5 @@
 -- `network::ratings::gap_with` meets its contract: where no call stood at the stop its gap is the period, and otherwise the least of what it
 -- was and the gaps to those before. Assumes nothing.
--- In a network that the rows hold, the calls that stand at the stop have periods of at least 1
 use Prim.Native.Nat.{ℕ, ◌<◌, ◌≤◌}
 use mathlib.Core.Path.{sym, ap, ◌∙◌}
 use mathlib.Core.List.{List, [], ◌∷◌, ◌++◌, map}
@@ -18,6 +17,7 @@ use Rattle.network.proofs.Laws.Stored.{length_held, held_lines, held_period, hel
 use Rattle.network.proofs.Laws.Scan.{calls_before_some, gap_of_stop_next, calls_before_all}
 use Rattle.network.proofs.ratings.gap_with.Goals as goal
 
+-- In a network that the rows hold, the calls that stand at the stop have periods of at least 1
 module _ (n : Network) (sound : Sound n) (valid : Valid (net_of n)) (stop k : ℕ) (within : k ≤ n.count) where
   periods_pos : (i : ℕ) → i < length (calls_before stop (calls_in n.list) k) → 0 < period_of (net_of n) (get_or (calls_before stop (calls_in n.list) k) i no_call)
   unfolding period_of

@@ -1,14 +1,11 @@
 -- `network::ratings::least_gap` meets its contract. The loop's invariant: the least of `lesser` and the gaps to the calls up to `from` is
 -- that of `least` and the gaps to all, in every network that the rows hold. Assumes nothing.
--- the gap from an earlier call to this one
 use Prim.Native.Nat.{ℕ, ◌+◌, ◌*◌, ◌-◌, ◌<◌, ◌≤◌, min}
 use mathlib.Core.Path.{◌≡◌, refl, sym, ap, subst, ◌∙◌}
 use mathlib.Core.List.{List, map}
 use native.Mathlib.Omega.{arith}
-use lib.IntN.{ℤ}
 use lib.ListN.{length, get_or}
 use Rattle.network.specs.declared.Call.{Call}
-use Rattle.network.specs.declared.Network.{Network}
 use Rattle.network.specs.Lists.{keep, least_from}
 use Rattle.network.specs.Divisor.{gcd}
 use Rattle.network.specs.Gap.{gap_of}
@@ -20,7 +17,7 @@ use Rattle.network.proofs.Laws.Divisor.{gcd_pos_left}
 use Rattle.network.proofs.Laws.Packed.{call_in_row}
 use Rattle.network.proofs.Laws.Scan.{last_at_le, last_at_landed, step_back}
 use Rattle.network.proofs.Laws.Stored.{length_held, held_lines, held_call_line}
-use Rattle.network.proofs.ratings.least_gap.Invariants.{OnTheWay, to}
+use Rattle.network.proofs.ratings.least_gap.Invariants.{to}
 use Rattle.network.proofs.ratings.least_gap.Goals as goal
 use Rattle.network.proofs.ratings.least_gap.Goals.{In-loop-from, else-between-lesser, then-between-lesser}
 

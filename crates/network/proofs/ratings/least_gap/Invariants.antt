@@ -1,28 +1,20 @@
 -- `network::ratings::least_gap` meets its contract. The loop's invariant: the least of `lesser` and the gaps to the calls up to `from` is
 -- that of `least` and the gaps to all, in every network that the rows hold. Assumes nothing.
--- the gap from an earlier call to this one
-use Prim.Native.Nat.{ℕ, ◌+◌, ◌*◌, ◌-◌, ◌<◌, ◌≤◌, min}
-use mathlib.Core.Path.{◌≡◌, refl, sym, ap, subst, ◌∙◌}
+use Prim.Native.Nat.{ℕ, ◌-◌, ◌<◌, ◌≤◌}
+use mathlib.Core.Path.{◌≡◌}
 use mathlib.Core.List.{List, map}
-use mathlib.Core.Logic.{⊎_elim}
-use native.Mathlib.Omega.{arith}
 use lib.IntN.{ℤ}
-use lib.ListN.{length, get_or}
+use lib.ListN.{get_or}
 use Rattle.network.specs.declared.Call.{Call}
 use Rattle.network.specs.declared.Network.{Network}
-use Rattle.network.specs.Lists.{keep, least_from}
-use Rattle.network.specs.Divisor.{gcd}
-use Rattle.network.specs.Gap.{gap_of}
-use Rattle.network.specs.Rating.{period_of, gap_of_calls}
-use Rattle.network.specs.Engine.Scan.{last_at, calls_before, LeadsBack, DivisorsOf, gap_by, Rows, Beside}
-use Rattle.network.specs.Engine.Stored.{net_of, call_in, calls_in}
+use Rattle.network.specs.Lists.{least_from}
+use Rattle.network.specs.Rating.{gap_of_calls}
+use Rattle.network.specs.Engine.Scan.{calls_before, Rows, Beside}
+use Rattle.network.specs.Engine.Stored.{net_of, calls_in}
 use Rattle.network.specs.Valid.{no_call}
-use Rattle.network.proofs.Laws.Divisor.{gcd_pos_left}
-use Rattle.network.proofs.Laws.Packed.{call_in_row}
-use Rattle.network.proofs.Laws.Scan.{last_at_le, last_at_landed, step_back}
-use Rattle.network.proofs.Laws.Stored.{length_held, held_lines, held_call_line}
 use Rattle.network.proofs.ratings.least_gap.Given as goal
 
+-- the gap from an earlier call to this one
 abbrev pub to : Network → List ℤ → Call → Call → ℕ
 to network sheet call d = gap_of_calls (net_of network) sheet d call
 

@@ -1,16 +1,10 @@
 -- `network::ratings::rating_over` meets its contract. The loop's invariant: the rating is that of the stops passed, and its sum is small.
 -- Assumes nothing.
-use Prim.Native.Nat.{ℕ, ◌+◌, ◌*◌, ◌-◌, ◌<◌, ◌≤◌}
-use mathlib.Core.Bool.{true}
-use mathlib.Core.Path.{◌≡◌, refl, sym, ap, ◌∙◌}
-use mathlib.Core.Logic.{⊎_elim}
-use native.Mathlib.Nat.{mul-le-mul}
-use native.Mathlib.Omega.{arith}
+use Prim.Native.Nat.{◌*◌, ◌-◌, ◌≤◌}
+use mathlib.Core.Path.{◌≡◌}
 use lib.ListN.{get_or}
-use Rattle.network.specs.declared.Rating.{Rating}
-use Rattle.network.specs.Lists.{below}
-use Rattle.network.specs.Engine.Scan.{rating_so_far, counted_stops, with_stop}
-use Rattle.network.proofs.Laws.Scan.{counted_below, rating_counted, rating_passed, rating_of_so_far}
+use Rattle.network.specs.Engine.Scan.{rating_so_far}
+use Rattle.network.proofs.Laws.Scan.{counted_below}
 use Rattle.network.proofs.ratings.rating_over.Given as goal
 
 abbrev pub invariant-loop-stop : goal.invariant-loop-stop

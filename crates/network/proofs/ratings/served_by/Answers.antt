@@ -1,5 +1,5 @@
 -- `network::ratings::served_by` meets its contract. The loop's invariant: the row flags the stops of the calls passed. Assumes nothing.
-use Prim.Native.Nat.{ℕ, ◌+◌, ◌-◌, ◌<◌, ◌≤◌}
+use Prim.Native.Nat.{ℕ, ◌+◌, ◌<◌}
 use mathlib.Core.Path.{◌≡◌, refl, sym, ap, subst, ◌∙◌}
 use mathlib.Core.Bool.{◌||◌, or-false}
 use mathlib.Core.List.{List}

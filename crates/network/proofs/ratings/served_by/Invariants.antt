@@ -1,22 +1,10 @@
 -- `network::ratings::served_by` meets its contract. The loop's invariant: the row flags the stops of the calls passed. Assumes nothing.
-use Prim.Native.Nat.{ℕ, ◌+◌, ◌-◌, ◌<◌, ◌≤◌}
-use mathlib.Core.Path.{◌≡◌, refl, sym, ap, subst, ◌∙◌}
-use mathlib.Core.Bool.{◌||◌, or-false}
-use mathlib.Core.List.{List}
-use native.Mathlib.Decide.{ℕ_discrete}
-use native.Mathlib.Nat.{le_antisymm}
-use native.Mathlib.Omega.{arith}
-use borrow.Author.Tests.{eq-eqb, ne_eqb}
-use lib.Dec.{eqb, ltb}
-use lib.ListN.{length, get_or, take, set, length-set, length-map}
-use lib.Seq.{get_or-set_same, get_or-set_other}
-use Rattle.network.specs.declared.Call.{Call}
-use Rattle.network.specs.Lists.{any}
+use Prim.Native.Nat.{ℕ, ◌-◌, ◌<◌, ◌≤◌}
+use mathlib.Core.Path.{◌≡◌}
+use lib.Dec.{ltb}
+use lib.ListN.{length, get_or, take}
 use Rattle.network.specs.Network.{is_served}
-use Rattle.network.specs.Engine.Stored.{call_in, calls_in}
-use Rattle.network.specs.Valid.{no_call}
-use Rattle.network.proofs.Laws.Lists.{any_take_next, or_right, get_d_zeros}
-use Rattle.network.proofs.Laws.Packed.{call_in_row, call_in_stop}
+use Rattle.network.specs.Engine.Stored.{calls_in}
 use Rattle.network.proofs.ratings.served_by.Given as goal
 
 abbrev pub invariant-loop-i : goal.invariant-loop-i

@@ -1,5 +1,4 @@
 -- `network::ratings::stop_gaps` meets its contract: the row has the divisors of the network's periods. Assumes nothing.
--- In a network that the rows hold
 use Prim.Native.Nat.{ℕ, ◌<◌}
 use mathlib.Core.Path.{◌≡◌, sym, ap, ap₂, ◌∙◌}
 use mathlib.Core.List.{List}
@@ -12,6 +11,7 @@ use Rattle.network.proofs.Laws.Stored.{held_lines, held_period}
 use Rattle.network.proofs.ratings.stop_gaps.Goals as goal
 use Rattle.network.proofs.ratings.stop_gaps.Goals.{After-write_divisors}
 
+-- In a network that the rows hold
 module _ (c : After-write_divisors) (h : Lent c.args.periods.now c.args.list.now (length c.args.sheet.now) c.args.calls) where
   period : (line : ℕ) → line < length (net_of h.network).periods → get_or (net_of h.network).periods line 0 ≡ get_or c.args.periods.now line 0
   period line k =

@@ -1,6 +1,5 @@
 -- `network::reader::check_call` meets its contract: at each return the tests that led there say which ground applies first.
 -- Assumes nothing.
--- The table's number for the line at the stop says whether ground 9 applies
 use Prim.Native.Nat.{ℕ, ◌*◌, ◌+◌, ◌<◌, ◌≤◌}
 use mathlib.Core.Path.{◌≡◌, sym, ap, ◌∙◌}
 use mathlib.Core.List.{List}
@@ -17,6 +16,7 @@ use Rattle.network.proofs.Laws.Lists.{zero_ne_one}
 use Rattle.network.proofs.Laws.Grounds.{first_none, first_hit, first_miss}
 use Rattle.network.proofs.reader.check_call.Goals as goal
 
+-- The table's number for the line at the stop says whether ground 9 applies
 counted : (often : List ℕ) (cs : List Call) → Often often cs → (line stop count : ℕ) → line < max_lines → stop ≤ max_stop
     → count ≡ get_or often (stop * max_lines + line) 0 → leb max_calls_at_stop (how_often_at line stop cs) ≡ leb max_calls_at_stop count
 unfolding Often

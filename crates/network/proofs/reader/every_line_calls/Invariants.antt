@@ -1,13 +1,10 @@
 -- `network::reader::every_line_calls` meets its contract. The loop's invariant: every line passed has a call. Assumes nothing.
 use Prim.Native.Nat.{◌≤◌, ◌-◌}
-use mathlib.Core.Path.{◌≡◌, refl, sym, ap, ◌∙◌}
+use mathlib.Core.Path.{◌≡◌}
 use mathlib.Core.Bool.{true}
-use native.Mathlib.Omega.{arith}
-use borrow.Author.Tests.{lt-ltb, le-ltb}
 use lib.Dec.{ltb}
 use lib.ListN.{get_or}
 use Rattle.network.specs.Lists.{all_below}
-use Rattle.network.proofs.Laws.Tables.{all_below_next, all_below_fails}
 use Rattle.network.proofs.reader.every_line_calls.Given as goal
 
 abbrev pub invariant-loop-line : goal.invariant-loop-line

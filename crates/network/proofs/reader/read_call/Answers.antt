@@ -1,6 +1,5 @@
 -- `network::reader::read_call` meets its contract: `check_call` has tried the grounds, and a call that passes has its operands.
 -- Assumes nothing.
--- Where ground 3 doesn't apply the operands are there
 use Prim.Native.Nat.{◌≤◌}
 use mathlib.Core.Path.{◌≡◌, refl, sym, ap, ◌∙◌}
 use mathlib.Core.Logic.{inl}
@@ -13,6 +12,7 @@ use Rattle.network.proofs.Laws.Grounds.{first_hit, first_miss, not_cut_off_call}
 use Rattle.network.proofs.reader.read_call.Goals as goal
 use Rattle.network.proofs.reader.read_call.Goals.{After-check_call-check, Else-call_cut_off}
 
+-- Where ground 3 doesn't apply the operands are there
 four : (c : Else-call_cut_off) → 4 ≤ length c.args.behind.now
 four c = not_cut_off_call _ (sym c.call_cut_off.ensures ∙ c.if-call_cut_off.false)
 

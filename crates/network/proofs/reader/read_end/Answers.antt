@@ -1,6 +1,5 @@
 -- `network::reader::read_end` meets its contract: at each return the tests that led there say which ground applies first.
 -- Assumes nothing.
--- The row says whether a line is silent
 use Prim.Native.Nat.{ℕ, ◌≤◌}
 use mathlib.Core.Path.{◌≡◌, refl, sym, ap, ◌∙◌}
 use mathlib.Core.Bool.{not}
@@ -19,6 +18,7 @@ use Rattle.network.proofs.Laws.Grounds.{first_none, first_hit, first_miss}
 use Rattle.network.proofs.Laws.Latest.{latest_calls}
 use Rattle.network.proofs.reader.read_end.Goals as goal
 
+-- The row says whether a line is silent
 silent : (n : Net) (lines : ℕ) (latest : List ℕ) → lines ≤ max_lines → lines ≡ length n.periods → Latest latest n.calls
     → some_line_silent n ≡ not (all_below (λ line. ltb 0 (get_or latest line 0)) lines)
 unfolding some_line_silent

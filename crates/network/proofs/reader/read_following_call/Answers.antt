@@ -1,6 +1,5 @@
 -- `network::reader::read_following_call` meets its contract: ground 19 and the grounds of a call are passed, so 11 and 12 are left, and the offset is
 -- that of the line's latest call plus the ride. Assumes nothing.
--- What the row's place says of the line that the operands name
 use Prim.Native.Nat.{ℕ, ◌+◌, ◌-◌, ◌<◌, ◌≤◌}
 use mathlib.Core.Path.{◌≡◌, refl, sym, ap, ◌∙◌}
 use mathlib.Core.Bool.{true, false, not}
@@ -18,6 +17,7 @@ use Rattle.network.proofs.Laws.Grounds.{first_append_miss, first_none, first_hit
 use Rattle.network.proofs.Laws.Latest.{latest_calls, latest_offset_is}
 use Rattle.network.proofs.reader.read_following_call.Goals as goal
 
+-- What the row's place says of the line that the operands name
 module _ (f : SoFar) (p : ℕ) (behind latest : List ℕ) (l : Latest latest f.network.calls) (low : get_or behind 0 0 < max_lines)
     (enough : 4 ≤ length behind) (old : f.network.edition ≤ first_edition) (passes : first (call_grounds f p behind) ≡ Passes) (before : ℕ) (is : before ≡ get_or latest (get_or behind 0 0) 0) where
   -- Grounds 3 and 19 and those that 46 shares with 43 are passed

@@ -3,7 +3,6 @@
 use Prim.Native.Nat.{ℕ, ◌+◌, ◌*◌, ◌-◌, ◌<◌, ◌≤◌}
 use mathlib.Core.Path.{◌≡◌, refl, sym, ap, ap₂, subst, ◌∙◌}
 use mathlib.Core.List.{List, [], ◌∷◌}
-use mathlib.Core.Logic.{⊎_elim}
 use native.Mathlib.Nat.{sub_self, sub-zero}
 use native.Mathlib.Omega.{arith}
 use lib.ListN.{length, get_or, take, drop, length-drop}
@@ -25,7 +24,7 @@ use Rattle.network.proofs.Laws.Often.{often_none}
 use Rattle.network.proofs.Laws.Stored.{LineParsed, CallParsed, EditionParsed, held_lines, held_calls, has_totals, edition_put_lem, line_added_lem, call_added_lem, line_of_parsed}
 use Rattle.network.proofs.Laws.Stored.{call_of_parsed, edition_of_parsed}
 use Rattle.network.proofs.Laws.Latest.{latest_none}
-use Rattle.network.proofs.Laws.ReaderRows.{ReaderRows, ReaderTurn, rows_with_edition, rows_with_line, rows_with_call}
+use Rattle.network.proofs.Laws.ReaderRows.{ReaderRows, rows_with_edition, rows_with_line, rows_with_call}
 use Rattle.network.proofs.reader.read_network.Goals as goal
 use Rattle.network.proofs.reader.read_network.Goals.{After-read_command-parsed, Joined-parsed, in-Calls, in-Edition, in-Line}
 

@@ -1,6 +1,6 @@
 -- `network::reader::served_stops` meets its contract. The loop's invariant: `count` is how many of the stops passed the row flags as
 -- served. Assumes nothing.
-use Prim.Native.Nat.{ℕ, ◌≤◌, ◌-◌, ◌+◌}
+use Prim.Native.Nat.{ℕ, ◌+◌}
 use mathlib.Core.Path.{◌≡◌, refl, sym, ap, ◌∙◌}
 use mathlib.Core.Bool.{Bool}
 use native.Mathlib.Nat.{add-zero}

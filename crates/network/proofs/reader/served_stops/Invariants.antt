@@ -1,16 +1,10 @@
 -- `network::reader::served_stops` meets its contract. The loop's invariant: `count` is how many of the stops passed the row flags as
 -- served. Assumes nothing.
-use Prim.Native.Nat.{ℕ, ◌≤◌, ◌-◌, ◌+◌}
-use mathlib.Core.Path.{◌≡◌, refl, sym, ap, ◌∙◌}
-use mathlib.Core.Logic.{⊎_elim}
-use mathlib.Core.Bool.{Bool}
-use native.Mathlib.Nat.{add-zero}
-use native.Mathlib.Omega.{arith}
-use borrow.Author.Tests.{lt-ltb, le-ltb}
+use Prim.Native.Nat.{◌≤◌, ◌-◌}
+use mathlib.Core.Path.{◌≡◌}
 use lib.Dec.{ltb}
 use lib.ListN.{get_or}
-use Rattle.network.specs.Lists.{pick, count_below}
-use Rattle.network.proofs.Laws.Tables.{count_below_next, count_below_le, count_below_same}
+use Rattle.network.specs.Lists.{count_below}
 use Rattle.network.proofs.reader.served_stops.Given as goal
 
 abbrev pub invariant-loop-stop : goal.invariant-loop-stop

@@ -1,6 +1,5 @@
 -- `search::caps::cap_of` meets its contract: with one call at most what its pairs give is the cap, and otherwise the lesser of it and the spacing.
 -- Assumes nothing.
--- The bounds that come back, by the definitions
 use Prim.Native.Nat.{◌/◌, ◌≤◌, min}
 use mathlib.Core.Path.{◌≡◌, ap, ap₂, ◌∙◌}
 use mathlib.Core.List.{List}
@@ -16,6 +15,7 @@ use Rattle.search.proofs.Laws.CapScan.{visits_pos, cap_few, cap_many}
 use Rattle.search.proofs.caps.cap_of.Goals as goal
 use Rattle.search.proofs.caps.cap_of.Goals.{After-bounds_of-bounds}
 
+-- The bounds that come back, by the definitions
 module _ (a : After-bounds_of-bounds) where
   abbrev calls : List Call
   calls = calls_of_stop (net_of a.args.network) a.args.stop

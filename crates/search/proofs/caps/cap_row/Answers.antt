@@ -1,13 +1,13 @@
 -- `search::caps::cap_row` meets its contract. The loop's invariant: the row holds the caps of the stops passed, and 0 behind them, which is the cap of
 -- a stop that isn't served. Assumes nothing.
-use Prim.Native.Nat.{ℕ, ◌+◌, ◌-◌, ◌<◌, ◌≤◌}
+use Prim.Native.Nat.{ℕ, ◌+◌, ◌<◌}
 use mathlib.Core.Path.{◌≡◌, refl, sym, subst, ◌∙◌}
 use mathlib.Core.Bool.{false}
 use mathlib.Core.List.{List}
 use native.Mathlib.Omega.{arith}
 use borrow.Author.Count.{below_more}
 use borrow.Author.Tests.{le-ltb}
-use lib.ListN.{length, get_or, set, length-set}
+use lib.ListN.{set, length-set}
 use lib.Seq.{get_or-set_same, get_or-set_other}
 use Rattle.network.specs.Network.{Net, is_served}
 use Rattle.network.specs.Engine.Stored.{net_of}

@@ -1,20 +1,12 @@
 -- `search::caps::cap_row` meets its contract. The loop's invariant: the row holds the caps of the stops passed, and 0 behind them, which is the cap of
 -- a stop that isn't served. Assumes nothing.
-use Prim.Native.Nat.{ℕ, ◌+◌, ◌-◌, ◌<◌, ◌≤◌}
-use mathlib.Core.Path.{◌≡◌, refl, sym, subst, ◌∙◌}
-use mathlib.Core.Bool.{false}
+use Prim.Native.Nat.{ℕ, ◌-◌, ◌<◌, ◌≤◌}
+use mathlib.Core.Path.{◌≡◌}
 use mathlib.Core.List.{List}
-use mathlib.Core.Logic.{⊎_elim}
-use native.Mathlib.Omega.{arith}
-use borrow.Author.Count.{below_more}
-use borrow.Author.Tests.{le-ltb}
-use lib.ListN.{length, get_or, set, length-set}
-use lib.Seq.{get_or-set_same, get_or-set_other}
-use Rattle.network.specs.Network.{Net, is_served}
+use lib.ListN.{length, get_or}
+use Rattle.network.specs.Network.{Net}
 use Rattle.network.specs.Engine.Stored.{net_of}
-use Rattle.network.proofs.Laws.Lists.{get_d_zeros}
 use Rattle.search.specs.Caps.{cap}
-use Rattle.search.proofs.Laws.CapScan.{cap_le, cap_unserved}
 use Rattle.search.proofs.caps.cap_row.Given as goal
 
 pub record CapsBefore (n : Net) (row : List ℕ) (stop : ℕ) : Type 0 where

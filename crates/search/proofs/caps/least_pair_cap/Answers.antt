@@ -1,10 +1,8 @@
 -- `search::caps::least_pair_cap` meets its contract. The loop's invariant: `lesser` is the least of `least` and what the pairs with the calls passed give.
 -- Assumes nothing.
--- The least of a number and what the pairs of a call with those at its stop among the first `i` give
-use Prim.Native.Nat.{ℕ, ◌+◌, ◌-◌, ◌/◌, ◌<◌, ◌≤◌, min}
+use Prim.Native.Nat.{ℕ, ◌+◌, ◌/◌, ◌<◌, ◌≤◌, min}
 use mathlib.Core.Path.{◌≡◌, refl, sym, ap, ap₂, subst, ◌∙◌}
-use mathlib.Core.List.{List, map}
-use mathlib.Core.Logic.{⊎_elim}
+use mathlib.Core.List.{List}
 use native.Mathlib.Nat.{le_antisymm}
 use native.Mathlib.Omega.{arith}
 use lib.Dec.{eqb}
@@ -14,8 +12,7 @@ use Rattle.network.specs.declared.Call.{Call}
 use Rattle.network.specs.declared.Network.{Network}
 use Rattle.network.specs.Divisor as divisor
 use Rattle.network.specs.Gap as gaps
-use Rattle.network.specs.Lists.{pick, least_from}
-use Rattle.network.specs.Engine.Scan.{calls_before}
+use Rattle.network.specs.Lists.{pick}
 use Rattle.network.specs.Engine.Stored.{net_of, calls_in}
 use Rattle.network.specs.Valid.{no_call}
 use Rattle.network.proofs.Laws.Packed.{call_in_row}

@@ -1,6 +1,5 @@
 -- `search::caps::with_call` meets its contract: one call more adds its visits, and its pairs with the calls before where there are any.
 -- Assumes nothing.
--- What is handed over, and what the code makes of it, by the definitions
 use Prim.Native.Nat.{ℕ, ◌+◌, ◌/◌, ◌<◌, ◌≤◌}
 use mathlib.Core.Path.{◌≡◌, sym, ap, ap₂, ◌∙◌}
 use mathlib.Core.List.{List, [], ◌∷◌, ◌++◌, map}
@@ -22,6 +21,7 @@ use Rattle.search.proofs.Laws.CapScan.{least_pair_cap_first, least_pair_cap_snoc
 use Rattle.search.proofs.caps.with_call.Goals as goal
 use Rattle.search.proofs.caps.with_call.Goals.{Start}
 
+-- What is handed over, and what the code makes of it, by the definitions
 module _ (s : Start) where
   abbrev network : Network
   network = s.args.network

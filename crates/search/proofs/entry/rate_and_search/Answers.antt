@@ -1,6 +1,5 @@
 -- `search::entry::rate_and_search` meets its contract: both calls answer the file's refusal, or rate on the network that was read, and ground 16
 -- or the walk over it. Assumes nothing.
--- What was lent are bytes
 use mathlib.Core.Path.{◌≡◌, refl, sym, ap, ◌∙◌}
 use lib.ListN.{length}
 use Rattle.network.specs.declared.Check.{Check}
@@ -21,6 +20,7 @@ use Rattle.search.proofs.Laws.WalkOnFile.{ends_walked, made_of_walk}
 use Rattle.search.proofs.entry.rate_and_search.Goals as goal
 use Rattle.search.proofs.entry.rate_and_search.Goals.{After-network-1, After-rate_held-rated, In-Passes}
 
+-- What was lent are bytes
 bytes_here : (c : After-network-1) → IsBytes c.args.file.now
 bytes_here c = bytes_of c.args.file.now (λ i. (c.type_inv.file i).fits)
 

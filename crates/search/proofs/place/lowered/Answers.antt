@@ -1,14 +1,10 @@
 -- `search::place::lowered` meets its contract. The loop's invariant: the least of `least` and the gaps to the calls up to `from` is that of
 -- `value` and the gaps to all before. Assumes nothing.
--- the gap from an earlier call to the one at a place
 use Prim.Native.Nat.{ℕ, ◌-◌, ◌<◌, ◌≤◌, min}
 use mathlib.Core.Path.{◌≡◌, sym, ap, ◌∙◌}
 use mathlib.Core.List.{List, map}
 use native.Mathlib.Omega.{arith}
-use lib.IntN.{pos}
 use lib.ListN.{length, get_or}
-use Rattle.network.specs.declared.Call.{Call}
-use Rattle.network.specs.Rating.{gap_of_calls}
 use Rattle.network.specs.Lists.{least_from}
 use Rattle.network.specs.Engine.Scan.{last_at, calls_before}
 use Rattle.network.specs.Valid.{no_call}

@@ -1,26 +1,19 @@
 -- `search::place::lowered` meets its contract. The loop's invariant: the least of `least` and the gaps to the calls up to `from` is that of
 -- `value` and the gaps to all before. Assumes nothing.
--- the gap from an earlier call to the one at a place
-use Prim.Native.Nat.{ℕ, ◌-◌, ◌<◌, ◌≤◌, min}
-use mathlib.Core.Path.{◌≡◌, sym, ap, ◌∙◌}
+use Prim.Native.Nat.{ℕ, ◌-◌, ◌<◌, ◌≤◌}
+use mathlib.Core.Path.{◌≡◌}
 use mathlib.Core.List.{List, map}
-use mathlib.Core.Logic.{⊎_elim}
-use native.Mathlib.Omega.{arith}
 use lib.IntN.{pos}
 use lib.ListN.{length, get_or}
 use Rattle.network.specs.declared.Call.{Call}
 use Rattle.network.specs.Rating.{gap_of_calls}
 use Rattle.network.specs.Lists.{least_from}
-use Rattle.network.specs.Engine.Scan.{last_at, calls_before}
+use Rattle.network.specs.Engine.Scan.{calls_before}
 use Rattle.network.specs.Valid.{no_call}
-use Rattle.network.proofs.Laws.Least.{least_from_le}
-use Rattle.network.proofs.Laws.Gaps.{last_at_le, last_at_landed, calls_before_last_at, step_back, leads_back_at}
 use Rattle.search.specs.Engine.Representation.{CallRows, calls_by_line}
-use Rattle.search.proofs.Laws.CapScan.{least_none}
-use Rattle.search.proofs.Laws.Codes.{line_in}
-use Rattle.search.proofs.Laws.CallRows.{length_calls_by_line, calls_few, line_row_lt_16, divisor_pos, divisor_le, reciprocal_is, gap_of_rows}
 use Rattle.search.proofs.place.lowered.Given as goal
 
+-- the gap from an earlier call to the one at a place
 abbrev pub to : {codes previous divisors : List ℕ} → CallRows codes previous divisors → List ℕ → ℕ → Call → ℕ
 to l starts at d = gap_of_calls l.net (map pos starts) d (get_or (calls_by_line l) at no_call)
 

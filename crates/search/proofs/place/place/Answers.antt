@@ -3,7 +3,7 @@
 use Prim.Native.Nat.{ℕ, ◌+◌, ◌-◌, ◌<◌, ◌≤◌, min}
 use mathlib.Core.Path.{◌≡◌, refl, sym, ap, ap₂, subst, ◌∙◌}
 use mathlib.Core.List.{List, map}
-use mathlib.Core.Logic.{⊎_elim, inl, inr}
+use mathlib.Core.Logic.{inl, inr}
 use native.Mathlib.Nat.{le_antisymm}
 use native.Mathlib.Omega.{arith}
 use lib.IntN.{pos}
@@ -21,7 +21,7 @@ use Rattle.search.proofs.Laws.Codes.{stop_in}
 use Rattle.search.proofs.Laws.Layout.{length_by_line_le}
 use Rattle.search.proofs.Laws.Placing.{length_by_line_grows}
 use Rattle.search.proofs.Laws.CallRows.{length_calls_by_line, calls_few, stop_of, stop_low}
-use Rattle.search.proofs.Laws.Placing.{Lowering, lowering_first, lowering_next, lowering_last, given_up, starts_of_next, stop_served, set_low, old_le_sum, value_le_old}
+use Rattle.search.proofs.Laws.Placing.{Lowering, lowering_first, lowering_next, lowering_last, given_up, starts_of_next, stop_served, set_low, old_le_sum}
 use Rattle.search.proofs.place.place.Goals as goal
 use Rattle.search.proofs.place.place.Goals.{After-lowered-value, In-loop-i, Start, else-value-next, then-value-next}
 

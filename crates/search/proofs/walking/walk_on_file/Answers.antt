@@ -1,6 +1,5 @@
 -- `search::walking::walk_on_file` meets its contract: it ends with the file's refusal, then ground 16, then the walk, and writes the row only
 -- where the walk has a best. Assumes nothing.
--- What was lent are bytes
 use mathlib.Core.Path.{◌≡◌, sym, ap, ◌∙◌}
 use mathlib.Core.Bool.{Bool}
 use lib.ListN.{length}
@@ -17,6 +16,7 @@ use Rattle.search.proofs.Laws.WalkOnFile.{ends_refused, leaves_refused, ends_wal
 use Rattle.search.proofs.walking.walk_on_file.Goals as goal
 use Rattle.search.proofs.walking.walk_on_file.Goals.{After-read_network-step, In-Passes, Then-row-network}
 
+-- What was lent are bytes
 bytes_here : (c : After-read_network-step) → IsBytes c.args.file.now
 bytes_here c = bytes_of c.args.file.now (λ i. (c.type_inv.file i).fits)
 

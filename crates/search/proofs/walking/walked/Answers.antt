@@ -1,6 +1,5 @@
 -- `search::walking::walked` meets its contract: the rows in line order hold the network, no line is placed, and the tries of the first line
 -- by the rule are the walk. Assumes nothing.
--- Before the tries: the network, the rows that hold it, and the first line that can be tried
 use Prim.Native.Nat.{◌-◌}
 use mathlib.Core.Path.{◌∙◌}
 use native.Mathlib.Omega.{arith}
@@ -17,6 +16,7 @@ use Rattle.search.proofs.Laws.WalkOnFile.{stops_low, network_rows, walked_by_tri
 use Rattle.search.proofs.walking.walked.Goals as goal
 use Rattle.search.proofs.walking.walked.Goals.{After-lines-1}
 
+-- Before the tries: the network, the rows that hold it, and the first line that can be tried
 module _ (c : After-lines-1) where
   abbrev network : Network
   network = c.args.network

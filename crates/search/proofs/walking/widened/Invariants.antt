@@ -1,9 +1,7 @@
 -- `search::walking::widened` meets its contract. The loop's invariant: the row holds the caps of the stops passed. Assumes nothing.
 use Prim.Native.Nat.{◌-◌, ◌≤◌}
-use mathlib.Core.Path.{refl}
-use native.Mathlib.Omega.{arith}
 use lib.ListN.{get_or}
-use Rattle.network.proofs.Laws.Filled.{Filled, filled_none, filled_next}
+use Rattle.network.proofs.Laws.Filled.{Filled}
 use Rattle.search.proofs.walking.widened.Given as goal
 
 abbrev pub invariant-loop-stop : goal.invariant-loop-stop

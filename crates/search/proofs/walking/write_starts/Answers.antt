@@ -1,6 +1,6 @@
 -- `search::walking::write_starts` meets its contract. The loop's invariant: the row is as long as it was, and its places passed hold the
 -- starts. Assumes nothing.
-use Prim.Native.Nat.{ℕ, ◌-◌, ◌<◌, ◌≤◌}
+use Prim.Native.Nat.{◌<◌}
 use mathlib.Core.Path.{◌≡◌, refl, sym, ap, ◌∙◌}
 use mathlib.Core.List.{map}
 use native.Mathlib.Omega.{arith}

@@ -1,16 +1,9 @@
 -- `search::walking::write_starts` meets its contract. The loop's invariant: the row is as long as it was, and its places passed hold the
 -- starts. Assumes nothing.
 use Prim.Native.Nat.{ℕ, ◌-◌, ◌<◌, ◌≤◌}
-use mathlib.Core.Path.{◌≡◌, refl, sym, ap, ◌∙◌}
-use mathlib.Core.List.{map}
-use native.Mathlib.Omega.{arith}
-use borrow.Author.Count.{below_more}
-use mir.Val.{to_z}
-use mir.Syntax.{w32}
-use mir.Facts.{to_z_pos}
+use mathlib.Core.Path.{◌≡◌}
 use lib.IntN.{ℤ, pos}
-use lib.ListN.{length, get_or, take, set, length-set, length-map, get_or-map}
-use lib.Seq.{get_or-set_same, get_or-set_other, get_or-take, length-take-le, ext_get_or}
+use lib.ListN.{length, get_or}
 use Rattle.search.proofs.walking.write_starts.Given as goal
 
 abbrev pub invariant-loop-i : goal.invariant-loop-i
