@@ -1,6 +1,6 @@
 // Reads a network file on standard input, searches for its best timetable with a budget of 1,000,000 tries, and prints the least gap, the
-// sum, the tries and the starts; or why the file is refused. Where reading or writing failed it says so on standard error, and ends with
-// status 1.
+// sum, the tries and the starts; or why the file is refused. Where reading or writing failed it says so on standard error; its exit status
+// doesn't tell.
 #![tactic(auto)]
 
 ghost use Rattle.std.specs.Prelude.{◌≡◌, ◌≤◌, length, take};
@@ -10,7 +10,6 @@ use network::{Network, ReadAnswer};
 use search::SearchAnswer;
 use std::io;
 use std::io::Read;
-use std::process::ExitCode;
 
 const BUDGET: u32 = 1000000;
 
@@ -25,24 +24,21 @@ struct Input {
 }
 
 // What a failed read left out could change the answer, so none is printed.
-fn main(rt: HostRuntime) -> ExitCode {
+fn main(rt: HostRuntime) {
     let mut stdin = rt.stdin();
     let mut buffer = [0u8; ROOM];
     let input = read_input(&mut stdin, &mut buffer);
     let end = input.end;
     if input.failed {
-        failed(&rt, "reading standard input")
+        complain(&rt, "reading standard input");
     } else if run(&rt, &buffer[..end]).is_err() {
-        failed(&rt, "writing standard output")
-    } else {
-        ExitCode::SUCCESS
+        complain(&rt, "writing standard output");
     }
 }
 
-// Where standard error can't be written either, the status alone says it.
-fn failed(rt: &impl Eprint, what: &str) -> ExitCode {
+// Where standard error can't be written either, nobody is told.
+fn complain(rt: &impl Eprint, what: &str) {
     let _ = eprintln!(rt; "best: {what} failed");
-    ExitCode::FAILURE
 }
 
 fn read_input<R: Read>(stdin: &mut R, buffer: &mut [u8]) -> Input
