@@ -87,8 +87,15 @@ fn find(rt: &impl Print, file: &[u8], lines: usize) -> io::Result<()>
     }
 }
 
+// A word and a number are a write each, as ever: of an output that takes only some of them a test tells how far the line came.
 fn print_best(rt: &impl Print, least: u32, sum: u32, tries: u32, starts: &[i32]) -> io::Result<()> {
-    print!(rt; "gap {least} sum {sum} tries {tries} starts")?;
+    print!(rt; "gap ")?;
+    print!(rt; "{least}")?;
+    print!(rt; " sum ")?;
+    print!(rt; "{sum}")?;
+    print!(rt; " tries ")?;
+    print!(rt; "{tries}")?;
+    print!(rt; " starts")?;
     print_starts(rt, starts)?;
     println!(rt)
 }
@@ -102,17 +109,23 @@ fn print_starts(rt: &impl Print, starts: &[i32]) -> io::Result<()> {
 
 // The walk's starts are below the periods and never negative.
 fn print_start(rt: &impl Print, start: i32) -> io::Result<()> {
+    print!(rt; " ")?;
     if start < 0 {
-        print!(rt; " ")
-    } else {
-        print!(rt; " {start}")
+        return Ok(());
     }
+    print!(rt; "{start}")
 }
 
 fn print_tries(rt: &impl Print, tries: u32) -> io::Result<()> {
-    println!(rt; "stopped tries {tries}")
+    print!(rt; "stopped tries ")?;
+    print!(rt; "{tries}")?;
+    println!(rt)
 }
 
 fn print_refusal(rt: &impl Print, number: u8, place: usize) -> io::Result<()> {
-    println!(rt; "refused {number} at {place}")
+    print!(rt; "refused ")?;
+    print!(rt; "{number}")?;
+    print!(rt; " at ")?;
+    print!(rt; "{place}")?;
+    println!(rt)
 }
