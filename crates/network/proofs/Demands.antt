@@ -1,6 +1,6 @@
 -- The order's demands on read, rate, the weighted rating, the class call and the archive call. A theorem whose words name a call holds of every one that
 -- has returned: of what was lent, `a`, its answer, `r`, and the rows at its exit, `s`, where they keep the contract in src/, which every call does. Those
--- named `..-asks-nothing` hold before it. The others are about files, networks and enums, by the definitions by which contracts answer. Assumes nothing.
+-- named `.._asks_nothing` hold before it. The others are about files, networks and enums, by the definitions by which contracts answer. Assumes nothing.
 use Prim.Native.Nat.{ℕ, ◌+◌, ◌*◌, ◌≤◌, ◌<◌}
 use mathlib.Core.Path.{◌≡◌, refl, sym, ap, ap₂, subst, ◌∙◌}
 use mathlib.Core.Bool.{true, false}

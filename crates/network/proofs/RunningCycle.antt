@@ -114,7 +114,7 @@ keeps f here periods is =
     }
 
 -- At every turn of its loop: `ReaderTurn` is the invariant by which it is proved, so that it holds before the first turn and each turn keeps it
--- (`Inv-loop`, `loop-holds` and `loop-again` of proofs/reader/read_network/Proof.antt)
+-- (`invariant-loop-rest` of proofs/reader/read_network/Invariants.antt, `loop-rest-init` and `loop-rest-preserved` of Answers.antt beside it)
 pub every_turn : {file rest : List ℕ} {n : Network} {often latest : List ℕ} → ReaderTurn file n often latest rest → Keeps file rest n
 every_turn {n = n} t = keeps _ t.comes_here (sym (held_periods n)) t.rows.sound.cycle_is
 

@@ -1,7 +1,7 @@
 //! Searches that may take long, for the best timetable and for one with a wanted gap.
 //!
-//! What their stages rest on is a theorem of each: `search-export-with-more-tries` and
-//! `wanted-export-with-more-tries` of `crates/examination/proofs`, `ExportSearch.antt` and
+//! What their stages rest on is a theorem of each: `search_export_with_more_tries` and
+//! `wanted_export_with_more_tries` of `crates/examination/proofs`, `ExportSearch.antt` and
 //! `ExportWanted.antt`. An answer that no budget cut short is that of every larger one.
 
 use super::stages::{in_stages, Known, Manner};

@@ -67,9 +67,9 @@ returns-else-best c =
 
 pub returns-in-Refused : goal.returns-in-Refused
 returns-in-Refused c = let r = c.read_network-step in
-    let refused-here = sym r.ensures.1 ∙ ap (λ (k : Check). reading_of k r.result.network) c.in-Refused.is ∙ reading_of_refused r.result.network _ _ in record {
-      ended = ends_refused c.args.file.now c.args.row.now (rule_of c.args.rule) c.args.budget (by_file refused-here) _;
-      starts = leaves_refused c.args.file.now c.args.row.now (rule_of c.args.rule) c.args.budget (by_file refused-here);
+    let refused_here = sym r.ensures.1 ∙ ap (λ (k : Check). reading_of k r.result.network) c.in-Refused.is ∙ reading_of_refused r.result.network _ _ in record {
+      ended = ends_refused c.args.file.now c.args.row.now (rule_of c.args.rule) c.args.budget (by_file refused_here) _;
+      starts = leaves_refused c.args.file.now c.args.row.now (rule_of c.args.rule) c.args.budget (by_file refused_here);
       bytes = bytes_here (goal.at.returns-in-Refused c).After-read_network-step;
     }
 
