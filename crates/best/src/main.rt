@@ -3,10 +3,11 @@
 // doesn't tell.
 #![tactic(auto)]
 
-ghost use Rattle.std.specs.Prelude.{◌≡◌, ◌≤◌, length, take};
+ghost use Rattle.std.specs.Prelude.{◌≡◌, ◌≤◌, length, take, IfOk};
 ghost use Rattle.network.specs.Network.{max_lines};
 
-use network::{Network, ReadAnswer};
+use network::grounds::Refusal;
+use network::{Network, Rating};
 use search::SearchAnswer;
 use std::io;
 use std::io::Read;
@@ -16,23 +17,17 @@ const BUDGET: u32 = 1000000;
 // How much of the input is read. What doesn't fit doesn't decide and is left unread.
 const ROOM: usize = 4096;
 
-// How many bytes were read, and whether a failure ended them.
-#[derive(Clone, Copy)]
-struct Input {
-    end: usize,
-    failed: bool,
-}
-
 // What a failed read left out could change the answer, so none is printed.
 fn main(rt: HostRuntime) {
     let mut stdin = rt.stdin();
     let mut buffer = [0u8; ROOM];
-    let input = read_input(&mut stdin, &mut buffer);
-    let end = input.end;
-    if input.failed {
-        complain(&rt, "reading standard input");
-    } else if run(&rt, &buffer[..end]).is_err() {
-        complain(&rt, "writing standard output");
+    match read_input(&mut stdin, &mut buffer) {
+        Err(_) => complain(&rt, "reading standard input"),
+        Ok(end) => {
+            if run(&rt, &buffer[..end]).is_err() {
+                complain(&rt, "writing standard output");
+            }
+        }
     }
 }
 
@@ -41,31 +36,27 @@ fn complain(rt: &impl Eprint, what: &str) {
     let _ = eprintln!(rt; "best: {what} failed");
 }
 
-fn read_input<R: Read>(stdin: &mut R, buffer: &mut [u8]) -> Input
-    ensures { (result.end ≤ length buffer.new) × (result.end ≡ length (take result.end buffer.new)) }
+// How many bytes the input has, or the buffer room for. A loop by hand: `read_exact` wants the buffer filled, and `read_to_end` a heap. The
+// programs of cases have it too (`cases_typed`), on which a program that is handed out doesn't depend.
+fn read_input<R: Read>(stdin: &mut R, buffer: &mut [u8]) -> io::Result<usize>
+    ensures { IfOk result (λ end. (end ≤ length buffer.new) × (end ≡ length (take end buffer.new))) }
 {
     let mut end = 0;
     while end < buffer.len() {
-        match stdin.read(&mut buffer[end..]) {
-            Ok(0) => return Input { end, failed: false },
-            Ok(more) => end += more,
-            Err(_) => return Input { end, failed: true },
+        let more = stdin.read(&mut buffer[end..])?;
+        if more == 0 {
+            break;
         }
+        end += more;
     }
-    Input { end, failed: false }
+    Ok(end)
 }
 
 // The read call says how many starts there are. Like each function below it answers an error where not all was written.
 fn run(rt: &impl Print, file: &[u8]) -> io::Result<()> {
-    let answer = network::reader::read(file);
-    match answer {
-        ReadAnswer::Refused { number, place } => print_refusal(rt, number, place),
-        ReadAnswer::Accepted {
-            lines,
-            stops: _,
-            calls: _,
-            cycle: _,
-        } => find(rt, file, lines as usize),
+    match network::reader::read(file) {
+        Err(refusal) => print_refusal(rt, refusal),
+        Ok(accepted) => find(rt, file, accepted.lines as usize),
     }
 }
 
@@ -74,21 +65,21 @@ fn find(rt: &impl Print, file: &[u8], lines: usize) -> io::Result<()>
 {
     let mut row = [0i32; Network::MAX_LINES];
     let starts = &mut row[..lines];
-    let answer = search::entry::search(file, starts, BUDGET);
-    match answer {
-        SearchAnswer::Finished { least, sum, tries } => print_best(rt, least, sum, tries, starts),
-        SearchAnswer::Stopped { least, sum, tries } => {
+    match search::entry::search(file, starts, BUDGET) {
+        Ok(SearchAnswer::Finished { best, tries }) => print_best(rt, best, tries, starts),
+        Ok(SearchAnswer::Stopped { best, tries }) => {
             print!(rt; "stopped ")?;
-            print_best(rt, least, sum, tries, starts)
+            print_best(rt, best, tries, starts)
         }
         // The budget is more than the lines, so a full timetable is always reached.
-        SearchAnswer::StoppedWithNone { tries } => print_tries(rt, tries),
-        SearchAnswer::Refused { number, place } => print_refusal(rt, number, place),
+        Ok(SearchAnswer::StoppedWithNone { tries }) => print_tries(rt, tries),
+        Err(refusal) => print_refusal(rt, refusal),
     }
 }
 
 // A word and a number are a write each, as ever: of an output that takes only some of them a test tells how far the line came.
-fn print_best(rt: &impl Print, least: u32, sum: u32, tries: u32, starts: &[i32]) -> io::Result<()> {
+fn print_best(rt: &impl Print, best: Rating, tries: u32, starts: &[i32]) -> io::Result<()> {
+    let Rating { least, sum } = best;
     print!(rt; "gap ")?;
     print!(rt; "{least}")?;
     print!(rt; " sum ")?;
@@ -122,7 +113,9 @@ fn print_tries(rt: &impl Print, tries: u32) -> io::Result<()> {
     println!(rt)
 }
 
-fn print_refusal(rt: &impl Print, number: u8, place: usize) -> io::Result<()> {
+fn print_refusal(rt: &impl Print, refusal: Refusal) -> io::Result<()> {
+    let number = refusal.reason.number();
+    let place = refusal.place;
     print!(rt; "refused ")?;
     print!(rt; "{number}")?;
     print!(rt; " at ")?;

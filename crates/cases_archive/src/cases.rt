@@ -3,7 +3,7 @@ ghost use Rattle.std.specs.Prelude.{◌≤◌};
 
 use crate::shown::{FILL, show_answer, show_row, written};
 use cases_typed::show::show_name;
-use cases_typed::{name_length, put_hex};
+use cases_typed::{cut, put_hex};
 use std::io;
 
 // A case: its name, a colon, and a file of at most 64 bytes in hexadecimal, as the paper writes files. The row that is lent has so many
@@ -11,8 +11,8 @@ use std::io;
 pub fn case(rt: &impl Print, text: &[u8], places: usize) -> io::Result<()>
     requires { places ≤ 64 }
 {
-    let colon = name_length(text);
-    named(rt, &text[..colon], &text[colon..], places)
+    let (name, file) = cut(text, b':');
+    named(rt, name, file, places)
 }
 
 // A case whose name stands by itself.
@@ -29,7 +29,7 @@ pub fn again(rt: &impl Print, name: &[u8], text: &[u8]) -> io::Result<()> {
     let mut file = [0u8; 64];
     let end = put_hex(text, &mut file, 0);
     let mut form = [FILL; 64];
-    network::archive::archive(&file[..end], &mut form);
+    let _ = network::archive::archive(&file[..end], &mut form);
     let length = written(&form);
     show(rt, name, &form[..length], 64)
 }

@@ -39,7 +39,7 @@ fn largest_again(rt: &impl Print, name: &[u8]) -> io::Result<()> {
     let mut file = large_file(16, 16, 60, true);
     let end = put_hex(b"45", &mut file, 1328);
     let mut form = [FILL; 2048];
-    network::archive::archive(&file[..end], &mut form);
+    let _ = network::archive::archive(&file[..end], &mut form);
     let length = written(&form);
     show(rt, name, &form[..length], 2048)
 }

@@ -3,17 +3,17 @@ ghost use Rattle.std.specs.Prelude.{◌<◌, ◌≤◌, length};
 ghost use Rattle.cases_typed.specs.Counts.{IsPrefixLen};
 
 use cases_typed::show::show_refusal;
-use network::ArchiveAnswer;
+use network::grounds::Refusal;
 use std::io;
 
 // What every place of a row holds before the call. An archive form ends with 45, so that it is told from what stands behind it.
 pub const FILL: u8 = 0xA5;
 
 // The length of the archive form, or the refusal.
-pub fn show_answer(rt: &impl Print, answer: ArchiveAnswer) -> io::Result<()> {
+pub fn show_answer(rt: &impl Print, answer: Result<u32, Refusal>) -> io::Result<()> {
     match answer {
-        ArchiveAnswer::Archived { bytes } => print!(rt; " archived {bytes}"),
-        ArchiveAnswer::Refused { number, place } => show_refusal(rt, number, place),
+        Ok(bytes) => print!(rt; " archived {bytes}"),
+        Err(refusal) => show_refusal(rt, refusal.reason.number(), refusal.place),
     }
 }
 
@@ -21,14 +21,9 @@ pub fn show_answer(rt: &impl Print, answer: ArchiveAnswer) -> io::Result<()> {
 pub fn written(row: &[u8]) -> usize
     ensures { IsPrefixLen result row.now }
 {
-    let mut end = row.len();
-    while 0 < end {
-        if row[end - 1] != FILL {
-            return end;
-        }
-        end -= 1;
-    }
-    end
+    row.iter()
+        .rposition(|byte| *byte != FILL)
+        .map_or(0, |last| last + 1)
 }
 
 // A row whole: the bytes that are written, and how many stand behind them as before the call.

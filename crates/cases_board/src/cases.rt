@@ -2,72 +2,26 @@
 ghost use Rattle.std.specs.Prelude.{◌≤◌};
 
 use crate::shown::{NO_LINE, NO_TIME, PLACES, show_answer, show_rows};
-use cases_typed::lines::{behind, is_remark, place_from, put_file, put_sizes, put_starts};
+use cases_typed::cut;
+use cases_typed::lines::{put_named, put_numbers};
 use cases_typed::show::show_name;
 use std::io;
 
-// Each line of a text is a case, but for empty ones and remarks.
-pub fn all(rt: &impl Print, text: &[u8]) -> io::Result<()> {
-    let mut at = 0;
-    while at < text.len() {
-        if text[at] == b'\n' {
-            at += 1;
-        } else {
-            let end = place_from(text, at + 1, b'\n');
-            line(rt, &text[at..end])?;
-            at = end;
-        }
-    }
-    Ok(())
-}
-
-fn line(rt: &impl Print, text: &[u8]) -> io::Result<()> {
-    if is_remark(text) {
-        return Ok(());
-    }
-    let colon = place_from(text, 0, b':');
-    case(rt, &text[0..colon], &text[colon..])
-}
-
 // A case: its name, and its file; behind strokes the starts of its sheet, the first minute, and what is asked.
-fn case(rt: &impl Print, name: &[u8], text: &[u8]) -> io::Result<()> {
-    let stroke = place_from(text, 0, b'|');
+pub fn case(rt: &impl Print, text: &[u8]) -> io::Result<()> {
     let mut file = [0u8; 2048];
-    let end = put_file(&text[0..stroke], &mut file);
-    on_sheet(rt, name, &file[0..end], &text[behind(text, stroke)..])
+    let (name, end, rest) = put_named(text, &mut file);
+    on_sheet(rt, name, &file[..end], rest)
 }
 
 fn on_sheet(rt: &impl Print, name: &[u8], file: &[u8], text: &[u8]) -> io::Result<()> {
-    let stroke = place_from(text, 0, b'|');
+    let (starts, text) = cut(text, b'|');
     let mut sheet = [0i32; 32];
-    let count = put_starts(&text[0..stroke], &mut sheet);
-    from_minute(
-        rt,
-        name,
-        file,
-        &sheet[0..count],
-        &text[behind(text, stroke)..],
-    )
-}
-
-fn from_minute(
-    rt: &impl Print,
-    name: &[u8],
-    file: &[u8],
-    sheet: &[i32],
-    text: &[u8],
-) -> io::Result<()> {
-    let stroke = place_from(text, 0, b'|');
+    let count = put_numbers(starts, &mut sheet);
+    let (from, text) = cut(text, b'|');
     let mut minute = [0i32; 32];
-    put_starts(&text[0..stroke], &mut minute);
-    ask(
-        rt,
-        name,
-        file,
-        sheet,
-        minute[0],
-        &text[behind(text, stroke)..],
-    )
+    put_numbers(from, &mut minute);
+    ask(rt, name, file, &sheet[..count], minute[0], text)
 }
 
 // What is asked: the stop, how many minutes, and how many places the rows of times and of lines have, 32 where nothing is said.
@@ -80,7 +34,7 @@ fn ask(
     text: &[u8],
 ) -> io::Result<()> {
     let mut sizes = [32u32; 8];
-    put_sizes(text, &mut sizes);
+    put_numbers(text, &mut sizes);
     let time_places = places(sizes[2]);
     let line_places = places(sizes[3]);
     show(
@@ -99,7 +53,7 @@ fn ask(
 fn places(size: u32) -> usize
     ensures { result ≤ 32 }
 {
-    if size <= 32 { size as usize } else { PLACES }
+    PLACES.min(size as usize)
 }
 
 // The answer for a file and rows that are the first places of 32, on a line of its own. All 32 are shown, so that what is written behind a row

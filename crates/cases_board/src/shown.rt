@@ -2,7 +2,7 @@
 ghost use Rattle.std.specs.Prelude.{◌≤◌};
 
 use cases_typed::show::show_refusal;
-use network::BoardAnswer;
+use network::grounds::Refusal;
 use std::io;
 
 // How many places the rows have of which parts are lent.
@@ -14,10 +14,10 @@ pub const NO_TIME: i64 = 9999999999;
 pub const NO_LINE: u8 = 255;
 
 // How many arrivals are listed, or the refusal.
-pub fn show_answer(rt: &impl Print, answer: BoardAnswer) -> io::Result<()> {
+pub fn show_answer(rt: &impl Print, answer: Result<u32, Refusal>) -> io::Result<()> {
     match answer {
-        BoardAnswer::Listed { count } => print!(rt; " listed {count}"),
-        BoardAnswer::Refused { number, place } => show_refusal(rt, number, place),
+        Ok(count) => print!(rt; " listed {count}"),
+        Err(refusal) => show_refusal(rt, refusal.reason.number(), refusal.place),
     }
 }
 
@@ -25,8 +25,8 @@ pub fn show_answer(rt: &impl Print, answer: BoardAnswer) -> io::Result<()> {
 pub fn show_rows(rt: &impl Print, times: &[i64; PLACES], lines: &[u8; PLACES]) -> io::Result<()> {
     let end = written(times, lines);
     print!(rt; "; rows")?;
-    for i in 0..end {
-        show_arrival(rt, times[i], lines[i])?;
+    for (time, line) in times[..end].iter().zip(&lines[..end]) {
+        show_arrival(rt, *time, *line)?;
     }
     let untouched = PLACES - end;
     println!(rt; ", untouched {untouched}")
@@ -36,26 +36,14 @@ pub fn show_rows(rt: &impl Print, times: &[i64; PLACES], lines: &[u8; PLACES]) -
 fn written(times: &[i64; PLACES], lines: &[u8; PLACES]) -> usize
     ensures { result ≤ 32 }
 {
-    let mut end = PLACES;
-    while 0 < end {
-        if times[end - 1] != NO_TIME {
-            return end;
-        }
-        if lines[end - 1] != NO_LINE {
-            return end;
-        }
-        end -= 1;
-    }
-    end
+    times
+        .iter()
+        .zip(lines)
+        .rposition(|(time, line)| *time != NO_TIME || *line != NO_LINE)
+        .map_or(0, |last| last + 1)
 }
 
-// An arrival: its time, a stroke, and its line.
+// An arrival: its time, of either sign, a stroke, and its line.
 fn show_arrival(rt: &impl Print, time: i64, line: u8) -> io::Result<()> {
-    show_time(rt, time)?;
-    print!(rt; "/{line}")
-}
-
-// A time of either sign.
-fn show_time(rt: &impl Print, time: i64) -> io::Result<()> {
-    print!(rt; " {time}")
+    print!(rt; " {time}/{line}")
 }

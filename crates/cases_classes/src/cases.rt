@@ -3,8 +3,8 @@ ghost use Rattle.std.specs.Prelude.{◌<◌, ◌≤◌, length};
 
 use cases_typed::large::large_file;
 use cases_typed::show::{show_name, show_number, show_numbers, show_refusal, sum_of};
-use cases_typed::{name_length, put_hex};
-use network::ClassAnswer;
+use cases_typed::{cut, put_hex};
+use network::grounds::Refusal;
 use std::io;
 
 // A case: its name, a colon, and a file of at most 128 bytes in hexadecimal, as the paper writes files. Of each row so many places are
@@ -12,8 +12,8 @@ use std::io;
 pub fn case(rt: &impl Print, text: &[u8], shown: usize) -> io::Result<()>
     requires { shown ≤ 64 }
 {
-    let colon = name_length(text);
-    named(rt, &text[..colon], &text[colon..], shown)
+    let (name, file) = cut(text, b':');
+    named(rt, name, file, shown)
 }
 
 // A case whose name stands by itself.
@@ -37,10 +37,10 @@ pub fn large_case(
 ) -> io::Result<()>
     requires { (0 < lines) × (lines ≤ 16) × (calls ≤ 256) × (shown ≤ 64) }
 {
-    let colon = name_length(text);
+    let (name, behind) = cut(text, b':');
     let mut file = large_file(lines, lines, period, true);
-    let end = put_hex(&text[colon..], &mut file, 3 * lines + 5 * calls);
-    show(rt, &text[..colon], &file[..end], shown)
+    let end = put_hex(behind, &mut file, 3 * lines + 5 * calls);
+    show(rt, name, &file[..end], shown)
 }
 
 // The answer for a file with rows of 64 places, on a line of its own.
@@ -53,17 +53,17 @@ fn show(rt: &impl Print, name: &[u8], file: &[u8], shown: usize) -> io::Result<(
     let answer = network::classes::classes(file, &mut classes, &mut weights);
     show_answer(rt, answer)?;
     print!(rt; "; row")?;
-    show_classes(rt, &classes[..shown])?;
+    show_numbers(rt, &classes[..shown])?;
     print!(rt; "; weights")?;
     show_numbers(rt, &weights[..shown])?;
     show_sums(rt, &classes, &weights)
 }
 
 // The number of classes, or the refusal.
-pub fn show_answer(rt: &impl Print, answer: ClassAnswer) -> io::Result<()> {
+pub fn show_answer(rt: &impl Print, answer: Result<u32, Refusal>) -> io::Result<()> {
     match answer {
-        ClassAnswer::Classes { count } => print!(rt; " classes {count}"),
-        ClassAnswer::Refused { number, place } => show_refusal(rt, number, place),
+        Ok(count) => print!(rt; " classes {count}"),
+        Err(refusal) => show_refusal(rt, refusal.reason.number(), refusal.place),
     }
 }
 
@@ -77,19 +77,8 @@ pub fn show_sums(rt: &impl Print, classes: &[u8], weights: &[u16]) -> io::Result
     println!(rt)
 }
 
-fn show_classes(rt: &impl Print, row: &[u8]) -> io::Result<()> {
-    for class in row {
-        show_number(rt, *class as u64)?;
-    }
-    Ok(())
-}
-
 fn class_sum(row: &[u8]) -> u64
     requires { length row.now ≤ 4096 }
 {
-    let mut sum: u64 = 0;
-    for class in row {
-        sum += *class as u64;
-    }
-    sum
+    row.iter().map(|class| u64::from(*class)).sum()
 }

@@ -2,7 +2,8 @@
 use cases_typed::papers::{P1, P8, P9};
 use cases_typed::put_hex;
 use cases_typed::show::{show_name, show_rating, show_refusal};
-use network::RateAnswer;
+use network::Rating;
+use network::grounds::Refusal;
 use std::io;
 
 pub fn all(rt: &impl Print) -> io::Result<()> {
@@ -29,10 +30,10 @@ fn show(rt: &impl Print, name: &[u8], file: &[u8], sheet: &[i32]) -> io::Result<
     println!(rt)
 }
 
-fn show_answer(rt: &impl Print, answer: RateAnswer) -> io::Result<()> {
+fn show_answer(rt: &impl Print, answer: Result<Rating, Refusal>) -> io::Result<()> {
     match answer {
-        RateAnswer::Rated { least, sum } => show_rating(rt, least, sum),
-        RateAnswer::Refused { number, place } => show_refusal(rt, number, place),
+        Ok(Rating { least, sum }) => show_rating(rt, least, sum),
+        Err(refusal) => show_refusal(rt, refusal.reason.number(), refusal.place),
     }
 }
 

@@ -3,7 +3,7 @@
 ghost use Rattle.std.specs.Prelude.{◌≤◌};
 
 use crate::cases::show_answer;
-use cases_typed::lines::put_sizes;
+use cases_typed::lines::put_numbers;
 use cases_typed::show::{show_name, show_number, show_numbers, sum_of};
 use std::io;
 
@@ -16,7 +16,7 @@ pub fn show_gaps(
     text: &[u8],
 ) -> io::Result<()> {
     let mut sizes = [0u32; 8];
-    put_sizes(text, &mut sizes);
+    put_numbers(text, &mut sizes);
     let shown = places(sizes[0]);
     show(rt, name, file, sheet, shown)
 }
@@ -24,7 +24,7 @@ pub fn show_gaps(
 fn places(size: u32) -> usize
     ensures { result ≤ 64 }
 {
-    if size <= 64 { size as usize } else { 64 }
+    size.min(64) as usize
 }
 
 // The gaps call's answer for a file and a sheet, and the row it leaves, on a line of its own.

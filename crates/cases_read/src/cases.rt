@@ -3,14 +3,15 @@ ghost use Rattle.std.specs.Prelude.{◌<◌, ◌≤◌};
 
 use cases_typed::large::large_file;
 use cases_typed::show::{show_name, show_refusal};
-use cases_typed::{name_length, put_hex};
-use network::ReadAnswer;
+use cases_typed::{cut, put_hex};
+use network::Accepted;
+use network::grounds::Refusal;
 use std::io;
 
 // A case: its name, a colon, and a file of at most 96 bytes in hexadecimal, as the paper writes files.
 pub fn case(rt: &impl Print, text: &[u8]) -> io::Result<()> {
-    let colon = name_length(text);
-    named(rt, &text[..colon], &text[colon..])
+    let (name, file) = cut(text, b':');
+    named(rt, name, file)
 }
 
 // A case whose name stands by itself.
@@ -30,10 +31,10 @@ pub fn large_case(
 ) -> io::Result<()>
     requires { (lines ≤ 16) × (0 < callers) × (calls ≤ 256) }
 {
-    let colon = name_length(text);
+    let (name, behind) = cut(text, b':');
     let mut file = large_file(lines, callers, 60, false);
-    let end = put_hex(&text[colon..], &mut file, 3 * lines + 5 * calls);
-    show(rt, &text[..colon], &file[..end])
+    let end = put_hex(behind, &mut file, 3 * lines + 5 * calls);
+    show(rt, name, &file[..end])
 }
 
 // A case whose file begins with 16 lines and all 256 calls.
@@ -49,14 +50,14 @@ pub fn show(rt: &impl Print, name: &[u8], file: &[u8]) -> io::Result<()> {
 }
 
 // The numbers of lines, stops and calls and the cycle, or the refusal.
-fn show_answer(rt: &impl Print, answer: ReadAnswer) -> io::Result<()> {
+fn show_answer(rt: &impl Print, answer: Result<Accepted, Refusal>) -> io::Result<()> {
     match answer {
-        ReadAnswer::Accepted {
-            lines,
-            stops,
-            calls,
-            cycle,
-        } => print!(rt; " accepted {lines} {stops} {calls} {cycle}"),
-        ReadAnswer::Refused { number, place } => show_refusal(rt, number, place),
+        Ok(read) => {
+            print!(rt;
+                " accepted {} {} {} {}",
+                read.lines, read.stops, read.calls, read.cycle
+            )
+        }
+        Err(refusal) => show_refusal(rt, refusal.reason.number(), refusal.place),
     }
 }

@@ -1,7 +1,7 @@
 // Document 02, A.6: the edition that opens a file, and 46 in edition 2.
 use crate::cases::{case, show};
 use cases_typed::large::large_file_in_edition;
-use cases_typed::{name_length, put_hex};
+use cases_typed::{cut, put_hex};
 use std::io;
 
 pub fn all(rt: &impl Print) -> io::Result<()> {
@@ -113,8 +113,8 @@ fn full(rt: &impl Print) -> io::Result<()> {
 
 // A case whose file begins with an edition, 16 lines and all 256 calls, and goes on as the text says.
 fn full_case(rt: &impl Print, text: &[u8], edition: u8) -> io::Result<()> {
-    let colon = name_length(text);
+    let (name, behind) = cut(text, b':');
     let mut file = large_file_in_edition(edition, 16, 16, 60);
-    let end = put_hex(&text[colon..], &mut file, 1330);
-    show(rt, &text[..colon], &file[..end])
+    let end = put_hex(behind, &mut file, 1330);
+    show(rt, name, &file[..end])
 }

@@ -2,6 +2,8 @@
 // what it answers.
 use cases_typed::put_hex;
 use cases_typed::show::{show_name, show_rating, show_refusal, show_row};
+use network::Rating;
+use network::grounds::Refusal;
 use search::{SearchAnswer, WantedAnswer};
 use std::io;
 
@@ -44,39 +46,34 @@ pub fn wanted_case(
 }
 
 // What the search answers.
-fn show(rt: &impl Print, answer: SearchAnswer) -> io::Result<()> {
+fn show(rt: &impl Print, answer: Result<SearchAnswer, Refusal>) -> io::Result<()> {
     match answer {
-        SearchAnswer::Finished { least, sum, tries } => {
+        Ok(SearchAnswer::Finished { best, tries }) => {
             print!(rt; " finished")?;
-            show_best(rt, least, sum, tries)
+            show_best(rt, best, tries)
         }
-        SearchAnswer::Stopped { least, sum, tries } => {
+        Ok(SearchAnswer::Stopped { best, tries }) => {
             print!(rt; " stopped")?;
-            show_best(rt, least, sum, tries)
+            show_best(rt, best, tries)
         }
-        SearchAnswer::StoppedWithNone { tries } => {
+        Ok(SearchAnswer::StoppedWithNone { tries }) => {
             print!(rt; " stopped with none, tries {tries}")
         }
-        SearchAnswer::Refused { number, place } => show_refusal(rt, number, place),
+        Err(refusal) => show_refusal(rt, refusal.reason.number(), refusal.place),
     }
 }
 
-fn show_best(rt: &impl Print, least: u32, sum: u32, tries: u32) -> io::Result<()> {
-    show_rating(rt, least, sum)?;
+fn show_best(rt: &impl Print, best: Rating, tries: u32) -> io::Result<()> {
+    show_rating(rt, best.least, best.sum)?;
     print!(rt; ", tries {tries}")
 }
 
 // What is answered to a wanted gap.
-fn show_wanted(rt: &impl Print, answer: WantedAnswer) -> io::Result<()> {
+fn show_wanted(rt: &impl Print, answer: Result<WantedAnswer, Refusal>) -> io::Result<()> {
     match answer {
-        WantedAnswer::Found { tries } => show_ended(rt, b" found", tries),
-        WantedAnswer::None { tries } => show_ended(rt, b" none", tries),
-        WantedAnswer::Stopped { tries } => show_ended(rt, b" stopped", tries),
-        WantedAnswer::Refused { number, place } => show_refusal(rt, number, place),
+        Ok(WantedAnswer::Found { tries }) => print!(rt; " found, tries {tries}"),
+        Ok(WantedAnswer::None { tries }) => print!(rt; " none, tries {tries}"),
+        Ok(WantedAnswer::Stopped { tries }) => print!(rt; " stopped, tries {tries}"),
+        Err(refusal) => show_refusal(rt, refusal.reason.number(), refusal.place),
     }
-}
-
-fn show_ended(rt: &impl Print, how: &[u8], tries: u32) -> io::Result<()> {
-    rt.write_all(how)?;
-    print!(rt; ", tries {tries}")
 }

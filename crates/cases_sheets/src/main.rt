@@ -5,13 +5,14 @@
 mod cases;
 mod show;
 
-use crate::cases::all;
+use crate::cases::case;
 use cases_typed::input::{ROOM, read_full};
+use cases_typed::lines::each_case;
 use std::io;
 
 fn main(rt: HostRuntime) -> io::Result<()> {
     let mut input = rt.stdin();
     let mut text = [0u8; ROOM];
     let end = read_full(&mut input, &mut text)?;
-    all(&rt, &text[..end])
+    each_case(&text[..end], |line| case(&rt, line))
 }

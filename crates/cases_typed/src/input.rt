@@ -9,7 +9,7 @@ use std::io::Read;
 pub const ROOM: usize = 65536;
 
 // Reads until the buffer is full or the input ends, and answers how many bytes came. What the buffer has no room for is left unread. A read
-// that fails is answered, since what it left out could be cases.
+// that fails is answered, since what it left out could be cases. A loop by hand: `read_exact` wants the buffer filled, `read_to_end` a heap.
 pub fn read_full<R: Read>(input: &mut R, buffer: &mut [u8]) -> io::Result<usize>
     ensures { IfOk result (λ end. IsPrefixLen end buffer.new) }
 {

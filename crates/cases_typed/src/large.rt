@@ -29,11 +29,11 @@ pub fn large_file_in_edition(edition: u8, lines: usize, callers: usize, period: 
 fn put_lines(file: &mut [u8; 2048], from: usize, lines: usize, period: u16)
     requires { (from ≤ 2) × (lines ≤ 16) }
 {
+    let [high, low] = period.to_be_bytes();
+    // By index: the line's number is what its place is made of.
     for line in 0..lines {
         let at = from + 3 * line;
-        file[at] = 0x4C;
-        file[at + 1] = (period / 256) as u8;
-        file[at + 2] = (period % 256) as u8;
+        file[at..at + 3].copy_from_slice(&[0x4C, high, low]);
     }
 }
 
@@ -41,20 +41,12 @@ fn put_lines(file: &mut [u8; 2048], from: usize, lines: usize, period: u16)
 fn put_calls(file: &mut [u8; 2048], from: usize, callers: usize, sloping: bool)
     requires { (from ≤ 50) × (0 < callers) }
 {
+    // By index: the call's number is what its place, its line and its stop are made of.
     for call in 0..256usize {
         let at = from + 5 * call;
         let line = call % callers;
         let stop = call / callers;
-        file[at] = 0x43;
-        file[at + 1] = line as u8;
-        file[at + 2] = stop as u8;
-        file[at + 4] = offset(line, stop, sloping);
+        let offset = if sloping { line * stop } else { 1 };
+        file[at..at + 5].copy_from_slice(&[0x43, line as u8, stop as u8, 0, offset as u8]);
     }
-}
-
-// The offset of a line's call at a stop.
-fn offset(line: usize, stop: usize, sloping: bool) -> u8
-    requires { line * stop ≤ 255 }
-{
-    if sloping { (line * stop) as u8 } else { 1 }
 }

@@ -7,21 +7,26 @@ pub mod lines;
 pub mod papers;
 pub mod show;
 
-ghost use Rattle.std.specs.Prelude.{◌<◌, ◌≤◌, length};
-ghost use Rattle.cases_typed.specs.Counts.{IsPrefixLen};
+ghost use Rattle.std.specs.Prelude.{◌≡◌, ◌==◌, ◌<◌, ◌≤◌, ◌+◌, length, take, drop, position, IfSome};
+ghost use Rattle.cases_typed.specs.Counts.{IsPrefixLen, place_of};
 
-// How long the name is: the place of the colon, or the text's length where there is none.
-pub fn name_length(text: &[u8]) -> usize
-    ensures { IsPrefixLen result text.now }
+// The place of the first such byte of a text.
+fn place_in(text: &[u8], glyph: u8) -> Option<usize>
+    ensures first { result ≡ position (λ byte. byte == glyph) text.now }
+    ensures within { IfSome result (λ place. place < length text.now) }
 {
-    let mut i = 0;
-    while i < text.len() {
-        if text[i] == b':' {
-            return i;
-        }
-        i += 1;
+    text.iter().position(|byte| *byte == glyph)
+}
+
+// What stands before the first such byte of a text, and what stands behind it; where there is none, the whole text and nothing.
+pub fn cut(text: &[u8], glyph: u8) -> (&[u8], &[u8])
+    ensures before { result.0.now ≡ take (place_of glyph text.now) text.now }
+    ensures behind { result.1.now ≡ drop (place_of glyph text.now + 1) text.now }
+{
+    match place_in(text, glyph) {
+        Some(place) => (&text[..place], &text[place + 1..]),
+        None => (text, &[]),
     }
-    i
 }
 
 // Puts the bytes that `text` writes in pairs of digits into `file` from `at` on, and answers the place behind the last. What
@@ -31,17 +36,18 @@ pub fn put_hex(text: &[u8], file: &mut [u8], at: usize) -> usize
     ensures { IsPrefixLen result file.new }
 {
     let mut end = at;
-    let mut i = 0;
-    while i + 1 < text.len() {
-        if is_gap(text[i]) {
-            i += 1;
+    let mut rest = text;
+    // A gap is skipped only where a pair would begin: behind one digit it is the pair's second.
+    while let [high, low, behind @ ..] = rest {
+        if is_gap(*high) {
+            rest = &rest[1..];
         } else {
             if end == file.len() {
                 return end;
             }
-            file[end] = digit(text[i]) * 16 + digit(text[i + 1]);
+            file[end] = digit(*high) * 16 + digit(*low);
             end += 1;
-            i += 2;
+            rest = behind;
         }
     }
     end
@@ -49,10 +55,10 @@ pub fn put_hex(text: &[u8], file: &mut [u8], at: usize) -> usize
 
 // The colon, and the spaces between commands.
 fn is_gap(glyph: u8) -> bool {
-    glyph == b':' || glyph == b' '
+    matches!(glyph, b':' | b' ')
 }
 
-// The value of a hexadecimal digit, 0 to 9 or A to F.
+// The value of a hexadecimal digit, 0 to 9 or A to F; by hand, since any other glyph counts as 0, where `to_digit` has none.
 fn digit(glyph: u8) -> u8
     ensures { result < 16 }
 {

@@ -1,80 +1,73 @@
 // Cases as lines of a text: their parts and their numbers.
-ghost use Rattle.std.specs.Prelude.{◌≤◌, length};
+ghost use Rattle.std.specs.Prelude.{◌<◌, ◌≤◌, length};
 
 use crate::large::large_file;
-use crate::{digit, put_hex};
+use crate::{cut, digit, put_hex};
+use std::io;
 
-// The first place from one on that has this byte, or the text's length where none has.
-pub fn place_from(text: &[u8], from: usize, glyph: u8) -> usize
-    requires { from ≤ length text.now }
-    ensures { (from ≤ result) × (result ≤ length text.now) }
-{
-    let mut i = from;
-    while i < text.len() {
-        if text[i] == glyph {
-            return i;
-        }
-        i += 1;
-    }
-    i
-}
-
-// The place behind a place, or the text's length.
-pub fn behind(text: &[u8], place: usize) -> usize
-    requires { place ≤ length text.now }
-    ensures { (place ≤ result) × (result ≤ length text.now) }
-{
-    if place < text.len() { place + 1 } else { place }
-}
-
-// Whether a line is a remark, which begins with `#`.
+// Whether a line is a remark, which begins with `#`, or empty.
 pub fn is_remark(text: &[u8]) -> bool {
-    if 0 < text.len() {
-        return text[0] == b'#';
-    }
-    true
+    matches!(text, [] | [b'#', ..])
 }
 
-// The starts that a text has, in decimal with blanks between them, as many as there is room for. Answers how many.
-pub fn put_starts(text: &[u8], row: &mut [i32]) -> usize
+// Runs each line of a text as a case, but for empty ones and remarks.
+pub fn each_case<F: FnMut(&[u8]) -> io::Result<()>>(text: &[u8], case: F) -> io::Result<()>
+    requires { F.IsAlwaysCallable case }
+{
+    text.split(|glyph| *glyph == b'\n')
+        .filter(|line| !is_remark(line))
+        .try_for_each(case)
+}
+
+// A number that a text writes in decimal.
+pub trait Written: Copy {
+    // The number; 0 where it has no 32 bits.
+    fn read(text: &[u8]) -> Self;
+}
+
+// A start, with a `-` before a negative one.
+impl Written for i32 {
+    fn read(text: &[u8]) -> i32 {
+        let number = match text.strip_prefix(b"-") {
+            Some(size) => -(number_of(size) as i64),
+            None => number_of(text) as i64,
+        };
+        i32::try_from(number).unwrap_or(0)
+    }
+}
+
+// A size.
+impl Written for u32 {
+    fn read(text: &[u8]) -> u32 {
+        u32::try_from(number_of(text)).unwrap_or(0)
+    }
+}
+
+// A number of up to 12 digits; by hand, since a glyph that is no digit counts as 0, where `parse` refuses.
+fn number_of(text: &[u8]) -> u64
+    ensures { result < 10000000000006 }
+{
+    let mut number: u64 = 0;
+    for glyph in text {
+        number = number % 1000000000000 * 10 + u64::from(digit(*glyph));
+    }
+    number
+}
+
+// The numbers that a text has, with blanks between them, as many as there is room for. Answers how many.
+// A loop by hand: in a generic function a `for` over `split` gets no proof (its iterator's type isn't admitted).
+pub fn put_numbers<N: Written>(text: &[u8], row: &mut [N]) -> usize
     ensures { result ≤ length row.new }
 {
     let mut count = 0;
-    let mut at = 0;
-    while at < text.len() {
-        if text[at] == b' ' {
-            at += 1;
-        } else {
-            if count == row.len() {
-                return count;
-            }
-            let end = place_from(text, at + 1, b' ');
-            row[count] = start_of(&text[at..end]);
+    let mut rest = text;
+    while !rest.is_empty() && count < row.len() {
+        let (number, behind) = cut(rest, b' ');
+        if !number.is_empty() {
+            row[count] = N::read(number);
             count += 1;
-            at = end;
         }
-    }
-    count
-}
-
-// The sizes that a text has, likewise.
-pub fn put_sizes(text: &[u8], row: &mut [u32]) -> usize
-    ensures { result ≤ length row.new }
-{
-    let mut count = 0;
-    let mut at = 0;
-    while at < text.len() {
-        if text[at] == b' ' {
-            at += 1;
-        } else {
-            if count == row.len() {
-                return count;
-            }
-            let end = place_from(text, at + 1, b' ');
-            row[count] = size_of(&text[at..end]);
-            count += 1;
-            at = end;
-        }
+        rest = behind;
     }
     count
 }
@@ -84,21 +77,23 @@ pub fn put_sizes(text: &[u8], row: &mut [u32]) -> usize
 pub fn put_file(text: &[u8], file: &mut [u8; 2048]) -> usize
     ensures { result ≤ length file.new }
 {
-    let sign = place_from(text, 0, b'=');
-    if sign == text.len() {
+    if !text.contains(&b'=') {
         return put_hex(text, file, 0);
     }
-    let comma = place_from(text, sign + 1, b',');
+    let (_, large) = cut(text, b'=');
+    let (numbers, behind) = cut(large, b',');
     let mut sizes = [0u32; 8];
-    put_sizes(&text[sign + 1..comma], &mut sizes);
-    put_large(
-        file,
-        sizes[0],
-        sizes[1],
-        sizes[2],
-        sizes[3],
-        &text[behind(text, comma)..],
-    )
+    put_numbers(numbers, &mut sizes);
+    put_large(file, sizes[0], sizes[1], sizes[2], sizes[3], behind)
+}
+
+// A case's name, how many bytes the file behind it has, and what stands behind the file.
+pub fn put_named<'a>(text: &'a [u8], file: &mut [u8; 2048]) -> (&'a [u8], usize, &'a [u8])
+    ensures { result.1 ≤ length file.new }
+{
+    let (name, behind) = cut(text, b':');
+    let (bytes, rest) = cut(behind, b'|');
+    (name, put_file(bytes, file), rest)
 }
 
 fn put_large(
@@ -111,55 +106,11 @@ fn put_large(
 ) -> usize
     ensures { result ≤ length file.new }
 {
-    if lines <= 16 {
-        if 0 < callers {
-            if period <= 1440 {
-                if calls <= 256 {
-                    let count = lines as usize;
-                    *file = large_file(count, callers as usize, period as u16, false);
-                    return put_hex(text, file, 3 * count + 5 * calls as usize);
-                }
-            }
-        }
+    if lines <= 16 && 0 < callers && period <= 1440 && calls <= 256 {
+        let count = lines as usize;
+        *file = large_file(count, callers as usize, period as u16, false);
+        put_hex(text, file, 3 * count + 5 * calls as usize)
+    } else {
+        0
     }
-    0
-}
-
-// A start, with a `-` before a negative one; 0 where it has no 32 bits.
-fn start_of(text: &[u8]) -> i32 {
-    if 0 < text.len() {
-        if text[0] == b'-' {
-            return negative(number_of(&text[1..]));
-        }
-    }
-    natural(number_of(text))
-}
-
-// -1 less one less than the size is at least -2^31, so that nothing wraps.
-fn negative(size: u64) -> i32 {
-    if 0 < size {
-        if size <= 2147483648 {
-            return -1 - (size - 1) as i32;
-        }
-    }
-    0
-}
-
-fn natural(size: u64) -> i32 {
-    if size < 2147483648 { size as i32 } else { 0 }
-}
-
-// A size; 0 where it has no 32 bits.
-fn size_of(text: &[u8]) -> u32 {
-    let size = number_of(text);
-    if size < 4294967296 { size as u32 } else { 0 }
-}
-
-// A number of up to 12 digits.
-fn number_of(text: &[u8]) -> u64 {
-    let mut number: u64 = 0;
-    for i in 0..text.len() {
-        number = number % 1000000000000 * 10 + digit(text[i]) as u64;
-    }
-    number
 }

@@ -14,15 +14,15 @@ pub fn show_number(rt: &impl Print, number: u64) -> io::Result<()> {
     print!(rt; " {number}")
 }
 
-// A rating.
+// A rating. Not its `Display`: that would stand in `network`, which prints nothing, and these words are the programs' own.
 pub fn show_rating(rt: &impl Print, least: u32, sum: u32) -> io::Result<()> {
     print!(rt; " {least} {sum}")
 }
 
 // The numbers of a row.
-pub fn show_numbers(rt: &impl Print, row: &[u16]) -> io::Result<()> {
+pub fn show_numbers<N: Copy + Into<u64>>(rt: &impl Print, row: &[N]) -> io::Result<()> {
     for number in row {
-        show_number(rt, *number as u64)?;
+        show_number(rt, (*number).into())?;
     }
     Ok(())
 }
@@ -31,11 +31,7 @@ pub fn show_numbers(rt: &impl Print, row: &[u16]) -> io::Result<()> {
 pub fn sum_of(row: &[u16]) -> u64
     requires { length row.now ≤ 4096 }
 {
-    let mut sum: u64 = 0;
-    for number in row {
-        sum += *number as u64;
-    }
-    sum
+    row.iter().map(|number| u64::from(*number)).sum()
 }
 
 // The starts of a row.
@@ -55,7 +51,7 @@ fn show_start(rt: &impl Print, start: i32) -> io::Result<()> {
     }
 }
 
-// A refusal, by its number and place.
+// A refusal, by its number and place, as with a rating; this crate knows no other, so not by the type.
 pub fn show_refusal(rt: &impl Print, number: u8, place: usize) -> io::Result<()> {
     print!(rt; " refused {number} at {place}")
 }

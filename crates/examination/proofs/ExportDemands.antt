@@ -14,7 +14,7 @@ use contract.Lifetimes.{Lfts}
 use denote.Triple.Clauses.{AtExit}
 use lib.IntN.{ℤ}
 use lib.ListN.{length, take}
-use Rattle.network.specs.declared.Rating.{Rating}
+use Rattle.network.specs.Rating.{Rating}
 use Rattle.network.specs.Network.{Net, stop_count}
 use Rattle.network.specs.Gives.{Gives}
 use Rattle.network.specs.Reading.{Reading, Outcome, values, refusal, accepted, refused, read_file, read_outcome}

@@ -37,7 +37,7 @@ pub use Rattle.examination.proofs.ExportHundred.{hundred_export_demand_1, by_key
 pub use Rattle.examination.proofs.ExportBoard.{board_export_demand_1}
 pub use Rattle.examination.proofs.ExportGaps.{gaps_export_demand_1}
 -- .. what each answer of the network's calls tells, and 2 wherever reading comes to a byte that is no command
-pub use Rattle.network.proofs.Demands.{read_answer_accepted, read_answer_refused, rate_answer_rated, rate_answer_refused}
+pub use Rattle.network.proofs.Demands.{read_answer_accepted, read_answer_refused, rate_answer_rated, rate_answer_refused, ground_numbers}
 pub use Rattle.network.proofs.Demands.{class_answer_classes, class_answer_refused, archive_answer_archived, archive_answer_refused}
 pub use Rattle.network.proofs.StopBoard.{board_answer_listed, board_answer_refused}
 pub use Rattle.network.proofs.Demands.{unknown_is_2}

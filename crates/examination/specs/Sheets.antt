@@ -1,7 +1,9 @@
 -- Document 01, "Sheets": better-of-two and mark, on a file and sheets of starts. (A sheet is a candidate's timetable. Better-of-two is the
 -- greater of two by the lexicographic order of ratings; a mark sets a timetable's objective value beside the optimum.)
-use Rattle.std.specs.Prelude.{ℕ, Bool, true, false, ◌&&◌, List, eqb, ℤ, length}
-use Rattle.network.specs.declared.Rating.{Rating}
+use Rattle.std.specs.Prelude.{ℕ, Bool, true, false, ◌&&◌, List, eqb, ℤ, length, Result, Ok, Err}
+use Rattle.network.specs.declared.grounds.Refusal.{Refusal}
+use Rattle.network.specs.Numbers.{number_of}
+use Rattle.network.specs.Rating.{Rating}
 use Rattle.network.specs.Lists.{pick}
 use Rattle.network.specs.Network.{Net}
 use Rattle.network.specs.Rating.{rating, is_above}
@@ -55,12 +57,12 @@ pub data MarkOutcome : Type 0 where
   undecided : (least sum tries : ℕ) → MarkOutcome
   refusal : (number place : ℕ) → MarkOutcome
 
--- The mark call's enum, case by case
-unfoldable pub mark_answer : MarkAnswer → MarkOutcome
-mark_answer (answer.Decided least sum best_least best_sum equal mark remainder tries) =
-    decided least sum best_least best_sum equal mark remainder tries
-mark_answer (answer.Undecided least sum tries) = undecided least sum tries
-mark_answer (answer.Refused number place) = refusal number place
+-- The mark call's answer, case by case
+unfoldable pub mark_answer : Result MarkAnswer Refusal → MarkOutcome
+mark_answer (Ok (answer.Decided sheet best equal hundred tries)) =
+    decided sheet.least sheet.sum best.least best.sum equal hundred.mark hundred.remainder tries
+mark_answer (Ok (answer.Undecided sheet tries)) = undecided sheet.least sheet.sum tries
+mark_answer (Err r) = refusal (number_of r.reason) r.place
 
 -- A sheet of this rating beside what the search answers: if the search stops, undecided ("an undecided marking has no mark")
 unfoldable pub marked : (least sum : ℕ) → SearchOutcome → MarkOutcome

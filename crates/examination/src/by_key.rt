@@ -4,34 +4,19 @@ ghost use Rattle.network.specs.Reading.{read_file};
 ghost use Rattle.network.specs.Valid.{IsBytes};
 ghost use Rattle.examination.specs.ByKey.{key_answer, key_outcome};
 
-use crate::KeyAnswer;
+use crate::OutOfHundred;
 use crate::hundred::out_of_hundred;
-use network::RateAnswer;
+use network::grounds::Refusal;
 use network::rate::rate_both;
 
 // By a key: a file, a sheet and a key, such as the starts of a finished search; the sheet's mark beside the key's least gap, or the refusal of
 // rate on the sheet, or else on the key. Many sheets are marked so by one search.
-pub fn by_key(file: &[u8], sheet: &[i32], key: &[i32]) -> KeyAnswer
+pub fn by_key(file: &[u8], sheet: &[i32], key: &[i32]) -> Result<OutOfHundred, Refusal>
     ensures answer { key_answer result ≡ key_outcome (read_file file.now) sheet.now key.now }
     ensures bytes { IsBytes file.now }
 {
     let both = rate_both(file, sheet, key);
-    let of_sheet = both.first;
-    let of_key = both.second;
-    match of_sheet {
-        RateAnswer::Refused { number, place } => KeyAnswer::Refused { number, place },
-        RateAnswer::Rated { least, sum } => match of_key {
-            RateAnswer::Refused { number, place } => KeyAnswer::Refused { number, place },
-            RateAnswer::Rated {
-                least: best,
-                sum: best_sum,
-            } => {
-                let hundred = out_of_hundred(least, best);
-                KeyAnswer::Marked {
-                    mark: hundred.mark,
-                    remainder: hundred.remainder,
-                }
-            }
-        },
-    }
+    let rating = both.first?;
+    let best = both.second?;
+    Ok(out_of_hundred(rating.least, best.least))
 }

@@ -1,42 +1,41 @@
 // Sheets as bytes: 4 for each start, two's complement, most significant first.
-ghost use Rattle.std.specs.Prelude.{◌≡◌, ◌+◌, ◌<◌, ◌≤◌, length};
+ghost use Rattle.std.specs.Prelude.{◌≡◌, ◌+◌, ◌<◌, length};
 ghost use Rattle.examination.specs.Engine.Taken as taken;
 
 use crate::Sheet;
-use network::reader::word;
+
+impl Sheet {
+    // The starts.
+    pub fn starts(&self) -> &[i32]
+        ensures { result.now ≡ taken.held self.now }
+    {
+        &self.row[..self.count]
+    }
+}
 
 // The start that begins at a place of a sheet's bytes.
 fn start_at(bytes: &[u8], at: usize) -> i32
     requires { at + 3 < length bytes.now }
     ensures { result ≡ taken.start_at bytes.now at }
 {
-    let high = word(bytes, at) as u32;
-    let low = word(bytes, at + 2) as u32;
-    let number = high * 65536 + low;
-    if number < 2147483648 {
-        return number as i32;
-    }
-    // What is missing to 2^32 less 1 is at most 2^31 less 1, so that nothing wraps.
-    -1 - (4294967295 - number) as i32
+    i32::from_be_bytes([bytes[at], bytes[at + 1], bytes[at + 2], bytes[at + 3]])
 }
 
 // A sheet taken apart.
 pub fn sheet_of(bytes: &[u8]) -> Sheet
-    ensures { (result.count ≤ length result.starts) × (taken.held result ≡ taken.sheet_of bytes.now) }
+    ensures { taken.held result ≡ taken.sheet_of bytes.now }
 {
-    let mut starts = [0i32; Sheet::PLACES];
-    let length = bytes.len();
-    let count = length / 4;
-    if length % 4 == 0 {
-        if count < Sheet::PLACES {
-            for i in 0..count {
-                starts[i] = start_at(bytes, i * 4);
-            }
-            return Sheet { count, starts };
+    let mut row = [0i32; Sheet::PLACES];
+    let count = bytes.len() / 4;
+    if bytes.len() % 4 == 0 && count < Sheet::PLACES {
+        // By index: the start's number is what its place in the bytes is made of, and the row's too.
+        for i in 0..count {
+            row[i] = start_at(bytes, i * 4);
         }
+        return Sheet { count, row };
     }
     Sheet {
         count: Sheet::PLACES,
-        starts,
+        row,
     }
 }

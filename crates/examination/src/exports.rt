@@ -4,6 +4,7 @@ ghost use Rattle.std.specs.Prelude.{◌≡◌, ℕ, ◌<◌, length};
 ghost use Rattle.network.specs.Archive as form;
 ghost use Rattle.network.specs.Board.{window};
 ghost use Rattle.network.specs.ClassCall as call;
+ghost use Rattle.network.specs.Numbers.{number_of};
 ghost use Rattle.network.specs.Rate.{rate_answer, rate_outcome};
 ghost use Rattle.network.specs.Reading.{read_file, read_outcome, refusal};
 ghost use Rattle.network.specs.Valid.{IsBytes};
@@ -17,14 +18,15 @@ use crate::better::choose;
 use crate::by_key::by_key;
 use crate::bytes::sheet_of;
 use crate::marking::mark;
-use crate::{Choice, KeyAnswer, MarkAnswer};
+use crate::{Choice, MarkAnswer};
 use network::archive::archive;
 use network::board::board;
 use network::classes::{classes, weighted};
 use network::gap_row::gaps;
+use network::grounds::Refusal;
 use network::rate::rate;
 use network::reader::read;
-use network::{ArchiveAnswer, BoardAnswer, ClassAnswer, Network, RateAnswer, ReadAnswer};
+use network::{Network, Rating};
 use search::entry::search;
 use search::wanted::wanted;
 use search::{SearchAnswer, WantedAnswer};
@@ -33,30 +35,38 @@ use search::{SearchAnswer, WantedAnswer};
 const PLACE_LIMIT: u32 = 65536;
 
 // A refusal as one number.
-fn refusal_code(number: u8, place: usize) -> u32
-    requires { place < export.place_limit }
-    ensures { result ≡ export.refusal_code number place }
+fn refusal_code(refusal: Refusal) -> u32
+    requires { refusal.place < export.place_limit }
+    ensures { result ≡ export.refusal_code (number_of refusal.reason) refusal.place }
 {
-    number as u32 * PLACE_LIMIT + place as u32
-}
-
-// 1 where the test holds, else 0.
-fn one_if(test: bool) -> u32
-    ensures { result ≡ export.one_if test }
-{
-    if test { 1 } else { 0 }
+    u32::from(refusal.reason.number()) * PLACE_LIMIT + refusal.place as u32
 }
 
 // A rating's two numbers into the answer row, or a refusal; and what the export returns.
-fn put_rating(told: RateAnswer, answer: &mut [u32; 2]) -> u32
+fn put_rating(told: Result<Rating, Refusal>, answer: &mut [u32; 2]) -> u32
     requires { (number place : ℕ) → rate_answer told ≡ refusal number place → place < export.place_limit }
     ensures returned { result ≡ export.status (rate_answer told) }
     ensures row { answer.new ≡ export.row_after (rate_answer told) answer.old }
 {
     match told {
-        RateAnswer::Refused { number, place } => refusal_code(number, place),
-        RateAnswer::Rated { least, sum } => {
-            *answer = [least, sum];
+        Err(refusal) => refusal_code(refusal),
+        Ok(rating) => {
+            *answer = [rating.least, rating.sum];
+            0
+        }
+    }
+}
+
+// How many, into the answer row, or a refusal; and what the export returns.
+fn put_count(told: Result<u32, Refusal>, answer: &mut [u32; 1]) -> u32
+    requires { (number place : ℕ) → call.class_answer told ≡ refusal number place → place < export.place_limit }
+    ensures returned { result ≡ export.status (call.class_answer told) }
+    ensures row { answer.new ≡ export.row_after (call.class_answer told) answer.old }
+{
+    match told {
+        Err(refusal) => refusal_code(refusal),
+        Ok(count) => {
+            *answer = [count];
             0
         }
     }
@@ -68,16 +78,10 @@ pub fn examination_read(file: &[u8], answer: &mut [u32; 4]) -> u32
     ensures row { answer.new ≡ export.row_after (read_outcome (read_file file.now)) answer.old }
     ensures bytes { IsBytes file.now }
 {
-    let told = read(file);
-    match told {
-        ReadAnswer::Refused { number, place } => refusal_code(number, place),
-        ReadAnswer::Accepted {
-            lines,
-            stops,
-            calls,
-            cycle,
-        } => {
-            *answer = [lines, stops, calls, cycle];
+    match read(file) {
+        Err(refusal) => refusal_code(refusal),
+        Ok(told) => {
+            *answer = [told.lines, told.stops, told.calls, told.cycle];
             0
         }
     }
@@ -91,10 +95,7 @@ pub fn examination_rate(file: &[u8], sheet: &[u8], answer: &mut [u32; 2]) -> u32
     ensures sheet { IsBytes sheet.now }
 {
     let taken = sheet_of(sheet);
-    let starts = taken.starts;
-    let count = taken.count;
-    let told = rate(file, &starts[..count]);
-    put_rating(told, answer)
+    put_rating(rate(file, taken.starts()), answer)
 }
 
 // The weighted rating, the sheet as bytes.
@@ -105,10 +106,7 @@ pub fn examination_weighted(file: &[u8], sheet: &[u8], answer: &mut [u32; 2]) ->
     ensures sheet { IsBytes sheet.now }
 {
     let taken = sheet_of(sheet);
-    let starts = taken.starts;
-    let count = taken.count;
-    let told = weighted(file, &starts[..count]);
-    put_rating(told, answer)
+    put_rating(weighted(file, taken.starts()), answer)
 }
 
 // The gap of each stop, the sheet as bytes.
@@ -125,10 +123,7 @@ pub fn examination_gaps(
     ensures sheet { IsBytes sheet.now }
 {
     let taken = sheet_of(sheet);
-    let starts = taken.starts;
-    let count = taken.count;
-    let told = gaps(file, &starts[..count], gap_row);
-    put_rating(told, answer)
+    put_rating(gaps(file, taken.starts(), gap_row), answer)
 }
 
 // The class call.
@@ -144,14 +139,7 @@ pub fn examination_classes(
     ensures weights { weight_row.new ≡ call.weight_row_after (read_file file.now) class_row.old weight_row.old }
     ensures bytes { IsBytes file.now }
 {
-    let told = classes(file, class_row, weight_row);
-    match told {
-        ClassAnswer::Refused { number, place } => refusal_code(number, place),
-        ClassAnswer::Classes { count } => {
-            *answer = [count];
-            0
-        }
-    }
+    put_count(classes(file, class_row, weight_row), answer)
 }
 
 // The archive call: returns the length of the archive form.
@@ -160,10 +148,9 @@ pub fn examination_archive(file: &[u8], row: &mut [u8]) -> u32
     ensures row { row.new ≡ form.archive_row_after (read_file file.now) row.old }
     ensures bytes { IsBytes file.now }
 {
-    let told = archive(file, row);
-    match told {
-        ArchiveAnswer::Refused { number, place } => refusal_code(number, place),
-        ArchiveAnswer::Archived { bytes } => bytes,
+    match archive(file, row) {
+        Err(refusal) => refusal_code(refusal),
+        Ok(bytes) => bytes,
     }
 }
 
@@ -186,24 +173,16 @@ pub fn examination_board(
     ensures sheet { IsBytes sheet.now }
 {
     let taken = sheet_of(sheet);
-    let starts = taken.starts;
-    let count = taken.count;
     let told = board(
         file,
-        &starts[..count],
+        taken.starts(),
         stop,
         from,
         minutes,
         time_row,
         line_row,
     );
-    match told {
-        BoardAnswer::Refused { number, place } => refusal_code(number, place),
-        BoardAnswer::Listed { count: listed } => {
-            *answer = [listed];
-            0
-        }
-    }
+    put_count(told, answer)
 }
 
 // The search.
@@ -218,18 +197,17 @@ pub fn examination_search(
     ensures starts { start_row.new ≡ start_row_after (read_file file.now) budget start_row.old }
     ensures bytes { IsBytes file.now }
 {
-    let told = search(file, start_row, budget);
-    match told {
-        SearchAnswer::Refused { number, place } => refusal_code(number, place),
-        SearchAnswer::Finished { least, sum, tries } => {
-            *answer = [least, sum, tries];
+    match search(file, start_row, budget) {
+        Err(refusal) => refusal_code(refusal),
+        Ok(SearchAnswer::Finished { best, tries }) => {
+            *answer = [best.least, best.sum, tries];
             0
         }
-        SearchAnswer::Stopped { least, sum, tries } => {
-            *answer = [least, sum, tries];
+        Ok(SearchAnswer::Stopped { best, tries }) => {
+            *answer = [best.least, best.sum, tries];
             1
         }
-        SearchAnswer::StoppedWithNone { tries } => {
+        Ok(SearchAnswer::StoppedWithNone { tries }) => {
             *answer = [0, 0, tries];
             2
         }
@@ -249,18 +227,17 @@ pub fn examination_wanted(
     ensures starts { start_row.new ≡ wanted_row_after (read_file file.now) gap budget start_row.old }
     ensures bytes { IsBytes file.now }
 {
-    let told = wanted(file, start_row, gap, budget);
-    match told {
-        WantedAnswer::Refused { number, place } => refusal_code(number, place),
-        WantedAnswer::Found { tries } => {
+    match wanted(file, start_row, gap, budget) {
+        Err(refusal) => refusal_code(refusal),
+        Ok(WantedAnswer::Found { tries }) => {
             *answer = [tries];
             0
         }
-        WantedAnswer::None { tries } => {
+        Ok(WantedAnswer::None { tries }) => {
             *answer = [tries];
             1
         }
-        WantedAnswer::Stopped { tries } => {
+        Ok(WantedAnswer::Stopped { tries }) => {
             *answer = [tries];
             2
         }
@@ -275,13 +252,8 @@ pub fn examination_better(file: &[u8], first: &[u8], second: &[u8]) -> u32
     ensures second { IsBytes second.now }
 {
     let one = sheet_of(first);
-    let one_starts = one.starts;
-    let one_count = one.count;
     let other = sheet_of(second);
-    let other_starts = other.starts;
-    let other_count = other.count;
-    let choice = choose(file, &one_starts[..one_count], &other_starts[..other_count]);
-    match choice {
+    match choose(file, one.starts(), other.starts()) {
         Choice::First => 1,
         Choice::Second => 2,
         Choice::Neither => 0,
@@ -289,66 +261,56 @@ pub fn examination_better(file: &[u8], first: &[u8], second: &[u8]) -> u32
 }
 
 // Mark on a sheet's bytes.
-fn mark_bytes(file: &[u8], sheet: &[u8], budget: u32) -> MarkAnswer
+fn mark_bytes(file: &[u8], sheet: &[u8], budget: u32) -> Result<MarkAnswer, Refusal>
     ensures answer { sheets.mark_answer result ≡ bytes.mark_bytes budget (read_file file.now) sheet.now }
     ensures bytes { IsBytes file.now }
 {
     let taken = sheet_of(sheet);
-    let starts = taken.starts;
-    let count = taken.count;
-    mark(file, &starts[..count], budget)
+    mark(file, taken.starts(), budget)
 }
 
 // A mark's six numbers into the answer row, or a refusal; and what the export returns.
-fn put_mark(told: MarkAnswer, answer: &mut [u32; 6]) -> u32
+fn put_mark(told: Result<MarkAnswer, Refusal>, answer: &mut [u32; 6]) -> u32
     requires { (number place : ℕ) → sheets.mark_answer told ≡ sheets.refusal number place → place < export.place_limit }
     ensures returned { result ≡ export.mark_status (sheets.mark_answer told) }
     ensures row { answer.new ≡ export.mark_row (sheets.mark_answer told) answer.old }
 {
     match told {
-        MarkAnswer::Refused { number, place } => refusal_code(number, place),
-        MarkAnswer::Undecided { least, sum, tries } => {
-            *answer = [least, sum, 0, 0, 0, tries];
+        Err(refusal) => refusal_code(refusal),
+        Ok(MarkAnswer::Undecided { sheet, tries }) => {
+            *answer = [sheet.least, sheet.sum, 0, 0, 0, tries];
             1
         }
-        MarkAnswer::Decided {
-            least,
-            sum,
-            best_least,
-            best_sum,
-            equal,
-            mark,
-            remainder,
-            tries,
-        } => {
-            let same = one_if(equal);
-            *answer = [least, sum, best_least, best_sum, same, tries];
+        Ok(
+            MarkAnswer::Decided {
+                sheet,
+                best,
+                equal,
+                tries,
+                ..
+            },
+        ) => {
+            *answer = [
+                sheet.least,
+                sheet.sum,
+                best.least,
+                best.sum,
+                u32::from(equal),
+                tries,
+            ];
             0
         }
     }
 }
 
 // A mark out of a hundred and its remainder into a row of their own; a refusal leaves the row.
-fn put_hundred(told: MarkAnswer, hundred: &mut [u32; 2])
+fn put_hundred(told: Result<MarkAnswer, Refusal>, hundred: &mut [u32; 2])
     ensures { hundred.new ≡ export.hundred_row (sheets.mark_answer told) hundred.old }
 {
     match told {
-        MarkAnswer::Refused { number, place } => {}
-        MarkAnswer::Undecided { least, sum, tries } => {
-            *hundred = [0, 0];
-        }
-        MarkAnswer::Decided {
-            least,
-            sum,
-            best_least,
-            best_sum,
-            equal,
-            mark,
-            remainder,
-            tries,
-        } => {
-            *hundred = [mark, remainder];
-        }
+        Err(_) => {}
+        Ok(MarkAnswer::Undecided { .. }) => *hundred = [0, 0],
+        Ok(MarkAnswer::Decided { hundred: told, .. }) => *hundred = [told.mark, told.remainder],
     }
 }
 
@@ -359,8 +321,7 @@ pub fn examination_mark(file: &[u8], sheet: &[u8], budget: u32, answer: &mut [u3
     ensures bytes { IsBytes file.now }
     ensures sheet { IsBytes sheet.now }
 {
-    let told = mark_bytes(file, sheet, budget);
-    put_mark(told, answer)
+    put_mark(mark_bytes(file, sheet, budget), answer)
 }
 
 // Mark out of a hundred, the sheet as bytes: what the export of mark answers, and mark and remainder in a row of their own, so that a host
@@ -392,16 +353,11 @@ pub fn examination_by_key(file: &[u8], sheet: &[u8], key: &[u8], hundred: &mut [
     ensures key { IsBytes key.now }
 {
     let taken = sheet_of(sheet);
-    let starts = taken.starts;
-    let count = taken.count;
     let best = sheet_of(key);
-    let best_starts = best.starts;
-    let best_count = best.count;
-    let told = by_key(file, &starts[..count], &best_starts[..best_count]);
-    match told {
-        KeyAnswer::Refused { number, place } => refusal_code(number, place),
-        KeyAnswer::Marked { mark, remainder } => {
-            *hundred = [mark, remainder];
+    match by_key(file, taken.starts(), best.starts()) {
+        Err(refusal) => refusal_code(refusal),
+        Ok(told) => {
+            *hundred = [told.mark, told.remainder];
             0
         }
     }

@@ -8,7 +8,11 @@ pub mod exports;
 mod hundred;
 pub mod marking;
 
-// Which of two sheets is the better.
+ghost use Rattle.std.specs.Prelude.{◌≤◌};
+
+use network::Rating;
+
+// Which of two sheets is the better. Its name and not the sheet itself: the export compares rows of its own, and answers which.
 #[derive(Clone, Copy)]
 pub enum Choice {
     First,
@@ -16,51 +20,38 @@ pub enum Choice {
     Neither,
 }
 
-// What the mark call answers: decided, the sheet's rating, the best rating, whether they are equal, the mark out of a hundred with its
-// remainder, and the tries; undecided, the sheet's rating and the tries, and no mark; or a refusal.
+// What the mark call answers: decided, the sheet's rating, the best rating, whether they are equal, the mark out of a hundred, and the tries; or
+// undecided, the sheet's rating and the tries, and no mark. Whether they are equal is a number of the answer, and no value hangs on it.
 #[derive(Clone, Copy)]
 pub enum MarkAnswer {
     Decided {
-        least: u32,
-        sum: u32,
-        best_least: u32,
-        best_sum: u32,
+        sheet: Rating,
+        best: Rating,
         equal: bool,
-        mark: u32,
-        remainder: u32,
+        hundred: OutOfHundred,
         tries: u32,
     },
     Undecided {
-        least: u32,
-        sum: u32,
+        sheet: Rating,
         tries: u32,
-    },
-    Refused {
-        number: u8,
-        place: usize,
     },
 }
 
 // A mark out of a hundred: the whole part, and what is left.
 #[derive(Clone, Copy)]
-struct OutOfHundred {
+pub struct OutOfHundred {
     pub mark: u32,
     pub remainder: u32,
 }
 
-// What the call by a key answers: the mark out of a hundred with its remainder, or a refusal.
-#[derive(Clone, Copy)]
-pub enum KeyAnswer {
-    Marked { mark: u32, remainder: u32 },
-    Refused { number: u8, place: usize },
-}
-
-// A sheet taken apart: how many starts it has, and the starts. More starts than any network has lines stand for a byte count that is no
-// whole number of starts, or is too large.
+// A sheet taken apart: how many starts it has, and a row that begins with them. More starts than any network has lines stand for a byte count that
+// is no whole number of starts, or is too large.
+// A row of fixed length: no call allocates, docs/ABI.md.
 #[derive(Clone, Copy)]
 pub struct Sheet {
     pub count: usize,
-    pub starts: [i32; Sheet::PLACES],
+    pub row: [i32; Sheet::PLACES],
+    pub ghost within: { count ≤ 17 },
 }
 
 impl Sheet {

@@ -67,6 +67,7 @@ use Rattle.network.proofs.archive.archive.Reads as archive_contract
 
 pub use Rattle.network.proofs.Laws.Answers.{read_answer_accepted, read_answer_refused, rate_answer_rated, rate_answer_refused}
 pub use Rattle.network.proofs.Laws.Answers.{class_answer_classes, class_answer_refused, archive_answer_archived, archive_answer_refused}
+pub use Rattle.network.proofs.Laws.Answers.{ground_numbers}
 
 -- ---- Every call may be made: none asks anything of what is lent
 

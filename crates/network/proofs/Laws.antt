@@ -1,9 +1,11 @@
 -- The laws of the definitions of `specs/`. `Gaps` gathers what other crates use of gaps and ratings.
+pub mod Results
 pub mod Lists
 pub mod Members
 pub mod Permutations
 pub mod Least
 pub mod Tables
+pub mod Chains
 pub mod Sums
 pub mod Once
 pub mod Filled

@@ -1,6 +1,7 @@
 -- What document 02, A.4, "Common cycle carried along", asks of the reader: the number that it keeps is at every place to which it comes the least
 -- common multiple of all periods so far, by divisibility. First of the definitions, for every file, then of the number in the code, at every turn of
 -- the reader's loop, whose invariant it is, and at every return, by the reader's contract. Assumes nothing.
+use Rattle.std.specs.Prelude.{Ok, Err}
 use Prim.Native.Nat.{ℕ, zero, suc, ◌+◌, ◌-◌, ◌≤◌}
 use mathlib.Core.Path.{◌≡◌, refl, sym, ap, subst, subst₂, ◌∙◌}
 use mathlib.Core.List.{List, [], ◌∷◌, ◌++◌}
@@ -10,8 +11,10 @@ use borrow.Fn.Kinds.{ended_of}
 use contract.Lifetimes.{Lfts}
 use denote.Triple.Clauses.{AtExit}
 use lib.ListN.{length, take, drop}
-use Rattle.network.specs.declared.Check.TheVariants.{Passes, Refused}
+use Rattle.network.specs.Grounds.{Passes, Refused}
 use Rattle.network.specs.declared.Network.{Network}
+use Rattle.network.specs.declared.Rows.{Rows}
+use Rattle.network.specs.declared.Unread.{Unread}
 use Rattle.network.specs.Lists.{any, keep, all_below, count_below}
 use Rattle.network.specs.Divisor.{gcd_within, gcd, lcm, cycle_from, common_cycle, IsLeastCommonMultiple}
 use Rattle.network.specs.Network.{SoFar, Command, states_line, command, operand_bytes, word, cycle, max_cycle, extend, with_line, with_call, call_of}
@@ -23,7 +26,7 @@ use Rattle.network.proofs.Laws.Divisor.{least_common_multiple_unique, one_divide
 use Rattle.network.proofs.Laws.Grounds.{line_not_end, line_refused_place}
 use Rattle.network.proofs.Laws.Reading.{gives_what_is_read, reached_not_behind}
 use Rattle.network.proofs.Laws.RunningCycle.{reached_cycle, periods_of_line, cycle_of_line, cycle_of_line_le, others_state_no_line}
-use Rattle.network.proofs.Laws.Stored.{held_periods}
+use Rattle.network.proofs.Laws.Stored.{held_periods, same_rows_of_network, same_rows_of_unread}
 use Rattle.network.proofs.Laws.ReaderRows.{ReaderTurn}
 use Rattle.network.specs.contracts.reader.read_network as reader
 use Rattle.network.proofs.reader.read_network.Kinds as reader_kinds
@@ -93,7 +96,7 @@ refused_line_keeps_nothing {file} {f} {p} {b} {behind} {number} {place} r is e =
 -- ---- Of the reader, `read_network` in src/reader.rt: what it keeps where the part `rest` of the file is left, `n` being the network with its row of
 -- periods, its number of lines and its cycle
 
-pub record Keeps (file rest : List ℕ) (n : Network) : Type 0 where
+pub record Keeps (file rest : List ℕ) (n : Rows) : Type 0 where
   -- reading comes here with `read_so_far`, whose periods stand in the row, and the number kept is the definition's
   pub read_so_far : SoFar
   pub comes_here : Reached file read_so_far (length file - length rest) rest
@@ -102,7 +105,7 @@ pub record Keeps (file rest : List ℕ) (n : Network) : Type 0 where
   -- .. so that it is the least common multiple of the periods that are kept
   pub is_least_common_multiple : IsLeastCommonMultiple (take n.lines n.periods) n.cycle
 
-keeps : {file rest : List ℕ} {n : Network} (f : SoFar) → Reached file f (length file - length rest) rest
+keeps : {file rest : List ℕ} {n : Rows} (f : SoFar) → Reached file f (length file - length rest) rest
     → take n.lines n.periods ≡ f.network.periods → n.cycle ≡ cycle f.network → Keeps file rest n
 keeps f here periods is =
     record {
@@ -115,14 +118,20 @@ keeps f here periods is =
 
 -- At every turn of its loop: `ReaderTurn` is the invariant by which it is proved, so that it holds before the first turn and each turn keeps it
 -- (`invariant-loop-rest` of proofs/reader/read_network/Invariants.antt, `loop-rest-init` and `loop-rest-preserved` of Answers.antt beside it)
-pub every_turn : {file rest : List ℕ} {n : Network} {often latest : List ℕ} → ReaderTurn file n often latest rest → Keeps file rest n
+pub every_turn : {file rest : List ℕ} {n : Rows} {often latest : List ℕ} → ReaderTurn file n often latest rest → Keeps file rest n
 every_turn {n = n} t = keeps _ t.comes_here (sym (held_periods n)) t.rows.sound.cycle_is
 
--- .. and of the network that it hands over when it returns, with a file that is accepted, cut off or refused: of a refused `4C` nothing is in it
+-- .. and of what it hands over when it returns, the network of a file that is accepted, or what was read of one that is cut off or refused: of a
+-- refused `4C` nothing is in it
 module _ (κs : Lfts 1) (a : ArgsD reader.signature κs) (r : ResD reader.signature κs) (s : AtExit (ended_of 1 reader_kinds.ps reader_kinds.r) κs)
     (kept : reader_contract.Post κs a r s) where
-  pub every_return : (rest : List ℕ) × Keeps a.0.now rest r.network
-  every_return = let (rest, here) = kept.2 in (rest, keeps _ here (sym (held_periods r.network)) kept.0.cycle_is)
+  pub every_return : ((n : Network) → r ≡ Ok n → (rest : List ℕ) × Keeps a.0.now rest n.rows)
+      × ((u : Unread) → r ≡ Err u → (rest : List ℕ) × Keeps a.0.now rest u.rows)
+  every_return =
+      let rest = kept.2.0 in (
+        λ n e. let is = same_rows_of_network e in (rest, keeps {n = n.rows} _ (rw is at kept.2.1) (sym (held_periods n.rows)) (rw is at kept.0).cycle_is),
+        λ u e. let is = same_rows_of_unread e in (rest, keeps {n = u.rows} _ (rw is at kept.2.1) (sym (held_periods u.rows)) (rw is at kept.0).cycle_is),
+      )
 
 -- ---- The values on the way of some files, by the definitions: each side computes
 

@@ -1,12 +1,12 @@
 -- Document 02, A.1: the archive form of a network (its canonical form), lines in order, then calls by line and then stop, all as 43, then 45, with its 56
 -- first where the edition isn't 1 (A.6); and what the archive call answers and leaves in the lent row.
-use Rattle.std.specs.Prelude.{ℕ, ◌+◌, ◌*◌, ◌/◌, ◌%◌, ◌≡◌, List, [], ◌∷◌, ◌++◌, eqb, leb, length, drop}
-use Rattle.network.specs.declared.ArchiveAnswer.{ArchiveAnswer}
-use Rattle.network.specs.declared.ArchiveAnswer.TheVariants as answer
+use Rattle.std.specs.Prelude.{ℕ, ◌+◌, ◌*◌, ◌/◌, ◌%◌, ◌≡◌, List, [], ◌∷◌, ◌++◌, eqb, leb, length, drop, Result, Ok, Err}
 use Rattle.network.specs.declared.Call.{Call}
+use Rattle.network.specs.declared.grounds.Refusal.{Refusal}
 use Rattle.network.specs.Lists.{pick, joined}
 use Rattle.network.specs.Network.{Net, first_edition, with_calls}
 use Rattle.network.specs.Tidy.{tidy, how_often}
+use Rattle.network.specs.Numbers.{number_of}
 use Rattle.network.specs.Reading.{Reading, accepted, refused, Outcome, values, refusal}
 
 -- A number as two bytes, most significant byte first
@@ -51,10 +51,10 @@ pub record SameNetwork (m n : Net) : Type 0 where
   pub same_offsets : SameOffsets m n
   pub same_edition : m.edition ≡ n.edition
 
--- The archive call's enum: the length of the archive form; or the refusal
-unfoldable pub archive_answer : ArchiveAnswer → Outcome
-archive_answer (answer.Archived bytes) = values (bytes ∷ [])
-archive_answer (answer.Refused number place) = refusal number place
+-- The archive call's answer: the length of the archive form; or the refusal
+unfoldable pub archive_answer : Result ℕ Refusal → Outcome
+archive_answer (Ok bytes) = values (bytes ∷ [])
+archive_answer (Err r) = refusal (number_of r.reason) r.place
 
 -- What the archive call has to answer, given how long the row is: the file's refusal, then ground 18 where the row is shorter than the archive form,
 -- then its length

@@ -1,19 +1,17 @@
 -- Document 02, A.7: the board of a stop (its arrival board: what arrives there in a window of time), from a first minute until before that minute plus
 -- a length, by time, then line, then offset; and what the board call answers and leaves in the lent rows. A board's list by what it is, and as
 -- computed minute by minute: `board_is_board` of proofs/StopBoard.antt says that the one is the other.
-use Rattle.std.specs.Prelude.{ℕ, zero, suc, ◌<◌, ◌≤◌, ◌≡◌, Bool, not, ◌||◌, List, [], ◌∷◌, ◌++◌, map, eqb, ltb, ℤ, pos, ◌+ℤ◌, ◌-ℤ◌, length, get_or, drop}
-use Rattle.network.specs.declared.BoardAnswer.{BoardAnswer}
-use Rattle.network.specs.declared.BoardAnswer.TheVariants as answer
+use Rattle.std.specs.Prelude.{ℕ, zero, suc, ◌<◌, ◌≤◌, ◌≡◌, Bool, not, ◌||◌, List, [], ◌∷◌, ◌++◌, map, eqb, ltb, ℤ, pos, ◌+ℤ◌, ◌-ℤ◌, length, get_or, drop, Result, Ok, Err}
 use Rattle.network.specs.declared.Call.{Call}
-use Rattle.network.specs.declared.Check.{Check}
-use Rattle.network.specs.declared.Check.TheVariants.{Passes, Refused}
+use Rattle.network.specs.declared.grounds.Refusal.{Refusal}
 use Rattle.network.specs.Lists.{keep, below}
 use Rattle.network.specs.Network.{Net, max_stop}
 use Rattle.network.specs.Valid.{no_call}
 use Rattle.network.specs.Gap.{trip, residue}
 use Rattle.network.specs.Rating.{arrival_of, period_of, CallsThere}
 use Rattle.network.specs.Tidy.{sort_by, not_after}
-use Rattle.network.specs.Grounds.{Ground, ◌at◌when◌, first}
+use Rattle.network.specs.Grounds.{Ground, ◌at◌when◌, Check, Passes, Refused, first}
+use Rattle.network.specs.Numbers.{number_of}
 use Rattle.network.specs.Reading.{Reading, accepted, refused, Outcome, values, refusal}
 
 -- What is asked: a stop, the first minute, and the length in minutes (a half-open interval of time)
@@ -124,10 +122,10 @@ board_grounds n starts w time_row line_row =
     (23 at 0 when ltb time_row (length (board n starts w)) || ltb line_row (length (board n starts w))) ∷
     []
 
--- The board call's enum: the count; or the refusal
-unfoldable pub board_answer : BoardAnswer → Outcome
-board_answer (answer.Listed count) = values (count ∷ [])
-board_answer (answer.Refused number place) = refusal number place
+-- The board call's answer: the count; or the refusal
+unfoldable pub board_answer : Result ℕ Refusal → Outcome
+board_answer (Ok count) = values (count ∷ [])
+board_answer (Err r) = refusal (number_of r.reason) r.place
 
 -- A refusal, or what stands where no ground applies
 unfoldable pub refused_or : {A : Type 0} → Check → (ℕ → ℕ → A) → A → A

@@ -1,20 +1,19 @@
 -- Document 01, "Classes of stops" and "Grounds for refusing", the host program: what the class call answers and leaves in the lent rows,
 -- and what the weighted rating answers on a file and a sheet.
-use Rattle.std.specs.Prelude.{ℕ, Bool, ◌&&◌, List, [], ◌∷◌, eqb, ℤ, length}
-use Rattle.network.specs.declared.Rating.{Rating}
-use Rattle.network.specs.declared.ClassAnswer.{ClassAnswer}
-use Rattle.network.specs.declared.ClassAnswer.TheVariants as answer
+use Rattle.std.specs.Prelude.{ℕ, Bool, ◌&&◌, List, [], ◌∷◌, eqb, ℤ, length, Result, Ok, Err}
+use Rattle.network.specs.declared.grounds.Refusal.{Refusal}
 use Rattle.network.specs.Lists.{pick}
 use Rattle.network.specs.Network.{Net, stop_count}
 use Rattle.network.specs.Reading.{Reading, accepted, refused, Outcome, values, refusal}
-use Rattle.network.specs.Rating.{rating_over}
+use Rattle.network.specs.Numbers.{number_of}
+use Rattle.network.specs.Rating.{Rating, rating_over}
 use Rattle.network.specs.Rate.{rated_on_sheet}
 use Rattle.network.specs.Classes.{class_row, weight_row, class_count, lowest_stops}
 
--- The class call's enum: the number of classes; or the refusal ("Classes of stops")
-unfoldable pub class_answer : ClassAnswer → Outcome
-class_answer (answer.Classes count) = values (count ∷ [])
-class_answer (answer.Refused number place) = refusal number place
+-- The class call's answer: the number of classes; or the refusal ("Classes of stops")
+unfoldable pub class_answer : Result ℕ Refusal → Outcome
+class_answer (Ok count) = values (count ∷ [])
+class_answer (Err r) = refusal (number_of r.reason) r.place
 
 -- Class and weight row are both 64 long ("Grounds for refusing", 17)
 unfoldable pub rows_fit : ℕ → ℕ → Bool

@@ -2,9 +2,8 @@
 -- ground that applies, or the end without one, decides what the file gives. `read_file` computes it: `gives_what_is_read` of
 -- proofs/Laws/Reading.antt.
 use Rattle.std.specs.Prelude.{ℕ, ◌+◌, ◌≡◌, List, [], ◌∷◌, drop}
-use Rattle.network.specs.declared.Check.TheVariants.{Passes, Refused}
 use Rattle.network.specs.Network.{SoFar, nothing_read, ends, command, operand_bytes, extend}
-use Rattle.network.specs.Grounds.{first, grounds}
+use Rattle.network.specs.Grounds.{Passes, Refused, first, grounds}
 use Rattle.network.specs.Reading.{Reading, accepted, refused}
 
 -- Reading `file` comes to place `p`, where `rest` stands and a command is due, with `f` read before it

@@ -1,8 +1,6 @@
 -- Document 01, "Grounds for refusing", the file's author, with grounds 19 to 21 of document 02, A.6: each command's grounds, in the order in which they
 -- are tried.
 use Rattle.std.specs.Prelude.{ℕ, ◌+◌, Bool, true, false, not, ◌||◌, List, [], ◌∷◌, ◌++◌, eqb, leb, ltb, length}
-use Rattle.network.specs.declared.Check.{Check}
-use Rattle.network.specs.declared.Check.TheVariants.{Passes, Refused}
 use Rattle.network.specs.Divisor.{lcm}
 use Rattle.network.specs.Lists.{all_below}
 use Rattle.network.specs.Network.{Net, SoFar, Command, states_line, calls_by_offset, calls_by_ride, ends, states_edition, unknown}
@@ -13,6 +11,11 @@ use Rattle.network.specs.Network.{cycle, how_often_at, calls_anywhere, word, ope
 infix 1 ◌at◌when◌
 pub data Ground : Type 0 where
   ◌at◌when◌ : ℕ → ℕ → Bool → Ground
+
+-- Whether a ground applies: its number, and the place of the file that a refusal names
+pub data Check : Type 0 where
+  Passes : Check
+  Refused : (number place : ℕ) → Check
 
 -- The first ground that applies
 unfoldable pub first : List Ground → Check

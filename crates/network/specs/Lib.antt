@@ -3,6 +3,7 @@ pub mod Divisor
 pub mod Network
 pub mod Tidy
 pub mod Grounds
+pub mod Numbers
 pub mod Reading
 pub mod Gives
 pub mod Editions

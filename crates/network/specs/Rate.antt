@@ -1,17 +1,17 @@
 -- Document 01, "Sheets" and "Grounds for refusing", the candidate: what rate answers on a file and a sheet.
-use Rattle.std.specs.Prelude.{ℕ, List, [], ◌∷◌, eqb, ℤ, length}
-use Rattle.network.specs.declared.Rating.{Rating}
-use Rattle.network.specs.declared.RateAnswer.{RateAnswer}
-use Rattle.network.specs.declared.RateAnswer.TheVariants as answer
+use Rattle.std.specs.Prelude.{ℕ, List, [], ◌∷◌, eqb, ℤ, length, Result, Ok, Err}
+use Rattle.network.specs.declared.Rating as held
+use Rattle.network.specs.declared.grounds.Refusal.{Refusal}
 use Rattle.network.specs.Lists.{pick}
 use Rattle.network.specs.Network.{Net}
 use Rattle.network.specs.Reading.{Reading, accepted, refused, Outcome, values, refusal}
-use Rattle.network.specs.Rating.{rating}
+use Rattle.network.specs.Rating.{Rating, rating}
+use Rattle.network.specs.Numbers.{number_of}
 
--- The rate call's enum: the rating, least gap and then sum; or the refusal
-unfoldable pub rate_answer : RateAnswer → Outcome
-rate_answer (answer.Rated least sum) = values (least ∷ sum ∷ [])
-rate_answer (answer.Refused number place) = refusal number place
+-- The rate call's answer: the rating, least gap and then sum; or the refusal
+unfoldable pub rate_answer : Result held.Rating Refusal → Outcome
+rate_answer (Ok r) = values (r.least ∷ r.sum ∷ [])
+rate_answer (Err r) = refusal (number_of r.reason) r.place
 
 -- A rating's numbers
 unfoldable pub rating_values : Rating → Outcome

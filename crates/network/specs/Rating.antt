@@ -4,7 +4,6 @@
 use Rattle.std.specs.Prelude.{ℕ, suc, ◌*◌, ◌<◌, ◌≤◌, ◌≡◌, Bool, true, false, not, ◌&&◌, ◌||◌, eqb, ltb, leb, ℤ, pos, ◌+ℤ◌, length, get_or}
 use mathlib.Core.List.{List, [], ◌∷◌, map, Memᴰ}
 use Rattle.network.specs.declared.Call.{Call}
-use Rattle.network.specs.declared.Rating.{Rating}
 use Rattle.network.specs.Lists.{pick, keep, below, sum_of, least_of, pairs_of}
 use Rattle.network.specs.Network.{Net, max_stop, is_served}
 use Rattle.network.specs.Valid.{no_call}
@@ -50,6 +49,12 @@ pub data IsStopGap (n : Net) (starts : List ℤ) (stop : ℕ) : ℕ → Type 0 w
       → CallsThere n stop c
       → ((d : ℕ) → CallsThere n stop d → d ≡ c)
       → IsStopGap n starts stop (period_of n (get_or n.calls c no_call))
+
+-- A rating, its least gap and its sum; or none
+pub record Rating : Type 0 where
+  pub some : Bool
+  pub least : ℕ
+  pub sum : ℕ
 
 -- A stop that counts in a rating, and how often in its sum
 pub record Counted : Type 0 where

@@ -1,13 +1,12 @@
 -- Document 01, "The network file": a file is read command by command, and gives a network or the number and place of a refusal; and what
 -- the read call answers.
-use Rattle.std.specs.Prelude.{ℕ, zero, suc, ◌+◌, List, [], ◌∷◌, length}
-use Rattle.network.specs.declared.Check.{Check}
-use Rattle.network.specs.declared.Check.TheVariants.{Passes, Refused}
-use Rattle.network.specs.declared.ReadAnswer.{ReadAnswer}
-use Rattle.network.specs.declared.ReadAnswer.TheVariants as answer
+use Rattle.std.specs.Prelude.{ℕ, zero, suc, ◌+◌, List, [], ◌∷◌, length, Result, Ok, Err}
+use Rattle.network.specs.declared.Accepted.{Accepted}
+use Rattle.network.specs.declared.grounds.Refusal.{Refusal}
 use Rattle.network.specs.Network.{Net, SoFar, nothing_read, Command, states_line, calls_by_offset, calls_by_ride, ends, states_edition, unknown}
 use Rattle.network.specs.Network.{command, operand_bytes, extend, cycle, served_stops}
-use Rattle.network.specs.Grounds.{first, grounds}
+use Rattle.network.specs.Grounds.{Check, Passes, Refused, first, grounds}
+use Rattle.network.specs.Numbers.{number_of}
 
 -- What reading a file gives
 pub data Reading : Type 0 where
@@ -42,10 +41,10 @@ pub data Outcome : Type 0 where
   values : List ℕ → Outcome
   refusal : (number place : ℕ) → Outcome
 
--- The read call's enum: the numbers of lines, served stops and calls, and the common cycle; or the refusal
-unfoldable pub read_answer : ReadAnswer → Outcome
-read_answer (answer.Accepted lines stops calls common) = values (lines ∷ stops ∷ calls ∷ common ∷ [])
-read_answer (answer.Refused number place) = refusal number place
+-- The read call's answer: the numbers of lines, served stops and calls, and the common cycle; or the refusal
+unfoldable pub read_answer : Result Accepted Refusal → Outcome
+read_answer (Ok a) = values (a.lines ∷ a.stops ∷ a.calls ∷ a.cycle ∷ [])
+read_answer (Err r) = refusal (number_of r.reason) r.place
 
 -- What the read call has to answer
 unfoldable pub read_outcome : Reading → Outcome

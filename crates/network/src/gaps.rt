@@ -1,5 +1,5 @@
 // The gap of two calls by theorem 3.1.2 of source 000.
-ghost use Rattle.std.specs.Prelude.{◌≡◌, ℕ, ◌+◌, ◌*◌, ◌<◌, ◌≤◌, ◌^◌, pos, nat_abs, ◌+ℤ◌, ◌-ℤ◌, length, get_or};
+ghost use Rattle.std.specs.Prelude.{◌≡◌, ℕ, ◌<◌, ◌≤◌, ◌+◌, ◌*◌, ◌^◌, pos, nat_abs, length, get_or, ◌+ℤ◌, ◌-ℤ◌};
 ghost use Rattle.network.specs.Divisor as divisor;
 ghost use Rattle.network.specs.Gap as gaps;
 ghost use Rattle.network.specs.Network as net;
@@ -58,6 +58,7 @@ pub fn write_divisors(
     ensures { (i j : ℕ) → i < lines → j < lines → get_or row.new (i * net.max_lines + j) 0 ≡ divisor.gcd (get_or periods.now i 0) (get_or periods.now j 0) }
 {
     let places = lines * Network::MAX_LINES;
+    // By index: the two lines are the place's parts, and the divisor is written at two places.
     for k in 0..places {
         let line = k / Network::MAX_LINES;
         let other = k % Network::MAX_LINES;

@@ -5,19 +5,26 @@ mod alike;
 pub mod archive;
 pub mod board;
 pub mod classes;
+mod command;
 pub mod divisor;
 pub mod gap_row;
 pub mod gaps;
+pub mod grounds;
 mod places;
 pub mod rate;
 pub mod ratings;
 pub mod reader;
+pub mod timetable;
 
 ghost use Rattle.std.specs.Prelude.{◌≡◌, ◌+◌, ◌*◌, ◌^◌, ◌<◌, ◌≤◌};
 ghost use Rattle.network.specs.Network as net;
 ghost use Rattle.network.specs.Rating as rating;
 ghost use Rattle.network.specs.Engine.Scan as scan;
+ghost use Rattle.network.specs.Engine.Rated.{rated, ranked};
 ghost use Rattle.network.specs.Engine.Stored.{net_of, packed, call_in, Sound};
+ghost use Rattle.network.specs.Valid.{Valid};
+
+use crate::grounds::Refusal;
 
 // A line calls at a stop, `offset` minutes after its start.
 #[derive(Clone, Copy)]
@@ -33,7 +40,7 @@ impl Call {
 
     pub const STOP_UNIT: u32 = 65536;
 
-    // The call as one number, so that a row of calls can be lent. The numbers are in the order of the calls, by line, stop and offset.
+    // The call as one number. The numbers are in the order of the calls, by line, stop and offset, so that a row of them is put in order by numbers.
     pub fn packed(self) -> u32
         requires { (self.line < net.max_lines) × (self.stop ≤ net.max_stop) }
         ensures { (result ≡ packed self) × (call_in result ≡ self) }
@@ -53,16 +60,52 @@ impl Call {
     }
 }
 
-// A network: the periods of its lines and its calls, each packed, both in file order, the common cycle, and its edition. Of each row the first
-// places count: `lines` says how many places of `periods` count, and `count` says how many places of `list` count.
+// The rows of a network: the periods of its lines and its calls, each packed, both in file order, the common cycle, and its edition. Of each row
+// the first places count: `lines` says how many places of `periods` count, and `count` says how many places of `list` count. They are of fixed
+// length, here and wherever a struct has rows, since no call allocates (docs/ABI.md).
 #[derive(Clone, Copy)]
-pub struct Network {
+pub struct Rows {
     pub lines: usize,
     pub periods: [u16; Network::MAX_LINES],
     pub count: usize,
     pub list: [u32; Network::MAX_CALLS],
     pub cycle: u32,
     pub edition: u8,
+}
+
+impl Rows {
+    // Before the first command.
+    pub fn new() -> Rows
+        ensures { Sound result × (net_of result ≡ net.empty_net) }
+    {
+        Rows {
+            lines: 0,
+            periods: [0u16; Network::MAX_LINES],
+            count: 0,
+            list: [0u32; Network::MAX_CALLS],
+            cycle: 1,
+            edition: Network::FIRST_EDITION,
+        }
+    }
+
+    // One call more.
+    pub fn with_call(mut self, call: Call) -> Rows
+        requires { Sound self × (self.count < net.max_calls) × (call.line < net.max_lines) × (call.stop ≤ net.max_stop) }
+        ensures { Sound result × (net_of result ≡ net.with_call (net_of self) call) }
+    {
+        let at = self.count;
+        self.list[at] = call.packed();
+        self.count = at + 1;
+        self
+    }
+}
+
+// A network that has been read: its rows fit one another, and it is within the limits.
+#[derive(Clone, Copy)]
+pub struct Network {
+    pub rows: Rows,
+    pub ghost sound: { Sound rows },
+    pub ghost valid: { Valid (net_of rows) },
 }
 
 impl Network {
@@ -109,223 +152,109 @@ impl Network {
 
     // The longest board of a stop.
     pub const MAX_MINUTES: u32 = 10080;
+}
 
-    // The network before the first command.
-    pub fn new() -> Network
-        ensures { Sound result × (net_of result ≡ net.empty_net) }
-    {
-        Network {
-            lines: 0,
-            periods: [0u16; Network::MAX_LINES],
-            count: 0,
-            list: [0u32; Network::MAX_CALLS],
-            cycle: 1,
-            edition: Network::FIRST_EDITION,
-        }
-    }
+// Why a file is refused, and what was read up to there.
+#[derive(Clone, Copy)]
+pub struct Unread {
+    pub refusal: Refusal,
+    pub rows: Rows,
+}
 
-    // One call more.
-    pub fn with_call(mut self, call: Call) -> Network
-        requires { Sound self × (self.count < net.max_calls) × (call.line < net.max_lines) × (call.stop ≤ net.max_stop) }
-        ensures { Sound result × (net_of result ≡ net.with_call (net_of self) call) }
-    {
-        let at = self.count;
-        self.list[at] = call.packed();
-        self.count = at + 1;
-        self
+impl From<Unread> for Refusal {
+    ghost from_gives = { λ unread refusal. refusal ≡ unread.refusal };
+
+    fn from(unread: Unread) -> Refusal {
+        unread.refusal
     }
 }
 
-// The calls of each stop in their order: each stop has MAX_AT_STOP places, of which the first hold its calls, as many as it has.
+// What a command states where no ground refuses it: a line, a call or an edition, or that the file ends.
 #[derive(Clone, Copy)]
-struct StopCalls {
-    pub codes: [u32; Network::PLACES],
-    pub counts: [u8; Network::STOPS],
-}
-
-// A stop's calls in their order: of the first `count` places each row has one for each call, its line, its line's period, and the minutes that have
-// passed since its latest arrival.
-#[derive(Clone, Copy)]
-struct Due {
-    pub count: usize,
-    pub lines: [u8; Network::MAX_AT_STOP],
-    pub periods: [u32; Network::MAX_AT_STOP],
-    pub since: [u32; Network::MAX_AT_STOP],
-}
-
-// Whether a ground for refusing applies: its number, and the place of the file that it names.
-#[derive(Clone, Copy)]
-pub enum Check {
-    Passes,
-    Refused { number: u8, place: usize },
-}
-
-// What a file gives: whether a ground refuses it, and the network up to there.
-#[derive(Clone, Copy)]
-pub struct Step {
-    pub check: Check,
-    pub network: Network,
-}
-
-// The numbers of a network that the grounds ask for, so that they are tried without a copy of its rows.
-#[derive(Clone, Copy)]
-struct Totals {
-    pub lines: usize,
-    pub calls: usize,
-    pub cycle: u32,
-    pub edition: u8,
-}
-
-// What a command tells: the ground that refuses it, or the line, call or edition that it states, or that the file ends.
-#[derive(Clone, Copy)]
-enum Parsed {
-    Refused { number: u8, place: usize },
+enum Stated {
     Line { period: u16, cycle: u32 },
     Calls { call: Call },
     Edition { edition: u8 },
     End,
 }
 
-// A rating: the least gap over all stops, then the sum of the gaps; or none.
-#[derive(Clone, Copy)]
+// A rating: the least gap over all stops, then the sum of the gaps. Ratings are in the order of these numbers, and none is below all of them.
+#[derive(Clone, Copy, PartialEq, Eq, PartialOrd, Ord)]
 pub struct Rating {
-    pub some: bool,
     pub least: u32,
     pub sum: u32,
 }
 
 impl Rating {
     // Below every rating: what stands before the first full timetable.
-    pub const NONE: Rating = Rating {
-        some: false,
-        least: 0,
-        sum: 0,
-    };
+    pub const NONE: Option<Rating> = None;
 
-    // Whether this rating is above another: its least gap is larger, or that is equal and its sum is larger.
-    pub fn is_above(self, other: Rating) -> bool
-        ensures { result ≡ rating.is_above self other }
+    // Whether a rating is above another: its least gap is larger, or that is equal and its sum is larger. A function, and the next too, since the
+    // promises go by these names; both are the derived order.
+    pub fn is_above(one: Option<Rating>, other: Option<Rating>) -> bool
+        ensures { result ≡ rating.is_above (ranked one) (ranked other) }
     {
-        if self.some {
-            if other.some {
-                if other.least == self.least {
-                    return other.sum < self.sum;
-                }
-                return other.least < self.least;
-            }
-            return true;
-        }
-        false
+        one > other
     }
 
-    // Whether this rating is the same as another: the same least gap and the same sum, or both are none.
-    pub fn is_equal(self, other: Rating) -> bool
-        ensures { result ≡ rating.is_equal self other }
+    // Whether a rating is the same as another: the same least gap and the same sum, or both are none.
+    pub fn is_equal(one: Option<Rating>, other: Option<Rating>) -> bool
+        ensures { result ≡ rating.is_equal (ranked one) (ranked other) }
     {
-        if self.some {
-            if other.some {
-                return self.least == other.least && self.sum == other.sum;
-            }
-            return false;
-        }
-        if other.some {
-            return false;
-        }
-        true
+        one == other
     }
 
-    // Whether this rating's least gap is a wanted one or larger. None reaches nothing, not even 0.
-    pub fn reaches(self, wanted: u32) -> bool
-        ensures { result ≡ rating.reaches self wanted }
+    // Whether a rating's least gap is a wanted one or larger. None reaches nothing, not even 0.
+    pub fn reaches(one: Option<Rating>, wanted: u32) -> bool
+        ensures { result ≡ rating.reaches (ranked one) wanted }
     {
-        if self.some {
-            return wanted <= self.least;
+        match one {
+            Some(rating) => wanted <= rating.least,
+            None => false,
         }
-        false
     }
 
-    // Whether this rating's sum is larger than another's, whatever their least gaps. Beside none every rating's is.
-    pub fn sum_is_above(self, other: Rating) -> bool
-        ensures { result ≡ rating.is_sum_above self other }
+    // Whether a rating's sum is larger than another's, whatever their least gaps. Beside none every rating's is.
+    pub fn sum_is_above(one: Option<Rating>, other: Option<Rating>) -> bool
+        ensures { result ≡ rating.is_sum_above (ranked one) (ranked other) }
     {
-        if self.some {
-            if other.some {
-                return other.sum < self.sum;
-            }
-            return true;
+        match (one, other) {
+            (Some(rating), Some(beside)) => beside.sum < rating.sum,
+            (Some(_), None) => true,
+            (None, _) => false,
         }
-        false
     }
 
     // The rating with one stop more.
-    pub fn with_stop(self, gap: u32, weight: u32) -> Rating
-        requires { self.sum + weight * gap < 2 ^ 32 }
-        ensures { result ≡ scan.with_stop self gap weight }
+    pub fn with_stop(before: Option<Rating>, gap: u32, weight: u32) -> Rating
+        requires { (ranked before).sum + weight * gap < 2 ^ 32 }
+        ensures { rated result ≡ scan.with_stop (ranked before) gap weight }
     {
-        let sum = self.sum + weight * gap;
-        if self.some {
-            if self.least < gap {
-                return Rating {
-                    some: true,
-                    least: self.least,
-                    sum,
-                };
-            }
-        }
-        Rating {
-            some: true,
-            least: gap,
-            sum,
+        match before {
+            None => Rating {
+                least: gap,
+                sum: weight * gap,
+            },
+            Some(rating) => Rating {
+                least: rating.least.min(gap),
+                sum: rating.sum + weight * gap,
+            },
         }
     }
 }
 
-// What the read call answers.
+// The numbers of lines, of served stops and of calls, and the common cycle: what the read call answers of a file that is accepted.
 #[derive(Clone, Copy)]
-pub enum ReadAnswer {
-    Accepted {
-        lines: u32,
-        stops: u32,
-        calls: u32,
-        cycle: u32,
-    },
-    Refused {
-        number: u8,
-        place: usize,
-    },
-}
-
-// What the rate call and the weighted rating answer.
-#[derive(Clone, Copy)]
-pub enum RateAnswer {
-    Rated { least: u32, sum: u32 },
-    Refused { number: u8, place: usize },
+pub struct Accepted {
+    pub lines: u32,
+    pub stops: u32,
+    pub calls: u32,
+    pub cycle: u32,
 }
 
 // What rate answers for each of two sheets.
 #[derive(Clone, Copy)]
 pub struct RatedBoth {
-    pub first: RateAnswer,
-    pub second: RateAnswer,
-}
-
-// What the class call answers.
-#[derive(Clone, Copy)]
-pub enum ClassAnswer {
-    Classes { count: u32 },
-    Refused { number: u8, place: usize },
-}
-
-// What the archive call answers.
-#[derive(Clone, Copy)]
-pub enum ArchiveAnswer {
-    Archived { bytes: u32 },
-    Refused { number: u8, place: usize },
-}
-
-// What the board call answers.
-#[derive(Clone, Copy)]
-pub enum BoardAnswer {
-    Listed { count: u32 },
-    Refused { number: u8, place: usize },
+    pub first: Result<Rating, Refusal>,
+    pub second: Result<Rating, Refusal>,
 }

@@ -2,12 +2,11 @@
 -- an upper bound of the stop's gap over all completions of a partial timetable, and the upper rating one of the rating.)
 use Rattle.std.specs.Prelude.{ℕ, ◌/◌, min, List, [], ◌∷◌, eqb, ltb, ℤ, length}
 use Rattle.network.specs.declared.Call.{Call}
-use Rattle.network.specs.declared.Rating.{Rating}
 use Rattle.network.specs.Lists.{pick, keep, sum_of, least_of, pairs_of, least_from}
 use Rattle.network.specs.Divisor.{gcd}
 use Rattle.network.specs.Network.{Net, cycle}
 use Rattle.network.specs.Loops.{own_gap}
-use Rattle.network.specs.Rating.{period_of, pair_gaps, calls_of_stop, counted, rating_by}
+use Rattle.network.specs.Rating.{Rating, period_of, pair_gaps, calls_of_stop, counted, rating_by}
 
 -- The half of g, rounded down, of two calls
 unfoldable pub half_of : Net → Call → Call → ℕ

@@ -1,10 +1,11 @@
 -- Document 01, "The walk": the walk on a network, the search, and what the search call answers and leaves in the start row. Beside its rule
 -- stands that by which request A.11 of document 02 walks; A.3's stands in Wanted.antt.
-use Rattle.std.specs.Prelude.{ℕ, ◌+◌, ◌*◌, Bool, true, false, not, ◌&&◌, ◌||◌, List, [], ◌∷◌, eqb, ltb, ℤ, length, drop}
-use Rattle.network.specs.declared.Rating.{Rating}
+use Rattle.std.specs.Prelude.{ℕ, ◌+◌, ◌*◌, Bool, true, false, not, ◌&&◌, ◌||◌, List, [], ◌∷◌, eqb, ltb, ℤ, length, drop, Result, Ok, Err}
+use Rattle.network.specs.declared.grounds.Refusal.{Refusal}
 use Rattle.network.specs.Lists.{pick}
 use Rattle.network.specs.Network.{Net}
-use Rattle.network.specs.Rating.{is_above}
+use Rattle.network.specs.Numbers.{number_of}
+use Rattle.network.specs.Rating.{Rating, is_above}
 use Rattle.network.specs.Reading.{Reading, accepted, refused}
 use Rattle.search.specs.declared.SearchAnswer.{SearchAnswer}
 use Rattle.search.specs.declared.SearchAnswer.TheVariants as answer
@@ -69,12 +70,12 @@ tries_of (stopped least sum tries) = tries
 tries_of (stopped_with_none tries) = tries
 tries_of (refusal number place) = 0
 
--- The search call's enum, case by case
-unfoldable pub search_answer : SearchAnswer → SearchOutcome
-search_answer (answer.Finished least sum tries) = finished least sum tries
-search_answer (answer.Stopped least sum tries) = stopped least sum tries
-search_answer (answer.StoppedWithNone tries) = stopped_with_none tries
-search_answer (answer.Refused number place) = refusal number place
+-- The search call's answer, case by case; or the refusal
+unfoldable pub search_answer : Result SearchAnswer Refusal → SearchOutcome
+search_answer (Ok (answer.Finished best tries)) = finished best.least best.sum tries
+search_answer (Ok (answer.Stopped best tries)) = stopped best.least best.sum tries
+search_answer (Ok (answer.StoppedWithNone tries)) = stopped_with_none tries
+search_answer (Err r) = refusal (number_of r.reason) r.place
 
 -- What a walk at its end gives
 unfoldable pub walk_outcome : Bool → Bool → State → SearchOutcome

@@ -1,8 +1,7 @@
 -- Document 01, "The walk": a depth-first branch and bound over its parts, which are how many starts each line is tried at, the upper rating
 -- of a partial timetable, and the rule it goes by.
 use Rattle.std.specs.Prelude.{ℕ, zero, suc, ◌+◌, ◌*◌, Bool, true, false, ◌&&◌, ◌||◌, List, [], ◌∷◌, ◌++◌, eqb, ℤ, pos}
-use Rattle.network.specs.declared.Rating.{Rating}
-use Rattle.network.specs.Rating.{no_rating}
+use Rattle.network.specs.Rating.{Rating, no_rating}
 
 -- A walk on its way: the tries made, whether it has stopped, and the best so far with its starts
 pub record State : Type 0 where

@@ -1,8 +1,10 @@
 -- Document 02, A.3: from a wanted gap to a timetable. The walk is the usual one by another rule, and its answer says whether any whole-number
 -- starts reach the wanted gap. (The wanted gap is a lower bound set to the objective; found and none decide whether that is feasible.)
-use Rattle.std.specs.Prelude.{ℕ, Bool, true, false, List, ltb, ℤ, length}
-use Rattle.network.specs.declared.Rating.{Rating}
+use Rattle.std.specs.Prelude.{ℕ, Bool, true, false, List, ltb, ℤ, length, Result, Ok, Err}
+use Rattle.network.specs.declared.grounds.Refusal.{Refusal}
 use Rattle.network.specs.Network.{Net}
+use Rattle.network.specs.Numbers.{number_of}
+use Rattle.network.specs.Rating.{Rating}
 use Rattle.network.specs.Reading.{Reading}
 use Rattle.search.specs.declared.WantedAnswer.{WantedAnswer}
 use Rattle.search.specs.declared.WantedAnswer.TheVariants as answer
@@ -28,12 +30,12 @@ tries_of (none tries) = tries
 tries_of (stopped tries) = tries
 tries_of (refusal number place) = 0
 
--- The call's enum, case by case
-unfoldable pub wanted_answer : WantedAnswer → WantedOutcome
-wanted_answer (answer.Found tries) = found tries
-wanted_answer (answer.None tries) = none tries
-wanted_answer (answer.Stopped tries) = stopped tries
-wanted_answer (answer.Refused number place) = refusal number place
+-- The call's answer, case by case; or the refusal
+unfoldable pub wanted_answer : Result WantedAnswer Refusal → WantedOutcome
+wanted_answer (Ok (answer.Found tries)) = found tries
+wanted_answer (Ok (answer.None tries)) = none tries
+wanted_answer (Ok (answer.Stopped tries)) = stopped tries
+wanted_answer (Err r) = refusal (number_of r.reason) r.place
 
 -- What a walk by this rule gives at its end, by whether it has a timetable and whether it stopped
 unfoldable pub reached_by : Bool → Bool → State → WantedOutcome

@@ -1,19 +1,19 @@
 // The caps of the stops.
-ghost use Rattle.std.specs.Prelude.{◌≡◌, map, ◌++◌, ◌∷◌, [], ℕ, ◌/◌, ◌<◌, ◌≤◌, ltb, pos, ◌-ℤ◌, length, get_or};
+ghost use Rattle.std.specs.Prelude.{◌≡◌, map, ◌++◌, ◌∷◌, [], ℕ, ◌/◌, ◌<◌, ◌≤◌, false, pos, ◌-ℤ◌, length, get_or};
 ghost use Rattle.network.specs.Network as net;
 ghost use Rattle.network.specs.Rating.{calls_of_stop};
 ghost use Rattle.network.specs.Divisor as divisor;
 ghost use Rattle.network.specs.Gap as gaps;
 ghost use Rattle.network.specs.Lists.{pick, least_from};
 ghost use Rattle.network.specs.Engine.Scan.{calls_before};
-ghost use Rattle.network.specs.Engine.Stored.{net_of, calls_in, Sound};
-ghost use Rattle.network.specs.Valid.{Valid};
+ghost use Rattle.network.specs.Engine.Stored.{net_of, calls_in};
 ghost use Rattle.search.specs.Caps.{pair_cap, cap};
 ghost use Rattle.search.specs.Engine.CapScan.{bounds_of};
 
 use network::divisor::gcd;
 use network::gaps::gap;
 use network::{Call, Network};
+use std::array;
 
 // What a pair of calls with these offsets and periods caps its stop at. Of two lines it is the half of the periods' divisor; of one line the
 // exact gap of its two calls, which are as far apart as their offsets whatever the line's start.
@@ -28,28 +28,23 @@ fn pair_cap(own: bool, first: u16, second: u16, period: u32, other: u32) -> u32
 }
 
 // The least of a number and what the pairs of a call with those before it at its stop cap the stop at.
-fn least_pair_cap(network: Network, call: Call, at: usize, least: u32) -> u32
-    requires sound { Sound network × Valid (net_of network) }
-    requires line_in_bounds { (call.line < length (net_of network).periods) × (at ≤ network.count) }
-    ensures { result ≡ least_from least (map (λ d. pair_cap (net_of network) d call) (calls_before call.stop (calls_in network.list) at)) }
+fn least_pair_cap(network: &Network, call: Call, at: usize, least: u32) -> u32
+    requires { (call.line < length (net_of network.now.rows).periods) × (at ≤ network.now.rows.count) }
+    ensures { result ≡ least_from least (map (λ d. pair_cap (net_of network.now.rows) d call) (calls_before call.stop (calls_in network.now.rows.list) at)) }
 {
-    let line = call.line as usize;
-    let period = network.periods[line] as u32;
+    let rows = &network.rows;
+    let period = rows.periods[call.line as usize] as u32;
     let mut lesser = least;
-    for i in 0..at {
-        let other = Call::unpacked(network.list[i]);
+    for code in &rows.list[..at] {
+        let other = Call::unpacked(*code);
         if other.stop == call.stop {
-            let other_line = other.line as usize;
-            let cap = pair_cap(
-                other_line == line,
+            lesser = lesser.min(pair_cap(
+                other.line == call.line,
                 other.offset,
                 call.offset,
-                network.periods[other_line] as u32,
+                rows.periods[other.line as usize] as u32,
                 period,
-            );
-            if cap < lesser {
-                lesser = cap;
-            }
+            ));
         }
     }
     lesser
@@ -64,78 +59,79 @@ pub struct Bounds {
     pub pair: u32,
 }
 
-// The same with one call more.
-fn with_call(bounds: Bounds, network: Network, call: Call, at: usize) -> Bounds
-    requires sound { Sound network × Valid (net_of network) }
-    requires line_in_bounds { (call.line < length (net_of network).periods) × (at ≤ network.count) }
-    requires bounds_value { bounds ≡ bounds_of (net_of network) (calls_before call.stop (calls_in network.list) at) }
-    ensures { result ≡ bounds_of (net_of network) (calls_before call.stop (calls_in network.list) at ++ (call ∷ [])) }
-{
-    let line = call.line as usize;
-    let period = network.periods[line] as u32;
-    let visits = bounds.visits + network.cycle / period;
-    if bounds.calls == 0 {
-        return Bounds {
-            calls: 1,
-            visits,
-            pair: period,
-        };
-    }
-    Bounds {
-        calls: bounds.calls + 1,
-        visits,
-        pair: least_pair_cap(network, call, at, bounds.pair),
-    }
-}
-
-// The same over all calls of a stop.
-fn bounds_of(network: Network, stop: u8) -> Bounds
-    requires { Sound network × Valid (net_of network) }
-    ensures { result ≡ bounds_of (net_of network) (calls_of_stop (net_of network) stop) }
-{
-    let mut bounds = Bounds {
+impl Bounds {
+    // Those of no call.
+    const NONE: Bounds = Bounds {
         calls: 0,
         visits: 0,
         pair: 0,
     };
-    let count = network.count;
-    for i in 0..count {
-        let call = Call::unpacked(network.list[i]);
+
+    // The same with one call more.
+    fn with_call(self, network: &Network, call: Call, at: usize) -> Bounds
+        requires line_in_bounds { (call.line < length (net_of network.now.rows).periods) × (at ≤ network.now.rows.count) }
+        requires bounds_value { self ≡ bounds_of (net_of network.now.rows) (calls_before call.stop (calls_in network.now.rows.list) at) }
+        ensures { result ≡ bounds_of (net_of network.now.rows) (calls_before call.stop (calls_in network.now.rows.list) at ++ (call ∷ [])) }
+    {
+        let period = network.rows.periods[call.line as usize] as u32;
+        let visits = self.visits + network.rows.cycle / period;
+        if self.calls == 0 {
+            return Bounds {
+                calls: 1,
+                visits,
+                pair: period,
+            };
+        }
+        Bounds {
+            calls: self.calls + 1,
+            visits,
+            pair: least_pair_cap(network, call, at, self.pair),
+        }
+    }
+}
+
+// What the cap of a stop is made of, over all its calls.
+fn bounds_of(network: &Network, stop: u8) -> Bounds
+    ensures { result ≡ bounds_of (net_of network.now.rows) (calls_of_stop (net_of network.now.rows) stop) }
+{
+    let mut bounds = Bounds::NONE;
+    let codes = &network.rows.list[..network.rows.count];
+    for (i, code) in codes.iter().enumerate() {
+        let call = Call::unpacked(*code);
         if call.stop == stop {
-            bounds = with_call(bounds, network, call, i);
+            bounds = bounds.with_call(network, call, i);
         }
     }
     bounds
 }
 
 // The cap of a stop.
-fn cap_of(network: Network, stop: u8) -> u32
-    requires { Sound network × Valid (net_of network) }
-    ensures { result ≡ cap (net_of network) stop }
+fn cap_of(network: &Network, stop: u8) -> u32
+    ensures { result ≡ cap (net_of network.now.rows) stop }
 {
     let bounds = bounds_of(network, stop);
     if bounds.calls < 2 {
         return bounds.pair;
     }
-    let spacing = network.cycle / bounds.visits;
-    if bounds.pair < spacing {
-        bounds.pair
+    bounds.pair.min(network.rows.cycle / bounds.visits)
+}
+
+// A stop's cap as the row of caps holds it. One that isn't served, as most of them in a small network, has 0 and isn't looked at.
+fn held_cap(network: &Network, stop: u8, served: bool) -> u16
+    requires { served ≡ net.is_served stop (net_of network.now.rows).calls }
+    ensures { result ≡ cap (net_of network.now.rows) stop }
+{
+    if served {
+        cap_of(network, stop) as u16
     } else {
-        spacing
+        0
     }
 }
 
-// The caps of all stops: those that aren't served, most of them in a small network, have 0 and aren't looked at.
-pub fn cap_row(network: Network, served: [u8; Network::STOPS]) -> [u16; Network::STOPS]
-    requires sound { Sound network × Valid (net_of network) }
-    requires by_index { (stop : ℕ) → stop < net.stop_count → ltb 0 (get_or served stop 0) ≡ net.is_served stop (net_of network).calls }
-    ensures { (stop : ℕ) → stop < net.stop_count → get_or result stop 0 ≡ cap (net_of network) stop }
+// The caps of all stops.
+pub fn cap_row(network: &Network, served: &[bool; Network::STOPS]) -> [u16; Network::STOPS]
+    requires { (stop : ℕ) → stop < net.stop_count → get_or served.now stop false ≡ net.is_served stop (net_of network.now.rows).calls }
+    ensures { (stop : ℕ) → stop < net.stop_count → get_or result stop 0 ≡ cap (net_of network.now.rows) stop }
 {
-    let mut row = [0u16; Network::STOPS];
-    for stop in 0..Network::STOPS {
-        if 0 < served[stop] {
-            row[stop] = cap_of(network, stop as u8) as u16;
-        }
-    }
-    row
+    array::from_fn(|stop| held_cap(network, stop as u8, served[stop]))
 }

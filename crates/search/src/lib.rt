@@ -9,35 +9,35 @@ mod tries;
 mod walking;
 pub mod wanted;
 
-use network::{Check, Network, RateAnswer, Rating};
+use network::grounds::Refusal;
+use network::{Network, Rating, Rows};
 
-// What the search call answers.
+// What the search call answers where it refuses nothing.
 #[derive(Clone, Copy)]
 pub enum SearchAnswer {
-    Finished { least: u32, sum: u32, tries: u32 },
-    Stopped { least: u32, sum: u32, tries: u32 },
+    Finished { best: Rating, tries: u32 },
+    Stopped { best: Rating, tries: u32 },
     StoppedWithNone { tries: u32 },
-    Refused { number: u8, place: usize },
 }
 
 // What rate and search answer on one file.
 #[derive(Clone, Copy)]
 pub struct RatedAndSearched {
-    pub rated: RateAnswer,
-    pub found: SearchAnswer,
+    pub rated: Result<Rating, Refusal>,
+    pub found: Result<SearchAnswer, Refusal>,
 }
 
-// What the call with a wanted gap answers.
+// What the call with a wanted gap answers where it refuses nothing.
 #[derive(Clone, Copy)]
 pub enum WantedAnswer {
     Found { tries: u32 },
     None { tries: u32 },
     Stopped { tries: u32 },
-    Refused { number: u8, place: usize },
 }
 
 // What a walk goes by: document 01's rule drops what isn't above the best so far; request A.3's what doesn't reach a wanted gap, and its first
 // full timetable ends the walk; that of request A.11's second pass what doesn't reach a floor or, once there is a best, its sum.
+// An enum and not a closure: the walk's contract names the rule, `rule_of`.
 #[derive(Clone, Copy)]
 enum Rule {
     AboveBest,
@@ -46,21 +46,19 @@ enum Rule {
 }
 
 // What a placing is given up for beside the best so far, whatever the rule, so that it is one test after each call: a least gap below the floor
-// and, if there is something beside it, a sum not above that, at the floor itself or anywhere.
+// and, if there is a sum, one that isn't above it, at the floor itself or anywhere.
 #[derive(Clone, Copy)]
 struct Cut {
     pub floor: u32,
-    pub beside: bool,
+    pub sum: Option<u32>,
     pub anywhere: bool,
-    pub sum: u32,
 }
 
-// What a walk is given: its rule, how many tries it may make, and its last line.
+// What a walk is given: its rule, and how many tries it may make.
 #[derive(Clone, Copy)]
 struct Task {
     pub rule: Rule,
     pub budget: u32,
-    pub last: usize,
 }
 
 // A try: a line at a start.
@@ -78,10 +76,11 @@ struct Starts {
     pub count: u16,
 }
 
-// A network with its calls in the order of their lines, and for each line the place of its first call.
+// The rows of a network with its calls in the order of their lines, and for each line the place of its first call.
+// Rows of fixed length: no call allocates, docs/ABI.md.
 #[derive(Clone, Copy)]
 struct Ordered {
-    pub network: Network,
+    pub rows: Rows,
     pub first: [u16; Ordered::FIRSTS],
 }
 
@@ -103,20 +102,22 @@ impl Ordered {
 }
 
 // A partial timetable: the starts of the placed lines, the upper values of the stops, and the upper rating that they make.
+// Rows of fixed length: no call allocates, docs/ABI.md.
 #[derive(Clone, Copy)]
 struct Placed {
     pub starts: [u16; Network::MAX_LINES],
     pub values: [u16; Network::STOPS],
-    pub least: u32,
-    pub sum: u32,
+    pub upper: Rating,
 }
 
-// A walk on its way: the tries made, whether it has stopped, and the best so far with its starts.
+// A walk on its way: the tries made, whether it has stopped, and the best so far with its starts. It stops with a best or without one, so that the
+// flag is no case of either.
+// A row of fixed length: no call allocates, docs/ABI.md.
 #[derive(Clone, Copy)]
 struct Walk {
     pub tries: u32,
     pub stopped: bool,
-    pub best: Rating,
+    pub best: Option<Rating>,
     pub starts: [u16; Network::MAX_LINES],
 }
 
@@ -128,11 +129,4 @@ impl Walk {
         best: Rating::NONE,
         starts: [0u16; Network::MAX_LINES],
     };
-}
-
-// How a walk on a file ends: what the file or the row is refused for, if anything, and if nothing the walk at its end.
-#[derive(Clone, Copy)]
-struct Ended {
-    pub check: Check,
-    pub walk: Walk,
 }

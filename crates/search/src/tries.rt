@@ -1,39 +1,36 @@
 // The walk: trying a line's starts and judging one placement call each other; lines left, then starts left, fall.
-ghost use Rattle.std.specs.Prelude.{◌≡◌, true, not, ◌&&◌, ◌+◌, ◌<◌, ◌≤◌};
+ghost use Rattle.std.specs.Prelude.{◌≡◌, not, ◌&&◌, ◌+◌, ◌<◌, ◌≤◌};
 ghost use Rattle.network.specs.Network.{max_period};
+ghost use Rattle.network.specs.Engine.Rated.{rated, ranked};
+ghost use Rattle.network.specs.Engine.Stored.{net_of};
 ghost use Rattle.search.specs.Engine.Representation as rows;
 
-use crate::place::{cut_of, place};
+use crate::layout::Layout;
+use crate::place::cut_of;
 use crate::{Ordered, Placed, Rule, Starts, Task, Try, Walk};
-use network::{Network, Rating};
+use network::Rating;
 
 // Whether the walk is over because it has its first full timetable.
-fn has_ended(task: Task, best: Rating) -> bool
-    ensures { result ≡ ((rows.rule_of task.rule).ends_at_first && best.some) }
+fn has_ended(rule: Rule, best: Option<Rating>) -> bool
+    ensures { result ≡ ((rows.rule_of rule).ends_at_first && (ranked best).some) }
 {
-    let rule = task.rule;
     match rule {
         Rule::AboveBest => false,
-        Rule::AtLeast { wanted } => best.some,
-        Rule::BySum { floor } => false,
+        Rule::AtLeast { .. } => best.is_some(),
+        Rule::BySum { .. } => false,
     }
 }
 
 // Whether an upper rating stands beside the best so far: it is above it, or reaches the wanted gap, or reaches the floor and has a larger sum.
 // What a rule keeps is decided here, by the order of ratings; the cut that a placing is given up by only spares work.
-fn stands(task: Task, upper: Rating, best: Rating) -> bool
-    requires { upper.some ≡ true }
-    ensures { result ≡ not ((rows.rule_of task.rule).drops upper best) }
+fn stands(rule: Rule, upper: Rating, best: Option<Rating>) -> bool
+    ensures { result ≡ not ((rows.rule_of rule).drops (rated upper) (ranked best)) }
 {
-    let rule = task.rule;
     match rule {
-        Rule::AboveBest => upper.is_above(best),
-        Rule::AtLeast { wanted } => upper.reaches(wanted),
+        Rule::AboveBest => Rating::is_above(Some(upper), best),
+        Rule::AtLeast { wanted } => Rating::reaches(Some(upper), wanted),
         Rule::BySum { floor } => {
-            if upper.reaches(floor) {
-                return upper.sum_is_above(best);
-            }
-            false
+            Rating::reaches(Some(upper), floor) && Rating::sum_is_above(Some(upper), best)
         }
     }
 }
@@ -42,25 +39,16 @@ fn stands(task: Task, upper: Rating, best: Rating) -> bool
 // rule beside the best so far; otherwise it sends the walk to the next line or, on the last line, where its upper rating is its rating,
 // becomes the best.
 #[cycle(judge_try_starts)]
-fn judge(
-    codes: &[u32; Network::MAX_CALLS],
-    previous: &[u16; Network::MAX_CALLS],
-    divisors: &[u64; Network::PAIRS],
-    lines: &[u32; Ordered::FIRSTS],
-    task: Task,
-    due: Try,
-    placed: Placed,
-    walk: Walk,
-) -> Walk
-    requires may_try { rows.MayTry codes.now previous.now divisors.now lines.now task due.line placed }
+fn judge(layout: &Layout<'_>, task: Task, due: Try, placed: Placed, walk: Walk) -> Walk
+    requires may_try { rows.CanTry (net_of layout.now.network.now.rows) due.line placed }
     requires start_lt_max_period { (due.start < max_period) × (walk.tries ≤ task.budget) }
     ensures within { result.tries ≤ task.budget }
-    ensures tried { rows.Tried codes.now previous.now divisors.now lines.now task due.line placed (rows.one_of task due placed) walk result }
+    ensures tried { rows.state_of (net_of layout.now.network.now.rows) result ≡ rows.one_of (net_of layout.now.network.now.rows) task due placed (rows.state_of (net_of layout.now.network.now.rows) walk) }
 {
     if walk.stopped {
         return walk;
     }
-    if has_ended(task, walk.best) {
+    if has_ended(task.rule, walk.best) {
         return walk;
     }
     let mut next = walk;
@@ -69,25 +57,21 @@ fn judge(
         return next;
     }
     next.tries = walk.tries + 1;
-    let cut = cut_of(task, walk.best);
-    let made = place(codes, previous, divisors, lines, cut, due, placed);
-    let upper = Rating {
-        some: true,
-        least: made.least,
-        sum: made.sum,
-    };
-    if stands(task, upper, walk.best) {
-        if due.line < task.last {
-            let line = due.line + 1;
+    let cut = cut_of(task.rule, walk.best);
+    let made = layout.place(cut, due, placed);
+    let upper = made.upper;
+    if stands(task.rule, upper, walk.best) {
+        let line = due.line + 1;
+        if line < layout.network.rows.lines {
             let starts = Starts {
                 line,
                 from: 0,
-                count: (lines[line] / Ordered::PLACES) as u16,
+                count: (layout.lines[line] / Ordered::PLACES) as u16,
             };
-            return try_starts(codes, previous, divisors, lines, task, starts, made, next);
+            return try_starts(layout, task, starts, made, next);
         }
         let starts = made.starts;
-        next.best = upper;
+        next.best = Some(upper);
         next.starts = starts;
         return next;
     }
@@ -98,19 +82,16 @@ fn judge(
 // two.
 #[cycle(judge_try_starts)]
 pub fn try_starts(
-    codes: &[u32; Network::MAX_CALLS],
-    previous: &[u16; Network::MAX_CALLS],
-    divisors: &[u64; Network::PAIRS],
-    lines: &[u32; Ordered::FIRSTS],
+    layout: &Layout<'_>,
     task: Task,
     starts: Starts,
     placed: Placed,
     walk: Walk,
 ) -> Walk
-    requires may_try { rows.MayTry codes.now previous.now divisors.now lines.now task starts.line placed }
+    requires may_try { rows.CanTry (net_of layout.now.network.now.rows) starts.line placed }
     requires count_bound { (starts.from + starts.count ≤ max_period) × (walk.tries ≤ task.budget) }
     ensures within { result.tries ≤ task.budget }
-    ensures tried { rows.Tried codes.now previous.now divisors.now lines.now task starts.line placed (rows.each_of task starts placed) walk result }
+    ensures tried { rows.state_of (net_of layout.now.network.now.rows) result ≡ rows.each_of (net_of layout.now.network.now.rows) task starts placed (rows.state_of (net_of layout.now.network.now.rows) walk) }
 {
     if starts.count == 0 {
         return walk;
@@ -120,14 +101,18 @@ pub fn try_starts(
             line: starts.line,
             start: starts.from,
         };
-        return judge(codes, previous, divisors, lines, task, due, placed, walk);
+        return judge(layout, task, due, placed, walk);
     }
     let half = starts.count / 2;
-    let mut lower = starts;
-    lower.count = half;
-    let next = try_starts(codes, previous, divisors, lines, task, lower, placed, walk);
-    let mut upper = starts;
-    upper.from = starts.from + half;
-    upper.count = starts.count - half;
-    try_starts(codes, previous, divisors, lines, task, upper, placed, next)
+    let lower = Starts {
+        count: half,
+        ..starts
+    };
+    let next = try_starts(layout, task, lower, placed, walk);
+    let upper = Starts {
+        from: starts.from + half,
+        count: starts.count - half,
+        ..starts
+    };
+    try_starts(layout, task, upper, placed, next)
 }

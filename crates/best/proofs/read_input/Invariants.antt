@@ -1,4 +1,4 @@
--- `end` is within the buffer; the measure is what is left of it.
+-- `best::read_input` meets its contract: `end` stays within the buffer; the measure is what is left of it. Assumes nothing.
 use Rattle.std.proofs.Common.{length, ◌-◌, ◌≤◌}
 use Rattle.best.proofs.read_input.Given as goal
 

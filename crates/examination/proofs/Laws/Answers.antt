@@ -3,9 +3,13 @@ use Prim.Native.Nat.{ℕ}
 use mathlib.Core.Path.{◌≡◌, refl}
 use mathlib.Core.Bool.{Bool}
 use mathlib.Core.List.{[], ◌∷◌}
+use Rattle.std.specs.Prelude.{Ok, Err}
+use Rattle.network.specs.declared.Rating.{Rating}
+use Rattle.network.specs.declared.grounds.Refusal.{Refusal}
+use Rattle.network.specs.Numbers.{number_of}
 use Rattle.network.specs.Reading.{values, refusal}
 use Rattle.examination.specs.declared.Choice.TheVariants as choice
-use Rattle.examination.specs.declared.KeyAnswer.TheVariants as key
+use Rattle.examination.specs.declared.OutOfHundred.{OutOfHundred}
 use Rattle.examination.specs.declared.MarkAnswer.TheVariants as mark-answer
 use Rattle.examination.specs.ByKey.{key_answer}
 use Rattle.examination.specs.Sheets.{first, second, neither, choice_of, decided, undecided, mark_answer}
@@ -27,26 +31,26 @@ choice_of_neither = refl
 
 -- ---- Mark
 
-pub mark_answer_decided : (least sum best_least best_sum : ℕ) (equal : Bool) (mark remainder tries : ℕ)
-    → mark_answer (mark-answer.Decided least sum best_least best_sum equal mark remainder tries)
-    ≡ decided least sum best_least best_sum equal mark remainder tries
+pub mark_answer_decided : (sheet best : Rating) (equal : Bool) (hundred : OutOfHundred) (tries : ℕ)
+    → mark_answer (Ok (mark-answer.Decided sheet best equal hundred tries))
+    ≡ decided sheet.least sheet.sum best.least best.sum equal hundred.mark hundred.remainder tries
 unfolding mark_answer
-mark_answer_decided least sum best_least best_sum equal mark remainder tries = refl
+mark_answer_decided sheet best equal hundred tries = refl
 
-pub mark_answer_undecided : (least sum tries : ℕ) → mark_answer (mark-answer.Undecided least sum tries) ≡ undecided least sum tries
+pub mark_answer_undecided : (sheet : Rating) (tries : ℕ) → mark_answer (Ok (mark-answer.Undecided sheet tries)) ≡ undecided sheet.least sheet.sum tries
 unfolding mark_answer
-mark_answer_undecided least sum tries = refl
+mark_answer_undecided sheet tries = refl
 
-pub mark_answer_refused : (number place : ℕ) → mark_answer (mark-answer.Refused number place) ≡ sheets.refusal number place
+pub mark_answer_refused : (r : Refusal) → mark_answer (Err r) ≡ sheets.refusal (number_of r.reason) r.place
 unfolding mark_answer
-mark_answer_refused number place = refl
+mark_answer_refused r = refl
 
 -- ---- By a key
 
-pub key_answer_marked : (mark remainder : ℕ) → key_answer (key.Marked mark remainder) ≡ values (mark ∷ remainder ∷ [])
+pub key_answer_marked : (h : OutOfHundred) → key_answer (Ok h) ≡ values (h.mark ∷ h.remainder ∷ [])
 unfolding key_answer
-key_answer_marked mark remainder = refl
+key_answer_marked h = refl
 
-pub key_answer_refused : (number place : ℕ) → key_answer (key.Refused number place) ≡ refusal number place
+pub key_answer_refused : (r : Refusal) → key_answer (Err r) ≡ refusal (number_of r.reason) r.place
 unfolding key_answer
-key_answer_refused number place = refl
+key_answer_refused r = refl

@@ -12,7 +12,7 @@ use lib.ListN.{length, get_or, replicate}
 use Rattle.network.specs.Lists.{pick}
 use Rattle.network.specs.Network.{Net, word}
 use Rattle.network.specs.Rating.{rating}
-use Rattle.network.specs.declared.Rating.{Rating}
+use Rattle.network.specs.Rating.{Rating}
 use Rattle.network.specs.Rate.{on_sheet, rated_on_sheet}
 use Rattle.network.specs.GapRow.{gap_row, gap_row_after}
 use Rattle.network.specs.Reading.{Reading, accepted, refused, refusal, read_file}

@@ -8,18 +8,22 @@ use borrow.Author.Tests.{eqb-true, eq-eqb}
 use lib.Dec.{eqb}
 use lib.IntN.{ℤ}
 use lib.ListN.{length}
-use Rattle.network.specs.declared.RateAnswer.{RateAnswer}
-use Rattle.network.specs.declared.RateAnswer.TheVariants as answer
+use Rattle.std.specs.Prelude.{Result, Ok, Err}
+use Rattle.std.specs.Result.{result_ok}
+use Rattle.network.specs.declared.Rating as held
+use Rattle.network.specs.declared.grounds.Refusal.{Refusal}
 use Rattle.network.specs.Lists.{pick}
 use Rattle.network.specs.Network.{Net, max_period}
+use Rattle.network.specs.Numbers.{number_of}
 use Rattle.network.specs.Rate.{rate_answer, rating_values, on_sheet, rate_outcome}
 use Rattle.network.specs.Rating.{no_rating, rating, is_above}
 use Rattle.network.specs.Reading.{Reading, accepted, refused, values, refusal, read_file}
+use Rattle.network.specs.Engine.Rated.{ranked}
 use Rattle.network.specs.Valid.{IsBytes}
 use Rattle.network.proofs.Laws.Lists.{zero_ne_one}
 use Rattle.network.proofs.Laws.Gaps.{accepted_valid, rating_is_rating, IsRating-range, rating_some, is_above_none, none_is_not_above, rating_numbers}
 use Rattle.search.specs.Search.{search_outcome}
-use Rattle.examination.specs.Engine.Chosen.{rating_from, rating_on, better_from}
+use Rattle.examination.specs.Engine.Chosen.{rating_on, better_from}
 use Rattle.examination.specs.ByKey.{beside_key, key_outcome}
 use Rattle.examination.specs.Hundred.{mark_of, remainder_of}
 use Rattle.examination.specs.Sheets.{first, second, neither, fits, better_by, better_of, marked, mark_outcome}
@@ -55,20 +59,20 @@ rated_least file is_bytes {sheet} r =
 
 -- ---- better-of-two
 
-pub rating_on_of_rate : (read : Reading) (sheet : List ℤ) (r : RateAnswer) → rate_answer r ≡ rate_outcome read sheet
-    → rating_from r ≡ rating_on read sheet
-unfolding rate_answer rate_outcome on_sheet rating_from rating_on fits rating_values
-rating_on_of_rate read sheet (answer.Rated least sum) e =
+pub rating_on_of_rate : (read : Reading) (sheet : List ℤ) (r : Result held.Rating Refusal) → rate_answer r ≡ rate_outcome read sheet
+    → ranked (result_ok r) ≡ rating_on read sheet
+unfolding rate_answer rate_outcome on_sheet rating_on fits rating_values
+rating_on_of_rate read sheet (Ok rating') e =
     let r = rated_on read sheet e in
     ap₂ (λ (l s : ℕ). record { some = true; least = l; sum = s }) r.its_least r.its_sum
     ∙ rating_numbers r.net sheet
     ∙ sym
     (ap (λ (k : Reading). rating_on k sheet) r.reads
     ∙ ap (λ (b : Bool). pick b (rating r.net sheet) no_rating) (eq-eqb (length sheet) (length r.net.periods) r.fit))
-rating_on_of_rate (refused number' place') sheet (answer.Refused number place) e = refl
-rating_on_of_rate (accepted n) sheet (answer.Refused number place) e = go (eqb (length sheet) (length n.periods)) e
+rating_on_of_rate (refused number' place') sheet (Err r) e = refl
+rating_on_of_rate (accepted n) sheet (Err r) e = go (eqb (length sheet) (length n.periods)) e
   where
-    go : (b : Bool) → refusal number place ≡ pick b (values ((rating n sheet).least ∷ (rating n sheet).sum ∷ [])) (refusal 15 0)
+    go : (b : Bool) → refusal (number_of r.reason) r.place ≡ pick b (values ((rating n sheet).least ∷ (rating n sheet).sum ∷ [])) (refusal 15 0)
         → no_rating ≡ pick b (rating n sheet) no_rating
     go true e = absurd (zero_ne_one (cc))
     go false e = refl

@@ -1,19 +1,12 @@
 -- How the engine chooses between two sheets: by what rate answers of each, a refused sheet having no rating.
-use Rattle.std.specs.Prelude.{true, List, ℤ}
-use Rattle.network.specs.declared.Rating.{Rating}
-use Rattle.network.specs.declared.RateAnswer.{RateAnswer}
-use Rattle.network.specs.declared.RateAnswer.TheVariants as answer
+use Rattle.std.specs.Prelude.{List, ℤ}
+use Rattle.network.specs.Rating.{Rating}
 use Rattle.network.specs.Lists.{pick}
 use Rattle.network.specs.Rating.{no_rating, rating, is_above}
 use Rattle.network.specs.Reading.{Reading, accepted, refused}
 use Rattle.examination.specs.Sheets.{Better, first, second, neither, fits}
 
--- The rating that rate answers; none where it refuses
-unfoldable pub rating_from : RateAnswer → Rating
-rating_from (answer.Rated least sum) = record { some = true; least = least; sum = sum }
-rating_from (answer.Refused number place) = no_rating
-
--- The same by the file and the sheet
+-- The rating that rate answers, by the file and the sheet; none where it refuses
 unfoldable pub rating_on : Reading → List ℤ → Rating
 rating_on (refused number place) sheet = no_rating
 rating_on (accepted n) sheet = pick (fits n sheet) (rating n sheet) no_rating

@@ -24,4 +24,4 @@ sheet_of bytes = pick (is_whole (length bytes)) (starts bytes) (replicate places
 
 -- The sheet that is held: the first places of its row
 unfoldable pub held : Sheet → List ℤ
-held s = take s.count s.starts
+held s = take s.count s.row

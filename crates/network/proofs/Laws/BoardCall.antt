@@ -10,7 +10,7 @@ use borrow.Author.Tests.{eq-eqb, ne_eqb, lt-ltb, le-ltb, eqb-true, eqb-false, lt
 use lib.Dec.{eqb, ltb}
 use lib.IntN.{ℤ}
 use lib.ListN.{length, drop}
-use Rattle.network.specs.declared.Check.TheVariants.{Passes, Refused}
+use Rattle.network.specs.Grounds.{Passes, Refused}
 use Rattle.network.specs.Lists.{pick}
 use Rattle.network.specs.Network.{Net, max_stop}
 use Rattle.network.specs.Grounds.{Ground, ◌at◌when◌, first}

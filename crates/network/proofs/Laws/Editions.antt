@@ -11,8 +11,8 @@ use native.Mathlib.Decide.{dec_lt}
 use borrow.Author.Tests.{eq-eqb, ne_eqb, eqb-true, lt-ltb, le-ltb}
 use lib.Dec.{eqb}
 use lib.ListN.{length, get_or, take, drop, length-drop}
-use Rattle.network.specs.declared.Check.{Check}
-use Rattle.network.specs.declared.Check.TheVariants.{Passes, Refused}
+use Rattle.network.specs.Grounds.{Check}
+use Rattle.network.specs.Grounds.{Passes, Refused}
 use Rattle.network.specs.Lists.{pick}
 use Rattle.network.specs.Network.{Net, net_with, SoFar, so_far, nothing_read, Command, states_line, calls_by_offset, calls_by_ride, ends, states_edition, unknown}
 use Rattle.network.specs.Network.{first_edition, latest_edition, command, operand_bytes, edition_operand, with_line, with_call, extend}

@@ -5,8 +5,8 @@ use mathlib.Core.Path.{◌≡◌, refl, sym, ap, subst, ◌∙◌}
 use mathlib.Core.Bool.{Bool, true, false, not}
 use mathlib.Core.List.{List, [], ◌∷◌, map}
 use native.Mathlib.Omega.{arith}
-use borrow.Author.Tests.{ltb-true, eq-eqb, ne_eqb}
-use lib.Dec.{eqb, ltb}
+use borrow.Author.Tests.{eq-eqb, ne_eqb}
+use lib.Dec.{eqb}
 use lib.IntN.{ℤ}
 use lib.ListN.{length, get_or}
 use lib.Seq.{ext_get_or}
@@ -25,20 +25,20 @@ use Rattle.network.proofs.Laws.Rate.{stop_gap_le_max_period}
 
 -- The rows of served stops and of their gaps give the gap row
 pub gap_row_of_rows :
-    (n : Net) (starts : List ℤ) (gaps counts : List ℕ)
-    → ((stop : ℕ) → stop < 64 → ltb 0 (get_or counts stop 0) ≡ is_served stop n.calls)
-    → ((stop : ℕ) → stop < 64 → 0 < get_or counts stop 0 → get_or gaps stop 0 ≡ stop_gap n starts stop)
-    → table (λ (stop : ℕ). pick (ltb 0 (get_or counts stop 0)) (get_or gaps stop 0) no_gap) (suc max_stop) ≡ gap_row n starts
+    (n : Net) (starts : List ℤ) (gaps : List ℕ) (counts : List Bool)
+    → ((stop : ℕ) → stop < 64 → get_or counts stop false ≡ is_served stop n.calls)
+    → ((stop : ℕ) → stop < 64 → get_or counts stop false ≡ true → get_or gaps stop 0 ≡ stop_gap n starts stop)
+    → table (λ (stop : ℕ). pick (get_or counts stop false) (get_or gaps stop 0) no_gap) (suc max_stop) ≡ gap_row n starts
 unfolding gap_row
 gap_row_of_rows n starts gaps counts flags are =
     table_same _ _ (suc max_stop)
     (λ stop h.
-    go stop (omega arith) (ltb 0 (get_or counts stop 0)) refl
+    go stop (omega arith) (get_or counts stop false) refl
     ∙ ap (λ (b : Bool). pick b (stop_gap n starts stop) no_gap) (flags stop (omega arith)))
   where
-    go : (stop : ℕ) → stop < 64 → (b : Bool) → ltb 0 (get_or counts stop 0) ≡ b
+    go : (stop : ℕ) → stop < 64 → (b : Bool) → get_or counts stop false ≡ b
         → pick b (get_or gaps stop 0) no_gap ≡ pick b (stop_gap n starts stop) no_gap
-    go stop low true e = are stop low (ltb-true 0 (get_or counts stop 0) e)
+    go stop low true e = are stop low e
     go stop low false e = refl
 
 -- ---- the row over all trips

@@ -9,7 +9,7 @@ use mathlib.Core.Logic.{inl, inr}
 use lib.Dec.{eqb, ltb}
 use lib.ListN.{length}
 use borrow.Author.Tests.{lt-ltb, le-ltb, lt-leb, ne_eqb, ltb-false, leb-false, eqb-false, not-false}
-use Rattle.network.specs.declared.Check.TheVariants.{Passes, Refused}
+use Rattle.network.specs.Grounds.{Passes, Refused}
 use Rattle.network.specs.Divisor.{lcm}
 use Rattle.network.specs.Network.{Net, SoFar, Command, states_line, calls_by_offset, calls_by_ride, ends, states_edition, unknown}
 use Rattle.network.specs.Network.{first_edition, latest_edition, max_lines, max_period, max_cycle, max_stop, max_offset, max_calls, max_calls_at_stop}

@@ -13,8 +13,10 @@ use lib.Dec.{ltb}
 use lib.IntN.{ℤ, pos, ◌+ℤ◌, +ℤ_idr}
 use lib.ListN.{length, get_or, take, drop, set, length-append, length-map, length-take, length-drop, take-append-drop}
 use lib.Seq.{drop-cons, set_at, take_at, drop-append-add, drop-drop}
-use Rattle.network.specs.declared.BoardAnswer.{BoardAnswer}
-use Rattle.network.specs.declared.BoardAnswer.TheVariants as answer
+use Rattle.std.specs.Prelude.{Result, Ok, Err}
+use Rattle.network.specs.declared.grounds.Refusal.{Refusal}
+use Rattle.network.specs.declared.grounds.Ground.TheVariants.{BoardRowTooShort}
+use Rattle.network.specs.Numbers.{number_of, by_ground}
 use Rattle.network.specs.Lists.{count_below, below}
 use Rattle.network.specs.Network.{Net, max_at_stop}
 use Rattle.network.specs.Rating.{period_of}
@@ -227,26 +229,26 @@ module _ {n : Net} {starts : List ℤ} {stop : ℕ} {from : ℤ} {count : ℕ} {
 
 module _ (n : Net) (list : List Arrival) (time_row : List ℤ) (line_row : List ℕ) where
   -- What is answered and left in the rows
-  abbrev pub Answered : BoardAnswer → List ℤ → List ℕ → Type 0
+  abbrev pub Answered : Result ℕ Refusal → List ℤ → List ℕ → Type 0
   Answered answer times_after lines_after =
       (board_answer answer ≡ listed_outcome list (length time_row) (length line_row))
       × ((times_after ≡ listed_times list time_row line_row) × (lines_after ≡ listed_lines n list time_row line_row))
 
-  short : too_short list (length time_row) (length line_row) ≡ true → Answered (answer.Refused 23 0) time_row line_row
-  unfolding board_answer listed_outcome listed_times listed_lines
+  short : too_short list (length time_row) (length line_row) ≡ true → Answered (Err (by_ground BoardRowTooShort 0)) time_row line_row
+  unfolding board_answer number_of listed_outcome listed_times listed_lines
   short e = rw e (refl, (refl, refl))
 
-  pub short_of_times : length time_row < length list → Answered (answer.Refused 23 0) time_row line_row
+  pub short_of_times : length time_row < length list → Answered (Err (by_ground BoardRowTooShort 0)) time_row line_row
   unfolding too_short
   short_of_times h = short (or_left _ _ (lt-ltb (length time_row) (length list) h))
 
-  pub short_of_lines : length line_row < length list → Answered (answer.Refused 23 0) time_row line_row
+  pub short_of_lines : length line_row < length list → Answered (Err (by_ground BoardRowTooShort 0)) time_row line_row
   unfolding too_short
   short_of_lines h = short (or_right (ltb (length time_row) (length list)) _ (lt-ltb (length line_row) (length list) h))
 
   pub room_for_both : length list ≤ length time_row → length list ≤ length line_row → {count : ℕ} → count ≡ length list
       → {times_after : List ℤ} {lines_after : List ℕ} → times_after ≡ times list ++ drop (length list) time_row → lines_after ≡ lines n list ++ drop (length list) line_row
-      → Answered (answer.Listed count) times_after lines_after
+      → Answered (Ok count) times_after lines_after
   unfolding board_answer too_short listed_outcome listed_times listed_lines
   room_for_both h k is t l =
       rw (le-ltb (length time_row) (length list) h, le-ltb (length line_row) (length list) k) (ap (λ (m : ℕ). values (m ∷ [])) is, (t, l))

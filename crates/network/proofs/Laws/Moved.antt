@@ -9,8 +9,8 @@ use native.Mathlib.Omega.{arith}
 use borrow.Author.Tests.{lt-ltb}
 use lib.Dec.{eqb, leb}
 use lib.ListN.{length, get_or, drop, length-drop}
-use Rattle.network.specs.declared.Check.{Check}
-use Rattle.network.specs.declared.Check.TheVariants.{Passes, Refused}
+use Rattle.network.specs.Grounds.{Check}
+use Rattle.network.specs.Grounds.{Passes, Refused}
 use Rattle.network.specs.Network.{with_edition, SoFar, so_far, nothing_read, Command, states_line, calls_by_offset, calls_by_ride, ends, states_edition, unknown}
 use Rattle.network.specs.Network.{first_edition, cycle, ride_offset, command, operand_bytes, edition_operand, with_line, with_call, extend}
 use Rattle.network.specs.Grounds.{Ground, ◌at◌when◌, first, cut_off, edition_unknown, some_line_silent, call_grounds, grounds}

@@ -2,15 +2,14 @@
 -- the definition counts. Assumes nothing.
 use Prim.Native.Nat.{ℕ, suc, ◌*◌, ◌<◌, ◌≤◌}
 use mathlib.Core.Path.{◌≡◌, ap, ap₂, ◌∙◌}
-use mathlib.Core.Bool.{true}
+use mathlib.Core.Bool.{Bool, true, false}
 use mathlib.Core.List.Memᴰ
 use mathlib.Core.List.{List, [], ◌∷◌, map, Memᴰ}
 use native.Mathlib.Nat.{le_trans, zero-lt-suc}
 use native.Mathlib.Omega.{arith}
-use borrow.Author.Tests.{ltb-true}
-use lib.Dec.{eqb, ltb}
+use lib.Dec.{eqb}
 use lib.IntN.{ℤ}
-use lib.ListN.{length, get_or, take, replicate, get_or-replicate}
+use lib.ListN.{length, get_or, replicate, get_or-replicate}
 use Rattle.network.specs.declared.Call.{Call}
 use Rattle.network.specs.Lists.{below, least_of, keep}
 use Rattle.network.specs.Network.{Net, max_stop, max_period, is_served}
@@ -28,8 +27,7 @@ use Rattle.network.specs.Rating.{
   rating_over,
   rating,
 }
-use Rattle.network.specs.Engine.Scan.{counted_stops, Lent}
-use Rattle.network.specs.Engine.Stored.{net_of, calls_in}
+use Rattle.network.specs.Engine.Scan.{counted_stops}
 use Rattle.network.proofs.Laws.Lists.{map_same}
 use Rattle.network.proofs.Laws.Members.{keep_all}
 use Rattle.network.proofs.Laws.Tables.{below_of_member, below_same}
@@ -44,19 +42,19 @@ rating_by_same f g stops h =
     (sum_of_same _ _ stops (λ s m. ap (λ (v : ℕ). s.weight * v) (h s m)))
 
 -- A stop that a row counts is below 64, and has a number there
-pub counted_of_member : (counts weights : List ℕ) (s : Counted) → Memᴰ s (counted_stops counts weights)
-    → (s.stop < 64) × (0 < get_or counts s.stop 0)
+pub counted_of_member : (counts : List Bool) (weights : List ℕ) (s : Counted) → Memᴰ s (counted_stops counts weights)
+    → (s.stop < 64) × (get_or counts s.stop false ≡ true)
 unfolding counted_stops
 counted_of_member counts weights s m =
-    let (i, k, e) = Memᴰ.of_map (λ (j : ℕ). record { stop = j; weight = get_or weights j 0 }) (below (λ j. ltb 0 (get_or counts j 0)) (suc max_stop)) m in
-    let b = below_of_member (λ j. ltb 0 (get_or counts j 0)) (suc max_stop) k in
+    let (i, k, e) = Memᴰ.of_map (λ (j : ℕ). record { stop = j; weight = get_or weights j 0 }) (below (λ j. get_or counts j false) (suc max_stop)) m in
+    let b = below_of_member (λ j. get_or counts j false) (suc max_stop) k in
     let is : i ≡ s.stop = ap (λ (c : Counted). c.stop) e in
-    rw (← is) (omega (arith, b.0), ltb-true 0 (get_or counts i 0) b.1)
+    rw (← is) (omega (arith, b.0), b.1)
 
 -- The rows of gaps and counts give the rating over the stops that count
 pub rating_of_rows :
-    (n : Net) (starts : List ℤ) (gaps counts weights : List ℕ)
-    → ((stop : ℕ) → stop < 64 → 0 < get_or counts stop 0 → get_or gaps stop 0 ≡ stop_gap n starts stop)
+    (n : Net) (starts : List ℤ) (gaps : List ℕ) (counts : List Bool) (weights : List ℕ)
+    → ((stop : ℕ) → stop < 64 → get_or counts stop false ≡ true → get_or gaps stop 0 ≡ stop_gap n starts stop)
     → rating_by (λ s. get_or gaps s 0) (counted_stops counts weights) ≡ rating_over n starts (counted_stops counts weights)
 unfolding rating_over
 rating_of_rows n starts gaps counts weights h =
@@ -64,18 +62,18 @@ rating_of_rows n starts gaps counts weights h =
 
 -- The served stops, each once
 pub counted_served :
-    (n : Net) (counts weights : List ℕ)
-    → ((stop : ℕ) → stop < 64 → ltb 0 (get_or counts stop 0) ≡ is_served stop n.calls)
+    (n : Net) (counts : List Bool) (weights : List ℕ)
+    → ((stop : ℕ) → stop < 64 → get_or counts stop false ≡ is_served stop n.calls)
     → ((stop : ℕ) → stop < 64 → get_or weights stop 0 ≡ 1)
     → counted_stops counts weights ≡ counted n
 unfolding counted_stops counted each_once served_list
 counted_served n counts weights h k =
-    map_same _ (λ (s : ℕ). record { stop = s; weight = 1 }) (below (λ s. ltb 0 (get_or counts s 0)) (suc max_stop))
+    map_same _ (λ (s : ℕ). record { stop = s; weight = 1 }) (below (λ s. get_or counts s false) (suc max_stop))
     (λ s m.
-    let b = below_of_member (λ s'. ltb 0 (get_or counts s' 0)) (suc max_stop) m in
+    let b = below_of_member (λ s'. get_or counts s' false) (suc max_stop) m in
     ap (λ (w : ℕ). record { stop = s; weight = w }) (k s (omega (arith, b.0))))
     ∙ ap (map (λ (s : ℕ). record { stop = s; weight = 1 }))
-    (below_same (λ s. ltb 0 (get_or counts s 0)) (λ s. is_served s n.calls) (suc max_stop) (λ s b. h s (omega (arith, b))))
+    (below_same (λ s. get_or counts s false) (λ s. is_served s n.calls) (suc max_stop) (λ s b. h s (omega (arith, b))))
 
 abbrev InRange : Net → Call → Type 0
 InRange n c = (0 < period_of n c) × (period_of n c ≤ max_period)
@@ -93,25 +91,18 @@ stop_gap_le_max_period {n} v starts stop =
     gap_of_stop_le_max_period n starts (keep (λ (c : Call). eqb c.stop stop) n.calls)
     (keep_all no_call (λ (c : Call). eqb c.stop stop) (InRange n) n.calls (λ k h e. (v.period_pos _ (v.call_line k h), v.period _ (v.call_line k h))))
 
--- ---- rows of a network that is lent: which stops its calls serve, and their gaps
-
 -- A row in which every place is 1
 pub ones_are : (stop : ℕ) → stop < 64 → ◌≡◌ {A = ℕ} (get_or (replicate 64 1) stop 0) 1
 ones_are stop h = get_or-replicate 64 stop 1 0 h
 
-module _ {periods list : List ℕ} {lines calls : ℕ} (h : Lent periods list lines calls) (counts : List ℕ)
-    (flags : (stop : ℕ) → stop < 64 → ltb 0 (get_or counts stop 0) ≡ is_served stop (take calls (calls_in list))) where
-  pub lent_served : (stop : ℕ) → stop < 64 → ltb 0 (get_or counts stop 0) ≡ is_served stop (net_of h.network).calls
-  unfolding net_of
-  lent_served stop low =
-      flags stop low ∙ ap₂ (λ (k : ℕ) (l : List ℕ). is_served stop (take k (calls_in l))) h.calls_are h.list_is
-
-  -- the rating of each served stop once is the network's
-  pub lent_rating :
-      (starts : List ℤ) (gaps : List ℕ)
-      → ((stop : ℕ) → stop < 64 → 0 < get_or counts stop 0 → get_or gaps stop 0 ≡ stop_gap (net_of h.network) starts stop)
-      → rating_by (λ s. get_or gaps s 0) (counted_stops counts (replicate 64 1)) ≡ rating (net_of h.network) starts
-  unfolding rating
-  lent_rating starts gaps are =
-      rating_of_rows (net_of h.network) starts gaps counts (replicate 64 1) are
-      ∙ ap (rating_over (net_of h.network) starts) (counted_served (net_of h.network) counts (replicate 64 1) lent_served ones_are)
+-- The rating of each served stop once is the network's
+pub served_rating :
+    (n : Net) (counts : List Bool)
+    → ((stop : ℕ) → stop < 64 → get_or counts stop false ≡ is_served stop n.calls)
+    → (starts : List ℤ) (gaps : List ℕ)
+    → ((stop : ℕ) → stop < 64 → get_or counts stop false ≡ true → get_or gaps stop 0 ≡ stop_gap n starts stop)
+    → rating_by (λ s. get_or gaps s 0) (counted_stops counts (replicate 64 1)) ≡ rating n starts
+unfolding rating
+served_rating n counts flags starts gaps are =
+    rating_of_rows n starts gaps counts (replicate 64 1) are
+    ∙ ap (rating_over n starts) (counted_served n counts (replicate 64 1) flags ones_are)

@@ -11,7 +11,7 @@ use lib.Dec.{eqb}
 use lib.IntN.{ℤ}
 use lib.ListN.{length, get_or, length-map}
 use Rattle.network.specs.declared.Call.{Call}
-use Rattle.network.specs.declared.Rating.{Rating}
+use Rattle.network.specs.Rating.{Rating}
 use Rattle.network.specs.Lists.{sum_of, least_of}
 use Rattle.network.specs.Network.{Net, max_stop, is_served, calls_anywhere}
 use Rattle.network.specs.Valid.{no_call, Valid}

@@ -5,28 +5,21 @@ use mathlib.Core.Path.{◌≡◌, sym, ap, subst, ◌∙◌}
 use mathlib.Core.List.{List, [], ◌∷◌, ◌++◌}
 use lib.ListN.{length, get_or, set, length-set}
 use Rattle.network.specs.declared.Call.{Call}
-use Rattle.network.specs.declared.Network.{Network}
+use Rattle.network.specs.declared.Rows.{Rows}
 use Rattle.network.specs.Network.{Net, max_lines, max_cycle, max_stop, max_calls, cycle, with_line, with_call}
-use Rattle.network.specs.Engine.Stored.{net_of, packed, call_in, Sound, Latest, Often, ComesTo}
+use Rattle.network.specs.Engine.Stored.{net_of, packed, call_in, Latest, Often, InStep, ComesTo}
 use Rattle.network.proofs.Laws.Stored.{edition_put, line_added, call_added, sound_edition, sound_line, sound_call, call_added_lem}
 use Rattle.network.proofs.Laws.Latest.{latest_call}
 use Rattle.network.proofs.Laws.Often.{often_call}
 
-pub record ReaderRows (n : Network) (often latest : List ℕ) : Type 0 where
-  pub sound : Sound n
-  pub often_row : length often ≡ 1024
-  pub often_is : Often often (net_of n).calls
-  pub latest_row : length latest ≡ max_lines
-  pub latest_is : Latest latest (net_of n).calls
-
 -- The invariant of the reader's loop, `rest` being the part of the file that is left: reading comes there with this network
-pub record ReaderTurn (file : List ℕ) (n : Network) (often latest rest : List ℕ) : Type 0 where
-  pub rows : ReaderRows n often latest
+pub record ReaderTurn (file : List ℕ) (n : Rows) (often latest rest : List ℕ) : Type 0 where
+  pub rows : InStep n often latest
   pub left : length rest ≤ length file
   pub comes_here : ComesTo file rest n
 
-module _ (n : Network) (often latest : List ℕ) (k : ReaderRows n often latest) where
-  pub rows_with_edition : (edition : ℕ) → ReaderRows (edition_put n edition) often latest
+module _ (n : Rows) (often latest : List ℕ) (k : InStep n often latest) where
+  pub rows_with_edition : (edition : ℕ) → InStep (edition_put n edition) often latest
   unfolding net_of
   rows_with_edition edition =
       record {
@@ -38,7 +31,7 @@ module _ (n : Network) (often latest : List ℕ) (k : ReaderRows n often latest)
       }
 
   pub rows_with_line : (period common : ℕ) → n.lines < max_lines → 0 < common → common ≤ max_cycle → common ≡ cycle (with_line (net_of n) period)
-      → ReaderRows (line_added n period common) often latest
+      → InStep (line_added n period common) often latest
   unfolding net_of
   rows_with_line period common room pos low is =
       record {
@@ -50,7 +43,7 @@ module _ (n : Network) (often latest : List ℕ) (k : ReaderRows n often latest)
       }
 
   pub rows_with_call : (code : ℕ) (call : Call) → code ≡ packed call → call_in code ≡ call → n.count < max_calls → call.line < max_lines → call.stop ≤ max_stop
-      → ReaderRows (call_added n code) (set often (call.stop * 16 + call.line) (get_or often (call.stop * 16 + call.line) 0 + 1)) (set latest call.line (call.offset + 1))
+      → InStep (call_added n code) (set often (call.stop * 16 + call.line) (get_or often (call.stop * 16 + call.line) 0 + 1)) (set latest call.line (call.offset + 1))
   unfolding with_call
   rows_with_call code call d e room low high =
       record {

@@ -11,8 +11,8 @@ use lib.ListN.{length, get_or, take, drop, length-append, length-take, length-dr
 use lib.Seq.{get_or-take}
 use borrow.Author.Tests.{ltb-true, ltb-false, leb-true, leb-false, lt-ltb, le-ltb, le-leb, lt-leb}
 use Rattle.network.specs.declared.Call.{Call}
-use Rattle.network.specs.declared.Check.{Check}
-use Rattle.network.specs.declared.Check.TheVariants.{Passes, Refused}
+use Rattle.network.specs.Grounds.{Check}
+use Rattle.network.specs.Grounds.{Passes, Refused}
 use Rattle.network.specs.Network.{Net, SoFar, nothing_read, Command, states_line, calls_by_offset, calls_by_ride, ends, states_edition, unknown}
 use Rattle.network.specs.Network.{first_edition, max_lines, max_calls, command, operand_bytes, word, line_operand, stop_operand, edition_operand}
 use Rattle.network.specs.Network.{stated_offset, ride_offset, with_edition, with_line, with_call, call_of, with_network, extend}

@@ -9,8 +9,10 @@ use borrow.Author.Tests.{eqb-true, eqb-false, eq-eqb, ne_eqb}
 use lib.Dec.{eqb}
 use lib.IntN.{ℤ}
 use lib.ListN.{length}
-use Rattle.network.specs.declared.RateAnswer.TheVariants as answer
-use Rattle.network.specs.declared.Rating.{Rating}
+use Rattle.std.specs.Prelude.{Err}
+use Rattle.network.specs.declared.grounds.Refusal.{Refusal}
+use Rattle.network.specs.Numbers.{number_of}
+use Rattle.network.specs.Rating.{Rating}
 use Rattle.network.specs.Lists.{pick}
 use Rattle.network.specs.Network.{Net, stop_count}
 use Rattle.network.specs.Reading.{Reading, accepted, refused, values, refusal, read_file, read_outcome}
@@ -123,10 +125,10 @@ module _ (rates : Net → List ℤ → Rating) (file : List ℕ) (sheet : List �
   sheet_answers = on_sheet_answers _ refusal file sheet
 
 -- What rate answers where the file is refused
-pub rate_refused : (file : List ℕ) (sheet : List ℤ) {number place : ℕ} → read_file file ≡ refused number place
-    → rate_answer (answer.Refused number place) ≡ rate_outcome (read_file file) sheet
+pub rate_refused : (file : List ℕ) (sheet : List ℤ) (r : Refusal) → read_file file ≡ refused (number_of r.reason) r.place
+    → rate_answer (Err r) ≡ rate_outcome (read_file file) sheet
 unfolding rate_answer rate_outcome
-rate_refused file sheet e = sym (sheet_refuses rating file sheet (by_file e))
+rate_refused file sheet r e = sym (sheet_refuses rating file sheet (by_file e))
 
 -- ---- the class call
 

@@ -5,7 +5,7 @@ use mathlib.Core.Path.{◌≡◌, refl}
 use mathlib.Core.List.{List, [], ◌∷◌, ◌++◌}
 use native.Mathlib.Omega.{arith}
 use lib.ListN.{length, get_or}
-use Rattle.network.specs.declared.Check.TheVariants.{Passes}
+use Rattle.network.specs.Grounds.{Passes}
 use Rattle.network.specs.Divisor.{IsLeastCommonMultiple}
 use Rattle.network.specs.Network.{SoFar, Command, states_line, calls_by_offset, calls_by_ride, ends, states_edition, unknown, word, cycle, max_cycle, with_line, with_call, command, extend}
 use Rattle.network.specs.Grounds.{first, grounds}

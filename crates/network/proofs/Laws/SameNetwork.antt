@@ -10,8 +10,8 @@ use lib.Dec.{eqb, ltb}
 use lib.IntN.{ℤ}
 use lib.ListN.{length, get_or, drop}
 use Rattle.network.specs.declared.Call.{Call}
-use Rattle.network.specs.declared.Check.{Check}
-use Rattle.network.specs.declared.Rating.{Rating}
+use Rattle.network.specs.Grounds.{Check}
+use Rattle.network.specs.Rating.{Rating}
 use Rattle.network.specs.Archive.{tidied, SameOffsets}
 use Rattle.network.specs.Board.{Window, max_minutes, board_grounds, refused_or, board_outcome, time_row_after, line_row_after}
 use Rattle.network.specs.ClassCall.{rows_fit, class_outcome, class_row_after, weight_row_after, weighted_rating, weighted_outcome}

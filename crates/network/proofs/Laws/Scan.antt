@@ -8,8 +8,8 @@ use native.Mathlib.Nat.{le_trans, div-le_self, zero-lt-suc}
 use native.Mathlib.Decide.{ℕ_discrete}
 use native.Mathlib.Numerals.{add-one}
 use native.Mathlib.Omega.{arith}
-use borrow.Author.Tests.{eq-eqb, ne_eqb, eqb-true, eqb-false, lt-ltb, le-ltb}
-use lib.Dec.{eqb, ltb}
+use borrow.Author.Tests.{eq-eqb, ne_eqb, eqb-true, eqb-false}
+use lib.Dec.{eqb}
 use lib.IntN.{ℤ}
 use lib.Arith.{lt_of_le-ne}
 use lib.ListN.{length, get_or, take, set, length-append, length-take, length-set, replicate, length-replicate}
@@ -18,11 +18,11 @@ use Rattle.network.specs.declared.Call.{Call}
 use Rattle.network.specs.Lists.{pick, keep, below, sum_of, least_of, pairs_of, least_from}
 use Rattle.network.specs.Network.{Net}
 use Rattle.network.specs.Valid.{no_call}
-use Rattle.network.specs.declared.Network.{Network}
+use Rattle.network.specs.declared.Rows.{Rows}
 use Rattle.network.specs.Engine.Stored.{net_of, calls_in}
 use Rattle.network.specs.Rating.{calls_of_stop, period_of, gap_of_calls, pair_gaps, gap_of_stop, Counted, rating_by}
 use Rattle.network.specs.Engine.Scan.{last_at, calls_before, LeadsBack, rating_so_far, with_stop}
-use Rattle.network.proofs.Laws.Lists.{get_d_zeros}
+use Rattle.network.proofs.Laws.Lists.{zero_ne_one, get_d_zeros}
 use Rattle.network.proofs.Laws.Members.{All, keep_all, keep_nil, keep_take_next, length_keep_le}
 use Rattle.network.proofs.Laws.Least.{least_from_le, least_from_pairs_of_snoc, least_from_snoc, least_of_least_from, least_of_snoc}
 use Rattle.network.proofs.Laws.Sums.{sum_of_append}
@@ -105,7 +105,7 @@ module _ (stop : ℕ) (l : List Call) where
       rw (get_or-take k l j no_call (omega arith)) (f j (omega arith) (omega arith)))
 
 -- The calls at a stop of the network that is held
-pub calls_of_stop_held : (n : Network) (stop : ℕ) → calls_of_stop (net_of n) stop ≡ calls_before stop (calls_in n.list) n.count
+pub calls_of_stop_held : (n : Rows) (stop : ℕ) → calls_of_stop (net_of n) stop ≡ calls_before stop (calls_in n.list) n.count
 unfolding calls_of_stop calls_before net_of
 calls_of_stop_held n stop = refl
 
@@ -210,15 +210,15 @@ gap_of_stop_next n starts (c ∷ cs) d h f = gap_of_stop_snoc n starts c cs d (f
 -- ---- the pass over the calls
 
 -- The rows after `i` calls: the latest call at each stop, the way back from each call, and the gap of each stop that counts
-pub record Scanned (n : Net) (starts : List ℤ) (l : List Call) (counts gaps last previous : List ℕ) (i : ℕ) : Type 0 where
+pub record Scanned (n : Net) (starts : List ℤ) (l : List Call) (counts : List Bool) (gaps last previous : List ℕ) (i : ℕ) : Type 0 where
   pub gaps_row : length gaps ≡ 64
   pub last_row : length last ≡ 64
   pub previous_row : length previous ≡ 256
   pub last_is : (s : ℕ) → s < 64 → get_or last s 0 ≡ last_at s l i
   pub leads : LeadsBack previous l i
-  pub gaps_are : (s : ℕ) → s < 64 → 0 < get_or counts s 0 → get_or gaps s 0 ≡ gap_of_stop n starts (calls_before s l i)
+  pub gaps_are : (s : ℕ) → s < 64 → get_or counts s false ≡ true → get_or gaps s 0 ≡ gap_of_stop n starts (calls_before s l i)
 
-pub scanned_none : (n : Net) (starts : List ℤ) (l : List Call) (counts : List ℕ) → Scanned n starts l counts (replicate 64 0) (replicate 64 0) (replicate 256 0) 0
+pub scanned_none : (n : Net) (starts : List ℤ) (l : List Call) (counts : List Bool) → Scanned n starts l counts (replicate 64 0) (replicate 64 0) (replicate 256 0) 0
 unfolding last_at calls_before keep gap_of_stop LeadsBack
 scanned_none n starts l counts =
     record {
@@ -231,7 +231,7 @@ scanned_none n starts l counts =
     }
 
 -- one call more: of its stop the latest is this call, and every other stop stays as it was
-module _ (n : Net) (starts : List ℤ) (l : List Call) (counts gaps last previous : List ℕ) (i : ℕ) (scanned : Scanned n starts l counts gaps last previous i) (small : i < 256) (stated : i < length l) (low : (get_or l i no_call).stop < 64) where
+module _ (n : Net) (starts : List ℤ) (l : List Call) (counts : List Bool) (gaps last previous : List ℕ) (i : ℕ) (scanned : Scanned n starts l counts gaps last previous i) (small : i < 256) (stated : i < length l) (low : (get_or l i no_call).stop < 64) where
   last_next : (s : ℕ) → s < 64 → Dec (s ≡ (get_or l i no_call).stop) → get_or (set last (get_or l i no_call).stop (i + 1)) s 0 ≡ last_at s l (i + 1)
   last_next s h (yes e) =
       ap (λ (k : ℕ). get_or (set last (get_or l i no_call).stop (i + 1)) k 0) e
@@ -254,7 +254,7 @@ module _ (n : Net) (starts : List ℤ) (l : List Call) (counts gaps last previou
       → value ≡ gap_of_stop n starts (calls_before (get_or l i no_call).stop l i ++ (get_or l i no_call ∷ []))
       → (s : ℕ)
       → s < 64
-      → 0 < get_or counts s 0
+      → get_or counts s false ≡ true
       → Dec (s ≡ (get_or l i no_call).stop)
       → get_or (set gaps (get_or l i no_call).stop value) s 0 ≡ gap_of_stop n starts (calls_before s l (i + 1))
   gaps_next value v s h k (yes e) =
@@ -288,7 +288,7 @@ module _ (n : Net) (starts : List ℤ) (l : List Call) (counts gaps last previou
   pub scanned_passed :
       (before : ℕ)
       → before ≡ last_at (get_or l i no_call).stop l i
-      → get_or counts (get_or l i no_call).stop 0 ≤ 0
+      → get_or counts (get_or l i no_call).stop false ≡ false
       → Scanned n starts l counts gaps (set last (get_or l i no_call).stop (i + 1)) (set previous i before) (i + 1)
   unfolding LeadsBack
   scanned_passed before b z =
@@ -302,8 +302,10 @@ module _ (n : Net) (starts : List ℤ) (l : List Call) (counts gaps last previou
             scanned.gaps_are s h k ∙ ap (gap_of_stop n starts) (sym (calls_before_miss s l i stated (λ e. uncounted s k e)));
       }
     where
-      uncounted : (s : ℕ) → 0 < get_or counts s 0 → (get_or l i no_call).stop ≡ s → ⊥
-      uncounted s k e = omega (arith, rw (← e) at k, z)
+      uncounted : (s : ℕ) → get_or counts s false ≡ true → (get_or l i no_call).stop ≡ s → ⊥
+      uncounted s k e =
+          let both : ◌≡◌ {A = Bool} false true = sym z ∙ ap (λ (t : ℕ). get_or counts t false) e ∙ k in
+          zero_ne_one (cc)
 
 -- ---- the rating over the stops that count
 
@@ -327,30 +329,30 @@ rating_of_so_far gap [] = refl
 rating_of_so_far gap (x ∷ xs) = refl
 
 -- The stops below a bound that a row counts
-abbrev pub counted_below : List ℕ → List ℕ → ℕ → List Counted
+abbrev pub counted_below : List Bool → List ℕ → ℕ → List Counted
 counted_below counts weights bound =
-    map (λ (s : ℕ). record { stop = s; weight = get_or weights s 0 }) (below (λ s. ltb 0 (get_or counts s 0)) bound)
+    map (λ (s : ℕ). record { stop = s; weight = get_or weights s 0 }) (below (λ s. get_or counts s false) bound)
 
-module _ (counts weights : List ℕ) (bound : ℕ) where
-  counted_next : (t : Bool) → ltb 0 (get_or counts bound 0) ≡ t
+module _ (counts : List Bool) (weights : List ℕ) (bound : ℕ) where
+  counted_next : (t : Bool) → get_or counts bound false ≡ t
       → counted_below counts weights (bound + 1) ≡ counted_below counts weights bound ++ pick t (record { stop = bound; weight = get_or weights bound 0 } ∷ []) []
   unfolding below
-  counted_next true e = rw (add-one, e) (map-append (λ (s : ℕ). record { stop = s; weight = get_or weights s 0 }) (below (λ s. ltb 0 (get_or counts s 0)) bound) (bound ∷ []))
+  counted_next true e = rw (add-one, e) (map-append (λ (s : ℕ). record { stop = s; weight = get_or weights s 0 }) (below (λ s. get_or counts s false) bound) (bound ∷ []))
   counted_next false e =
-      rw (add-one, e) (map-append (λ (s : ℕ). record { stop = s; weight = get_or weights s 0 }) (below (λ s. ltb 0 (get_or counts s 0)) bound) [])
+      rw (add-one, e) (map-append (λ (s : ℕ). record { stop = s; weight = get_or weights s 0 }) (below (λ s. get_or counts s false) bound) [])
 
   -- one stop more that counts
   pub rating_counted :
       (gap : ℕ → ℕ)
-      → 0 < get_or counts bound 0
+      → get_or counts bound false ≡ true
       → rating_so_far gap (counted_below counts weights (bound + 1)) ≡ with_stop (rating_so_far gap (counted_below counts weights bound)) (gap bound) (get_or weights bound 0)
   rating_counted gap h =
-      ap (rating_so_far gap) (counted_next true (lt-ltb 0 (get_or counts bound 0) h))
+      ap (rating_so_far gap) (counted_next true h)
       ∙ rating_so_far_snoc gap (counted_below counts weights bound) (record { stop = bound; weight = get_or weights bound 0 })
 
   -- one that doesn't
   pub rating_passed :
       (gap : ℕ → ℕ)
-      → get_or counts bound 0 ≤ 0
+      → get_or counts bound false ≡ false
       → rating_so_far gap (counted_below counts weights (bound + 1)) ≡ rating_so_far gap (counted_below counts weights bound)
-  rating_passed gap h = ap (rating_so_far gap) (counted_next false (le-ltb 0 (get_or counts bound 0) h) ∙ append-nil _)
+  rating_passed gap h = ap (rating_so_far gap) (counted_next false h ∙ append-nil _)

@@ -8,44 +8,48 @@ use native.Mathlib.Decide.{ℕ_discrete}
 use native.Mathlib.Omega.{arith}
 use lib.ListN.{length, get_or, take, set, length-set, length-map}
 use lib.Seq.{length-take-le, get_or-take, get_or-set_same, get_or-set_other}
+use Rattle.std.specs.Prelude.{Result, Ok, Err}
 use Rattle.network.specs.declared.Call.{Call}
-use Rattle.network.specs.declared.Check.TheVariants.{Passes, Refused}
+use Rattle.network.specs.Grounds.{Passes}
 use Rattle.network.specs.declared.Network.{Network}
-use Rattle.network.specs.declared.Parsed.TheVariants as parsed
-use Rattle.network.specs.declared.Totals.{Totals}
+use Rattle.network.specs.declared.Rows.{Rows}
+use Rattle.network.specs.declared.Unread.{Unread}
+use Rattle.network.specs.declared.Stated.TheVariants as stated
 use Rattle.network.specs.Network.{Net, net_with, SoFar, with_network, with_edition, with_calls, Command, calls_by_offset, calls_by_ride, ends, extend}
 use Rattle.network.specs.Network.{max_lines, max_cycle, max_stop, max_calls, max_calls_at_stop, cycle, how_often_at, word, call_of, with_line, with_call}
 use Rattle.network.specs.Valid.{Valid, IsBytes, no_call}
 use Rattle.network.specs.Reading.{accepted, refused}
 use Rattle.network.specs.Grounds.{first, grounds}
-use Rattle.network.specs.Engine.Scan.{Lent}
-use Rattle.network.specs.Engine.Stored.{net_of, packed, call_in, calls_in, Sound, HasTotals, IsParsed, reading_of}
+use Rattle.network.specs.Engine.Stored.{net_of, packed, call_in, calls_in, Sound, HasTotals, IsParsed}
+use Rattle.network.specs.Engine.Read.{reading_of, rows_read}
+use Rattle.network.specs.declared.grounds.Ground.TheVariants.{StartRowLength}
+use Rattle.network.specs.Numbers.{number_of}
 use Rattle.network.proofs.Laws.Lists.{zero_ne_one, map_set, take_set_next}
 use Rattle.network.proofs.Laws.Divisor.{lcm_pos}
 use Rattle.network.proofs.Laws.Network.{cycle_with_line}
 use Rattle.network.proofs.Laws.Grounds.{CallFits, line_not_end, edition_not_end, line_passes, offset_passes, ride_passes}
 
-pub held_lines : (n : Network) → Sound n → length (net_of n).periods ≡ n.lines
+pub held_lines : (n : Rows) → Sound n → length (net_of n).periods ≡ n.lines
 unfolding net_of
 held_lines n s = length-take-le n.lines n.periods (omega (arith, s.lines, s.periods_row))
 
-pub length_held : (n : Network) → Sound n → length (calls_in n.list) ≡ max_calls
+pub length_held : (n : Rows) → Sound n → length (calls_in n.list) ≡ max_calls
 length_held n s = length-map n.list call_in ∙ s.list_row
 
-pub held_calls : (n : Network) → Sound n → length (net_of n).calls ≡ n.count
+pub held_calls : (n : Rows) → Sound n → length (net_of n).calls ≡ n.count
 unfolding net_of
 held_calls n s = length-take-le n.count (calls_in n.list) (omega (arith, s.calls, length_held n s))
 
-pub held_period : (n : Network) (line : ℕ) → line < n.lines → get_or (net_of n).periods line 0 ≡ get_or n.periods line 0
+pub held_period : (n : Rows) (line : ℕ) → line < n.lines → get_or (net_of n).periods line 0 ≡ get_or n.periods line 0
 unfolding net_of
 held_period n line h = get_or-take n.lines n.periods line 0 h
 
-pub held_call : (n : Network) (k : ℕ) → k < n.count → get_or (net_of n).calls k no_call ≡ get_or (calls_in n.list) k no_call
+pub held_call : (n : Rows) (k : ℕ) → k < n.count → get_or (net_of n).calls k no_call ≡ get_or (calls_in n.list) k no_call
 unfolding net_of
 held_call n k h = get_or-take n.count (calls_in n.list) k no_call h
 
 -- The calls that count are of stated lines, whose periods are at least 1
-module _ (n : Network) (s : Sound n) (v : Valid (net_of n)) where
+module _ (n : Rows) (s : Sound n) (v : Valid (net_of n)) where
   pub held_call_line : (k : ℕ) → k < n.count → (get_or (calls_in n.list) k no_call).line < n.lines
   held_call_line k h =
       rw (held_lines n s) at (rw (held_call n k h) at (v.call_line k (rw (held_calls n s) h)))
@@ -58,19 +62,19 @@ module _ (n : Network) (s : Sound n) (v : Valid (net_of n)) where
 
 -- ---- another edition, or one line or one call more, written behind those that count
 
-abbrev pub edition_put : Network → ℕ → Network
+abbrev pub edition_put : Rows → ℕ → Rows
 edition_put n edition =
     record { edition = edition; lines = n.lines; periods = n.periods; count = n.count; list = n.list; cycle = n.cycle }
 
-abbrev pub line_added : Network → ℕ → ℕ → Network
+abbrev pub line_added : Rows → ℕ → ℕ → Rows
 line_added n period common =
     record { edition = n.edition; lines = n.lines + 1; periods = set n.periods n.lines period; count = n.count; list = n.list; cycle = common }
 
-abbrev pub call_added : Network → ℕ → Network
+abbrev pub call_added : Rows → ℕ → Rows
 call_added n code =
     record { edition = n.edition; lines = n.lines; periods = n.periods; count = n.count + 1; list = set n.list n.count code; cycle = n.cycle }
 
-module _ (n : Network) (edition : ℕ) where
+module _ (n : Rows) (edition : ℕ) where
   pub edition_put_lem : net_of (edition_put n edition) ≡ with_edition (net_of n) edition
   unfolding net_of
   edition_put_lem = refl
@@ -89,7 +93,7 @@ module _ (n : Network) (edition : ℕ) where
         cycle_le = s.cycle_le;
       }
 
-module _ (n : Network) (s : Sound n) where
+module _ (n : Rows) (s : Sound n) where
   module _ (period common : ℕ) (room : n.lines < max_lines) where
     pub line_added_lem : net_of (line_added n period common) ≡ with_line (net_of n) period
     unfolding net_of with_line
@@ -145,11 +149,10 @@ module _ (n : Network) (s : Sound n) where
             ap (λ (k : ℕ). packed (call_in k)) there ∙ s.packs i (omega (arith, h, f)) ∙ sym there
 
 -- The numbers of a network that is held are those that the grounds ask for
-pub has_totals : (n : Network) → Sound n → (t : Totals) → (t.lines ≡ n.lines) × (t.calls ≡ n.count) × (t.cycle ≡ n.cycle) × (t.edition ≡ n.edition)
-    → HasTotals (net_of n) t
+pub has_totals : (n : Rows) → Sound n → HasTotals (net_of n) n
 unfolding net_of
-has_totals n s t (lines, calls, common, edition) =
-    record { edition = edition; lines = lines ∙ sym (held_lines n s); calls = calls ∙ sym (held_calls n s); cycle_is = common ∙ s.cycle_is }
+has_totals n s =
+    record { edition = refl; lines = sym (held_lines n s); calls = sym (held_calls n s); cycle_is = s.cycle_is }
 
 -- ---- what a command tells
 
@@ -162,7 +165,7 @@ pub record LineParsed (c : Command) (f : SoFar) (p : ℕ) (behind : List ℕ) (p
   pub cycle_pos : 0 < common
   pub cycle_le : common ≤ max_cycle
 
-pub line_of_parsed : (c : Command) (f : SoFar) (p : ℕ) (behind : List ℕ) (period common : ℕ) → 0 < cycle f.network → IsParsed c f p behind (parsed.Line period common)
+pub line_of_parsed : (c : Command) (f : SoFar) (p : ℕ) (behind : List ℕ) (period common : ℕ) → 0 < cycle f.network → IsParsed c f p behind (Ok (stated.Line period common))
     → LineParsed c f p behind period common
 unfolding IsParsed extend
 line_of_parsed c f p behind period common pos (passes, is, stated, made) =
@@ -200,7 +203,7 @@ call_parsed c d f p behind call offset passes apart is made e fits =
       room = fits.room;
     }
 
-pub call_of_parsed : (c : Command) (f : SoFar) (p : ℕ) (behind : List ℕ) (call : Call) → IsParsed c f p behind (parsed.Calls call) → CallParsed c f p behind call
+pub call_of_parsed : (c : Command) (f : SoFar) (p : ℕ) (behind : List ℕ) (call : Call) → IsParsed c f p behind (Ok (stated.Calls call)) → CallParsed c f p behind call
 unfolding IsParsed extend grounds
 call_of_parsed c f p behind call (passes, inl (is, made)) =
     call_parsed c calls_by_offset f p behind call _ passes (λ e. zero_ne_one (cc)) is made refl
@@ -214,7 +217,7 @@ pub record EditionParsed (c : Command) (f : SoFar) (p : ℕ) (behind : List ℕ)
   pub onward : c ≡ ends → ⊥
   pub extended : with_network f (with_edition f.network edition) ≡ extend c f behind
 
-pub edition_of_parsed : (c : Command) (f : SoFar) (p : ℕ) (behind : List ℕ) (edition : ℕ) → IsParsed c f p behind (parsed.Edition edition)
+pub edition_of_parsed : (c : Command) (f : SoFar) (p : ℕ) (behind : List ℕ) (edition : ℕ) → IsParsed c f p behind (Ok (stated.Edition edition))
     → EditionParsed c f p behind edition
 unfolding IsParsed extend
 edition_of_parsed c f p behind edition (passes, is, stated) =
@@ -226,45 +229,19 @@ edition_of_parsed c f p behind edition (passes, is, stated) =
 
 -- ---- what other crates read of the network that is held
 
-pub held_periods : (n : Network) → (net_of n).periods ≡ take n.lines n.periods
+pub held_periods : (n : Rows) → (net_of n).periods ≡ take n.lines n.periods
 unfolding net_of
 held_periods n = refl
 
--- its rows, lent in its place
-abbrev pub lent_rows : (n : Network) → Sound n → Valid (net_of n) → Lent n.periods n.list n.lines n.count
-lent_rows n s v =
-    record {
-      network = n;
-      sound = s;
-      valid = v;
-      periods_are = refl;
-      list_is = refl;
-      lines_are = sym (held_lines n s);
-      calls_are = refl;
-    }
-
--- .. the number of lines being told by another that is the same
-abbrev pub lent_fits : {periods list : List ℕ} {lines other calls : ℕ} → other ≡ lines → Lent periods list lines calls → Lent periods list other calls
-lent_fits e h =
-    record {
-      network = h.network;
-      sound = h.sound;
-      valid = h.valid;
-      periods_are = h.periods_are;
-      list_is = h.list_is;
-      lines_are = e ∙ h.lines_are;
-      calls_are = h.calls_are;
-    }
-
 -- without its calls
-abbrev pub calls_dropped : Network → Network
+abbrev pub calls_dropped : Rows → Rows
 calls_dropped n = record { edition = n.edition; lines = n.lines; periods = n.periods; count = 0; list = n.list; cycle = n.cycle }
 
-pub net_of_calls_dropped : (n : Network) → net_of (calls_dropped n) ≡ with_calls (net_of n) []
+pub net_of_calls_dropped : (n : Rows) → net_of (calls_dropped n) ≡ with_calls (net_of n) []
 unfolding net_of
 net_of_calls_dropped n = refl
 
-pub sound_calls_dropped : (n : Network) → Sound n → Sound (calls_dropped n)
+pub sound_calls_dropped : (n : Rows) → Sound n → Sound (calls_dropped n)
 unfolding net_of cycle
 sound_calls_dropped n s =
     record {
@@ -289,11 +266,24 @@ pub bytes_of : (file : List ℕ) → ((i : ℕ) → get_or file i 0 < 256) → I
 unfolding IsBytes
 bytes_of file h = h
 
-module _ (n : Network) where
-  pub reading_of_passes : reading_of Passes n ≡ accepted (net_of n)
-  unfolding reading_of
-  reading_of_passes = refl
+pub reading_of_network : (n : Network) → reading_of (Ok n) ≡ accepted (net_of n.rows)
+unfolding reading_of
+reading_of_network n = refl
 
-  pub reading_of_refused : (number place : ℕ) → reading_of (Refused number place) n ≡ refused number place
-  unfolding reading_of
-  reading_of_refused number place = refl
+pub reading_of_refused : (u : Unread) → reading_of (Err u) ≡ refused (number_of u.refusal.reason) u.refusal.place
+unfolding reading_of
+reading_of_refused u = refl
+
+-- The rows that reading comes to
+pub same_rows_of_network : {r : Result Network Unread} {n : Network} → r ≡ Ok n → rows_read r ≡ n.rows
+unfolding rows_read
+same_rows_of_network e = ap rows_read e
+
+pub same_rows_of_unread : {r : Result Network Unread} {u : Unread} → r ≡ Err u → rows_read r ≡ u.rows
+unfolding rows_read
+same_rows_of_unread e = ap rows_read e
+
+-- The ground by which a start row is refused
+pub number_of_start_row : number_of StartRowLength ≡ 16
+unfolding number_of
+number_of_start_row = refl

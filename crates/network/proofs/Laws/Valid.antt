@@ -7,7 +7,7 @@ use native.Mathlib.Omega.{arith}
 use lib.ListN.{length, get_or, length-append}
 use lib.Seq.{get_or-drop}
 use Rattle.network.specs.declared.Call.{Call}
-use Rattle.network.specs.declared.Check.TheVariants.{Passes}
+use Rattle.network.specs.Grounds.{Passes}
 use Rattle.network.specs.Divisor.{Divides, cycle_from, common_cycle}
 use Rattle.network.specs.Lists.{keep}
 use Rattle.network.specs.Network.{Net, SoFar, empty_net, Command, states_line, calls_by_offset, calls_by_ride, ends, states_edition, unknown}

@@ -7,12 +7,12 @@ use mathlib.Core.List.Memᴰ
 use mathlib.Core.List.{List, [], ◌∷◌, map, Memᴰ}
 use mathlib.Core.Logic.{◌↔◌}
 use native.Mathlib.Omega.{arith}
-use lib.Dec.{eqb, ltb}
+use lib.Dec.{eqb}
 use lib.IntN.{ℤ}
 use lib.ListN.{length, get_or, length-map}
 use borrow.Author.Tests.{eq-eqb}
 use Rattle.network.specs.declared.Call.{Call}
-use Rattle.network.specs.declared.Rating.{Rating}
+use Rattle.network.specs.Rating.{Rating}
 use Rattle.network.specs.Lists.{pick, count_below, below}
 use Rattle.network.specs.Network.{Net, max_stop, calls_anywhere, is_served}
 use Rattle.network.specs.Reading.{Reading, accepted, refused, Outcome, values, refusal, read_file}
@@ -59,8 +59,8 @@ module _ (read : Reading) (classes weights : List ℕ) where
 -- ---- the stops that count
 
 -- A row that counts the stops that the class row names as their own lowest
-pub counted_lowest : (n : Net) (counts : List ℕ)
-    → ((stop : ℕ) → stop < 64 → ltb 0 (get_or counts stop 0) ≡ eqb (get_or (class_row n) stop 0) stop)
+pub counted_lowest : (n : Net) (counts : List Bool)
+    → ((stop : ℕ) → stop < 64 → get_or counts stop false ≡ eqb (get_or (class_row n) stop 0) stop)
     → counted_stops counts (weight_row n) ≡ lowest_stops (class_row n) (weight_row n)
 unfolding counted_stops lowest_stops
 counted_lowest n counts e =

@@ -10,7 +10,7 @@ use native.Mathlib.Nat.{le_of_suc-le-suc, eq-or-lt_of_le, zero-lt-suc}
 use native.Mathlib.Omega.{arith}
 use lib.IntN.{ℤ, pos}
 use lib.ListN.{length}
-use Rattle.network.specs.declared.Rating.{Rating}
+use Rattle.network.specs.Rating.{Rating}
 use Rattle.network.specs.Rating.{no_rating}
 use Rattle.network.proofs.Laws.Lists.{zero_ne_one}
 use Rattle.network.proofs.Laws.Members.{All}

@@ -4,7 +4,7 @@ use mathlib.Core.Path.{◌≡◌}
 use mathlib.Core.Bool.{true, false}
 use mathlib.Core.List.{List, ◌++◌}
 use lib.IntN.{ℤ}
-use Rattle.network.specs.declared.Rating.{Rating}
+use Rattle.network.specs.Rating.{Rating}
 use Rattle.network.specs.Rating.{is_above}
 use Rattle.network.proofs.Laws.Gaps.{not_above_of_le}
 use Rattle.search.proofs.Laws.Walk.{ChosenBelow}

@@ -9,7 +9,7 @@ use lib.IntN.{ℤ, pos, ◌-ℤ◌}
 use lib.ListN.{length, get_or}
 use Rattle.network.specs.declared.Call.{Call}
 use Rattle.network.specs.Divisor.{gcd}
-use Rattle.network.specs.Network.{max_period, max_stop, max_offset}
+use Rattle.network.specs.Network.{Net, max_period, max_stop, max_offset}
 use Rattle.network.specs.Valid.{no_call}
 use Rattle.network.specs.Gap.{fold, residue}
 use Rattle.network.specs.Rating.{arrival_of, period_of, gap_of_calls}
@@ -20,7 +20,7 @@ use Rattle.network.proofs.Laws.Packed.{InLimits, packed_line, packed_offset, pac
 use Rattle.network.proofs.Laws.Gaps.{residue_eq_of_multiple, arrival_of_pos, gap_of_calls_is_fold, period_of_is, period_of_le, period_of_pos}
 use Rattle.network.proofs.Laws.Gaps.{residue_pos}
 use Rattle.search.specs.Engine.Layout.{by_line}
-use Rattle.search.specs.Engine.Representation.{CallRows, calls_by_line, reciprocal, with_reciprocal}
+use Rattle.search.specs.Engine.Representation.{NetworkRows, calls_by_line, reciprocal, with_reciprocal}
 use Rattle.search.proofs.Laws.Layout.{length_by_line_all, by_line_line_lt}
 use Rattle.search.proofs.Laws.Codes.{line_in, stop_in, offset_in}
 use Rattle.search.proofs.Laws.Reciprocal.{divisor_part, reciprocal_part}
@@ -42,71 +42,71 @@ residue_of_difference g a b m h =
 arrival_of_lem : (starts : List ℕ) (line offset : ℕ) (c : Call) → line ≡ c.line → offset ≡ c.offset → pos (get_or starts line 0 + offset) ≡ arrival_of (map pos starts) c
 arrival_of_lem starts line offset c e f = ap₂ (λ (a b : ℕ). pos (get_or starts a 0 + b)) e f ∙ sym (arrival_of_pos starts c)
 
-module _ {codes previous divisors : List ℕ} (l : CallRows codes previous divisors) where
+module _ {net : Net} {codes previous divisors lines : List ℕ} (l : NetworkRows net codes previous divisors lines) where
   -- all calls are in line order
-  pub length_calls_by_line : length (calls_by_line l) ≡ length l.net.calls
-  length_calls_by_line = length_by_line_all l.net.calls (length l.net.periods) l.valid.call_line
+  pub length_calls_by_line : length (calls_by_line net) ≡ length net.calls
+  length_calls_by_line = length_by_line_all net.calls (length net.periods) l.valid.call_line
 
-  pub calls_few : length l.net.calls ≤ 256
+  pub calls_few : length net.calls ≤ 256
   calls_few = l.valid.calls
 
-  module _ (i : ℕ) (h : i < length l.net.calls) where
-    pub line_low : (get_or (calls_by_line l) i no_call).line < length l.net.periods
-    line_low = by_line_line_lt l.net.calls (length l.net.periods) (length l.net.periods) i (omega arith) (omega (arith, length_calls_by_line))
+  module _ (i : ℕ) (h : i < length net.calls) where
+    pub line_low : (get_or (calls_by_line net) i no_call).line < length net.periods
+    line_low = by_line_line_lt net.calls (length net.periods) (length net.periods) i (omega arith) (omega (arith, length_calls_by_line))
 
-    pub stop_low : (get_or (calls_by_line l) i no_call).stop < 64
+    pub stop_low : (get_or (calls_by_line net) i no_call).stop < 64
     stop_low =
         omega
-        (arith, by_line_all (λ (c : Call). c.stop ≤ max_stop) l.net.calls l.valid.call_stop (length l.net.periods) i (omega (arith, length_calls_by_line)))
+        (arith, by_line_all (λ (c : Call). c.stop ≤ max_stop) net.calls l.valid.call_stop (length net.periods) i (omega (arith, length_calls_by_line)))
 
-    in-limits : InLimits (get_or (calls_by_line l) i no_call)
+    in-limits : InLimits (get_or (calls_by_line net) i no_call)
     in-limits =
         record {
           line = omega (arith, line_low, l.valid.lines);
           stop = omega (arith, stop_low);
-          offset = by_line_all (λ (c : Call). c.offset ≤ max_offset) l.net.calls l.valid.call_offset (length l.net.periods) i (omega (arith, length_calls_by_line));
+          offset = by_line_all (λ (c : Call). c.offset ≤ max_offset) net.calls l.valid.call_offset (length net.periods) i (omega (arith, length_calls_by_line));
         }
 
-    pub line_of : line_in (get_or codes i 0) ≡ (get_or (calls_by_line l) i no_call).line
+    pub line_of : line_in (get_or codes i 0) ≡ (get_or (calls_by_line net) i no_call).line
     line_of = ap line_in (l.code_of i h) ∙ packed_line _ in-limits
 
-    pub stop_of : stop_in (get_or codes i 0) ≡ (get_or (calls_by_line l) i no_call).stop
+    pub stop_of : stop_in (get_or codes i 0) ≡ (get_or (calls_by_line net) i no_call).stop
     stop_of = ap stop_in (l.code_of i h) ∙ packed_stop _ in-limits
 
-    offset_of : offset_in (get_or codes i 0) ≡ (get_or (calls_by_line l) i no_call).offset
+    offset_of : offset_in (get_or codes i 0) ≡ (get_or (calls_by_line net) i no_call).offset
     offset_of = ap offset_in (l.code_of i h) ∙ packed_offset _ in-limits
 
-    line_row_low : line_in (get_or codes i 0) < length l.net.periods
+    line_row_low : line_in (get_or codes i 0) < length net.periods
     line_row_low = rw line_of line_low
 
     pub line_row_lt_16 : line_in (get_or codes i 0) < 16
     line_row_lt_16 = omega (arith, line_row_low, l.valid.lines)
 
   -- the divisor of two calls
-  module _ (i j : ℕ) (hi : i < length l.net.calls) (hj : j < length l.net.calls) where
+  module _ (i j : ℕ) (hi : i < length net.calls) (hj : j < length net.calls) where
     word_is :
         get_or divisors (line_in (get_or codes i 0) * 16 + line_in (get_or codes j 0)) 0
-        ≡ with_reciprocal (gcd (period_of l.net (get_or (calls_by_line l) j no_call)) (period_of l.net (get_or (calls_by_line l) i no_call)))
+        ≡ with_reciprocal (gcd (period_of net (get_or (calls_by_line net) j no_call)) (period_of net (get_or (calls_by_line net) i no_call)))
     word_is =
         l.divisor_of (line_in (get_or codes i 0)) (line_in (get_or codes j 0)) (line_row_low i hi) (line_row_low j hj)
-        ∙ ap₂ (λ (a b : ℕ). with_reciprocal (gcd (get_or l.net.periods a 0) (get_or l.net.periods b 0))) (line_of j hj) (line_of i hi)
-        ∙ sym (ap₂ (λ (a b : ℕ). with_reciprocal (gcd a b)) (period_of_is l.net _) (period_of_is l.net _))
+        ∙ ap₂ (λ (a b : ℕ). with_reciprocal (gcd (get_or net.periods a 0) (get_or net.periods b 0))) (line_of j hj) (line_of i hi)
+        ∙ sym (ap₂ (λ (a b : ℕ). with_reciprocal (gcd a b)) (period_of_is net _) (period_of_is net _))
 
-    period_pos : 0 < period_of l.net (get_or (calls_by_line l) j no_call)
+    period_pos : 0 < period_of net (get_or (calls_by_line net) j no_call)
     period_pos = period_of_pos l.valid _ (line_low j hj)
 
-    period_le : period_of l.net (get_or (calls_by_line l) j no_call) ≤ max_period
+    period_le : period_of net (get_or (calls_by_line net) j no_call) ≤ max_period
     period_le = period_of_le l.valid _ (line_low j hj)
 
-    divisor_of_calls_pos : 0 < gcd (period_of l.net (get_or (calls_by_line l) j no_call)) (period_of l.net (get_or (calls_by_line l) i no_call))
+    divisor_of_calls_pos : 0 < gcd (period_of net (get_or (calls_by_line net) j no_call)) (period_of net (get_or (calls_by_line net) i no_call))
     divisor_of_calls_pos = gcd_pos_left _ _ period_pos
 
-    gcd_low : gcd (period_of l.net (get_or (calls_by_line l) j no_call)) (period_of l.net (get_or (calls_by_line l) i no_call)) ≤ 1440
+    gcd_low : gcd (period_of net (get_or (calls_by_line net) j no_call)) (period_of net (get_or (calls_by_line net) i no_call)) ≤ 1440
     gcd_low = le_trans (gcd_le_left _ _ period_pos) period_le
 
     divisor_is :
         get_or divisors (line_in (get_or codes i 0) * 16 + line_in (get_or codes j 0)) 0 % 2048
-        ≡ gcd (period_of l.net (get_or (calls_by_line l) j no_call)) (period_of l.net (get_or (calls_by_line l) i no_call))
+        ≡ gcd (period_of net (get_or (calls_by_line net) j no_call)) (period_of net (get_or (calls_by_line net) i no_call))
     divisor_is = ap (λ (w : ℕ). w % 2048) word_is ∙ divisor_part _ divisor_of_calls_pos (omega (arith, gcd_low))
 
     pub divisor_pos : 0 < get_or divisors (line_in (get_or codes i 0) * 16 + line_in (get_or codes j 0)) 0 % 2048
@@ -125,12 +125,12 @@ module _ {codes previous divisors : List ℕ} (l : CallRows codes previous divis
         → fold (get_or divisors (line_in (get_or codes i 0) * 16 + line_in (get_or codes j 0)) 0 % 2048)
         (residue (pos (get_or starts (line_in (get_or codes j 0)) 0 + offset_in (get_or codes j 0)) -ℤ pos (get_or starts (line_in (get_or codes i 0)) 0 + offset_in (get_or codes i 0)))
         (get_or divisors (line_in (get_or codes i 0) * 16 + line_in (get_or codes j 0)) 0 % 2048))
-        ≡ gap_of_calls l.net (map pos starts) (get_or (calls_by_line l) j no_call) (get_or (calls_by_line l) i no_call)
+        ≡ gap_of_calls net (map pos starts) (get_or (calls_by_line net) j no_call) (get_or (calls_by_line net) i no_call)
     gap_of_rows starts =
         ap₂ (λ (a b : ℤ). fold (get_or divisors (line_in (get_or codes i 0) * 16 + line_in (get_or codes j 0)) 0 % 2048) (residue (a -ℤ b) (get_or divisors (line_in (get_or codes i 0) * 16 + line_in (get_or codes j 0)) 0 % 2048)))
         (arrives j hj)
         (arrives i hi)
-        ∙ gap_of_calls_is_fold l.net (map pos starts) (get_or (calls_by_line l) j no_call) (get_or (calls_by_line l) i no_call) _ divisor_is
+        ∙ gap_of_calls_is_fold net (map pos starts) (get_or (calls_by_line net) j no_call) (get_or (calls_by_line net) i no_call) _ divisor_is
       where
-        arrives : (k : ℕ) → k < length l.net.calls → pos (get_or starts (line_in (get_or codes k 0)) 0 + offset_in (get_or codes k 0)) ≡ arrival_of (map pos starts) (get_or (calls_by_line l) k no_call)
-        arrives k h = arrival_of_lem starts (line_in (get_or codes k 0)) (offset_in (get_or codes k 0)) (get_or (calls_by_line l) k no_call) (line_of k h) (offset_of k h)
+        arrives : (k : ℕ) → k < length net.calls → pos (get_or starts (line_in (get_or codes k 0)) 0 + offset_in (get_or codes k 0)) ≡ arrival_of (map pos starts) (get_or (calls_by_line net) k no_call)
+        arrives k h = arrival_of_lem starts (line_in (get_or codes k 0)) (offset_in (get_or codes k 0)) (get_or (calls_by_line net) k no_call) (line_of k h) (offset_of k h)

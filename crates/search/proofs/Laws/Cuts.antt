@@ -7,14 +7,17 @@ use mathlib.Core.Logic.{◌⊎◌, inl, inr}
 use native.Mathlib.Omega.{arith}
 use borrow.Author.Tests.{ltb-true, leb-true, leb-false, lt-ltb, le-ltb, le-leb, lt-leb}
 use lib.Dec.{ltb, leb}
-use Rattle.network.specs.declared.Rating.{Rating}
-use Rattle.network.specs.Rating.{is_above, reaches, is_sum_above}
+use Rattle.std.specs.Prelude.{Option, Some, None}
+use Rattle.network.specs.Rating.{Rating, is_above, reaches, is_sum_above}
 use Rattle.network.proofs.Laws.Lists.{zero_ne_one}
 use Rattle.network.proofs.Laws.Gaps.{Above, above_of_is_above, below_of_not_is_above}
 use Rattle.network.proofs.Laws.Gaps.{above_none, reaches_by_least, sum_above_none, sum_above_by_sum}
+use Rattle.network.specs.declared.Rating as held
+use Rattle.network.specs.Engine.Rated.{ranked}
+use Rattle.std.specs.Option.{is_some}
 use Rattle.search.specs.declared.Cut.{Cut}
 use Rattle.search.specs.declared.Rule.TheVariants as rules
-use Rattle.search.specs.Engine.Representation.{rule_of, rated, is_short, IsCut}
+use Rattle.search.specs.Engine.Representation.{rule_of, rated, is_no_above, is_short, IsCut}
 use Rattle.search.specs.Search.{not_above, above_best, by_sum}
 use Rattle.search.specs.Wanted.{at_least}
 
@@ -27,28 +30,39 @@ leb_is_not_ltb a b = go (leb a b) refl
 
 -- ---- what is no larger
 
+no_above_below : (beside : Option ℕ) (sum sum' : ℕ) → sum ≤ sum' → is_no_above beside sum' ≡ true → is_no_above beside sum ≡ true
+unfolding is_no_above
+no_above_below None sum sum' h e = e
+no_above_below (Some s) sum sum' h e = le-leb sum s (omega (arith, leb-true sum' s e))
+
 pub short_below : (cut : Cut) (least sum least' sum' : ℕ) → least ≤ least' → sum ≤ sum' → is_short cut least' sum' ≡ true → is_short cut least sum ≡ true
 unfolding is_short
-short_below cut least sum least' sum' h k e = go (ltb least' cut.floor) cut.beside cut.anywhere (leb least' cut.floor) (leb sum' cut.sum) refl refl refl refl refl e
+short_below cut least sum least' sum' h k e = go (ltb least' cut.floor) cut.anywhere (leb least' cut.floor) (is_no_above cut.sum sum') refl refl refl refl e
   where
     or-true : (a : Bool) {b : Bool} → b ≡ true → (a || b) ≡ true
     or-true true e = refl
     or-true false e = e
 
-    go : (a b c d f : Bool) → ltb least' cut.floor ≡ a → cut.beside ≡ b → cut.anywhere ≡ c → leb least' cut.floor ≡ d → leb sum' cut.sum ≡ f
-        → (a || (b && ((c || d) && f))) ≡ true → (ltb least cut.floor || (cut.beside && ((cut.anywhere || leb least cut.floor) && leb sum cut.sum))) ≡ true
-    go true b c d f ea eb ec ed ef e = rw (lt-ltb least cut.floor (omega (arith, ltb-true least' cut.floor ea))) refl
-    go false true true d true ea eb ec ed ef e =
-        or-true (ltb least cut.floor) (rw (eb, ec, le-leb sum cut.sum (omega (arith, leb-true sum' cut.sum ef))) refl)
-    go false true false true true ea eb ec ed ef e =
+    go : (a c d f : Bool) → ltb least' cut.floor ≡ a → cut.anywhere ≡ c → leb least' cut.floor ≡ d → is_no_above cut.sum sum' ≡ f
+        → (a || ((c || d) && f)) ≡ true → (ltb least cut.floor || ((cut.anywhere || leb least cut.floor) && is_no_above cut.sum sum)) ≡ true
+    go true c d f ea ec ed ef e = rw (lt-ltb least cut.floor (omega (arith, ltb-true least' cut.floor ea))) refl
+    go false true d true ea ec ed ef e = or-true (ltb least cut.floor) (rw (ec, no_above_below cut.sum sum sum' k ef) refl)
+    go false false true true ea ec ed ef e =
         or-true (ltb least cut.floor)
-        (rw (eb, ec, le-leb least cut.floor (omega (arith, leb-true least' cut.floor ed)), le-leb sum cut.sum (omega (arith, leb-true sum' cut.sum ef))) refl)
-    go false true true d false ea eb ec ed ef e = absurd (zero_ne_one (cc))
-    go false true false true false ea eb ec ed ef e = absurd (zero_ne_one (cc))
-    go false true false false f ea eb ec ed ef e = absurd (zero_ne_one (cc))
-    go false false c d f ea eb ec ed ef e = absurd (zero_ne_one (cc))
+        (rw (ec, le-leb least cut.floor (omega (arith, leb-true least' cut.floor ed)), no_above_below cut.sum sum sum' k ef) refl)
+    go false true d false ea ec ed ef e = absurd (zero_ne_one (cc))
+    go false false true false ea ec ed ef e = absurd (zero_ne_one (cc))
+    go false false false f ea ec ed ef e = absurd (zero_ne_one (cc))
 
 -- ---- the test, case by case
+
+and-false : (t : Bool) → false ≡ (t && false)
+and-false true = refl
+and-false false = refl
+
+and-true : (t : Bool) → t ≡ (t && true)
+and-true true = refl
+and-true false = refl
 
 module _ (cut : Cut) (least sum : ℕ) where
   pub short_below_floor : least < cut.floor → true ≡ is_short cut least sum
@@ -56,27 +70,30 @@ module _ (cut : Cut) (least sum : ℕ) where
   short_below_floor h = rw (lt-ltb least cut.floor h) refl
 
   module _ (reached : cut.floor ≤ least) where
-    pub short_anywhere : cut.beside ≡ true → cut.anywhere ≡ true → leb sum cut.sum ≡ is_short cut least sum
-    unfolding is_short
-    short_anywhere e f = rw (le-ltb least cut.floor reached, e, f) refl
+    module _ {beside : ℕ} (is_beside : cut.sum ≡ Some beside) where
+      pub stands_above_sum : beside < sum → leb sum beside ≡ is_short cut least sum
+      unfolding is_short is_no_above
+      stands_above_sum h = rw (le-ltb least cut.floor reached, is_beside, lt-leb sum beside h) (and-false (cut.anywhere || leb least cut.floor))
 
-    pub short_at_floor : cut.beside ≡ true → cut.anywhere ≡ false → least ≤ cut.floor → leb sum cut.sum ≡ is_short cut least sum
-    unfolding is_short
-    short_at_floor e f h = rw (le-ltb least cut.floor reached, e, f, le-leb least cut.floor h) refl
+      below_beside : sum ≤ beside → (cut.anywhere || leb least cut.floor) ≡ is_short cut least sum
+      unfolding is_short is_no_above
+      below_beside h = rw (le-ltb least cut.floor reached, is_beside, le-leb sum beside h) (and-true (cut.anywhere || leb least cut.floor))
 
-    pub stands_above_floor : cut.beside ≡ true → cut.anywhere ≡ false → cut.floor < least → false ≡ is_short cut least sum
-    unfolding is_short
-    stands_above_floor e f h = rw (le-ltb least cut.floor reached, e, f, lt-leb least cut.floor h) refl
+      pub short_anywhere : sum ≤ beside → cut.anywhere ≡ true → cut.anywhere ≡ is_short cut least sum
+      short_anywhere h e = e ∙ sym (ap (λ (t : Bool). t || leb least cut.floor) e) ∙ below_beside h
 
-    pub stands_alone : cut.beside ≡ false → false ≡ is_short cut least sum
-    unfolding is_short
-    stands_alone e = rw (le-ltb least cut.floor reached, e) refl
+      pub short_at_floor : sum ≤ beside → cut.anywhere ≡ false → leb least cut.floor ≡ is_short cut least sum
+      short_at_floor h e = sym (ap (λ (t : Bool). t || leb least cut.floor) e) ∙ below_beside h
+
+    pub stands_alone : cut.sum ≡ None → false ≡ is_short cut least sum
+    unfolding is_short is_no_above
+    stands_alone e = rw (le-ltb least cut.floor reached, e) (and-false (cut.anywhere || leb least cut.floor))
 
 -- ---- the cut of each rule
 
 module _ (best : Rating) where
-  pub above_best_cut : best.some ≡ true → IsCut rules.AboveBest best (record { floor = best.least; beside = true; anywhere = false; sum = best.sum })
-  unfolding is_short rule_of above_best not_above
+  pub above_best_cut : best.some ≡ true → IsCut rules.AboveBest best (record { floor = best.least; sum = Some best.sum; anywhere = false })
+  unfolding is_short is_no_above rule_of above_best not_above
   above_best_cut some least sum = go (is_above (rated least sum) best) refl
     where
       over : Above (rated least sum) best → (ltb least best.least || (leb least best.least && leb sum best.sum)) ≡ false
@@ -91,21 +108,26 @@ module _ (best : Rating) where
       go true e = over (above_of_is_above (rated least sum) best refl some e)
       go false e = under (below_of_not_is_above (rated least sum) best refl some e)
 
-  pub no_best_cut : best.some ≡ false → IsCut rules.AboveBest best (record { floor = 0; beside = false; anywhere = false; sum = 0 })
-  unfolding is_short rule_of above_best not_above
-  no_best_cut none least sum = rw (le-ltb least 0 (omega arith), above_none (rated least sum) best refl none) refl
+  pub no_best_cut : best.some ≡ false → IsCut rules.AboveBest best (record { floor = 0; sum = None; anywhere = false })
+  unfolding is_short is_no_above rule_of above_best not_above
+  no_best_cut none least sum = rw (le-ltb least 0 (omega arith), above_none (rated least sum) best refl none) (sym (and-false (leb least 0)))
 
-  pub at_least_cut : (wanted : ℕ) → IsCut (rules.AtLeast wanted) best (record { floor = wanted; beside = false; anywhere = false; sum = 0 })
-  unfolding is_short rule_of at_least
+  pub at_least_cut : (wanted : ℕ) → IsCut (rules.AtLeast wanted) best (record { floor = wanted; sum = None; anywhere = false })
+  unfolding is_short is_no_above rule_of at_least
   at_least_cut wanted least sum = go (ltb least wanted)
     where
-      go : (t : Bool) → (t || false) ≡ t
+      go : (t : Bool) → (t || (leb least wanted && false)) ≡ t
       go true = refl
-      go false = refl
+      go false = sym (and-false (leb least wanted))
 
-  pub by_sum_cut : (floor : ℕ) → IsCut (rules.BySum floor) best (record { floor = floor; beside = best.some; anywhere = true; sum = best.sum })
-  unfolding is_short rule_of by_sum
-  by_sum_cut floor least sum = ap (λ (t : Bool). ltb least floor || (best.some && t)) (leb_is_not_ltb sum best.sum)
+  module _ (floor : ℕ) where
+    pub by_sum_cut : best.some ≡ true → IsCut (rules.BySum floor) best (record { floor = floor; sum = Some best.sum; anywhere = true })
+    unfolding is_short is_no_above rule_of by_sum
+    by_sum_cut some least sum = rw some (ap (λ (t : Bool). ltb least floor || t) (leb_is_not_ltb sum best.sum))
+
+    pub by_sum_alone_cut : best.some ≡ false → IsCut (rules.BySum floor) best (record { floor = floor; sum = None; anywhere = true })
+    unfolding is_short is_no_above rule_of by_sum
+    by_sum_alone_cut none least sum = rw none refl
 
 -- ---- what stands by each rule
 
@@ -133,3 +155,9 @@ module _ (upper best : Rating) where
           go : (t : Bool) → best.some ≡ t → is_sum_above upper best ≡ not (t && not (ltb best.sum upper.sum))
           go true f = sum_above_by_sum upper best some f ∙ sym (not-not (ltb best.sum upper.sum))
           go false f = sum_above_none upper best some f
+
+-- ---- a rating, or none
+
+pub some_is : (best : Option held.Rating) → is_some best ≡ (ranked best).some
+some_is None = refl
+some_is (Some r) = refl

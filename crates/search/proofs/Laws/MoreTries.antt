@@ -9,7 +9,7 @@ use mathlib.Core.Logic.{◌⊎◌, inl, inr}
 use native.Mathlib.Nat.{le_refl}
 use native.Mathlib.Omega.{arith}
 use lib.IntN.{ℤ, pos}
-use Rattle.network.specs.declared.Rating.{Rating}
+use Rattle.network.specs.Rating.{Rating}
 use Rattle.network.specs.Network.{Net}
 use Rattle.network.proofs.Laws.Lists.{zero_ne_one}
 use Rattle.search.specs.Walk.{State, Rule, at_first, try_made, stop, becomes_best, one_try, each_start, walk}

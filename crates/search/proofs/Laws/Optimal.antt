@@ -8,7 +8,7 @@ use mathlib.Core.Logic.{◌⊎◌, ◌↔◌}
 use native.Mathlib.Omega.{arith}
 use lib.IntN.{ℤ}
 use lib.ListN.{length}
-use Rattle.network.specs.declared.Rating.{Rating}
+use Rattle.network.specs.Rating.{Rating}
 use Rattle.network.specs.Network.{Net}
 use Rattle.network.specs.Valid.{Valid}
 use Rattle.network.specs.Rating.{IsRating, rating, is_above}

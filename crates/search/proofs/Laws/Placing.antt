@@ -11,7 +11,7 @@ use lib.IntN.{ℤ, pos}
 use lib.ListN.{length, get_or, take, set, length-set, length-map, length-append, get_or-map}
 use lib.Seq.{get_or-set_same, get_or-set_other, get_or-take, length-take-le}
 use Rattle.network.specs.declared.Call.{Call}
-use Rattle.network.specs.declared.Rating.{Rating}
+use Rattle.network.specs.Rating.{Rating}
 use Rattle.network.specs.Network.{Net, is_served, max_period}
 use Rattle.network.specs.Rating.{gap_of_calls, counted, rating_by}
 use Rattle.network.specs.Lists.{least_from}
@@ -148,7 +148,7 @@ pub lowering_first :
     (n : Net) → Valid n → (line start : ℕ) (p : Placed)
     → line < length n.periods
     → Represents n line p
-    → Lowering n (map pos (set p.starts line start)) p.values p.least p.sum (length (by_line n.calls line))
+    → Lowering n (map pos (set p.starts line start)) p.values p.upper.least p.upper.sum (length (by_line n.calls line))
 unfolding upper_rating
 lowering_first n valid line start p h rep =
     record {
@@ -170,7 +170,7 @@ pub lowering_last :
     → length starts ≡ 16
     → ((i : ℕ) → get_or starts i 0 < max_period)
     → Lowering n (map pos starts) values least sum (length (by_line n.calls (line + 1)))
-    → Represents n (line + 1) (record { starts = starts; values = values; least = least; sum = sum })
+    → Represents n (line + 1) (record { starts = starts; values = values; upper = record { least = least; sum = sum } })
 unfolding upper_rating
 lowering_last n valid line starts values least sum h row low now =
     record {

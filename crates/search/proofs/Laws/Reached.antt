@@ -6,6 +6,9 @@ use mathlib.Core.List.{List}
 use native.Mathlib.Omega.{arith}
 use lib.IntN.{ℤ}
 use lib.ListN.{length}
+use Rattle.std.specs.Prelude.{Ok, Err}
+use Rattle.network.specs.declared.grounds.Refusal.{Refusal}
+use Rattle.network.specs.Numbers.{number_of}
 use Rattle.network.specs.Archive.{SameOffsets}
 use Rattle.network.specs.Lists.{pick}
 use Rattle.network.specs.Network.{Net}
@@ -22,24 +25,24 @@ use Rattle.search.proofs.Laws.OnNetwork.{walked_tries_le, walked_tries_le_budget
 use Rattle.search.proofs.Laws.Reordered.{walked_same}
 use Rattle.search.proofs.Laws.StartRow.{on_start_row_fit, on_start_row_cases, on_start_row_same, on_start_row_refuses, on_start_row_refuses_only}
 
--- ---- the call's enum
+-- ---- the call's answer
 
 module _ (tries : ℕ) where
-  pub wanted_answer_found : wanted_answer (answer.Found tries) ≡ found tries
+  pub wanted_answer_found : wanted_answer (Ok (answer.Found tries)) ≡ found tries
   unfolding wanted_answer
   wanted_answer_found = refl
 
-  pub wanted_answer_none : wanted_answer (answer.None tries) ≡ none tries
+  pub wanted_answer_none : wanted_answer (Ok (answer.None tries)) ≡ none tries
   unfolding wanted_answer
   wanted_answer_none = refl
 
-  pub wanted_answer_stopped : wanted_answer (answer.Stopped tries) ≡ stopped tries
+  pub wanted_answer_stopped : wanted_answer (Ok (answer.Stopped tries)) ≡ stopped tries
   unfolding wanted_answer
   wanted_answer_stopped = refl
 
-pub wanted_answer_refused : (number place : ℕ) → wanted_answer (answer.Refused number place) ≡ refusal number place
+pub wanted_answer_refused : (r : Refusal) → wanted_answer (Err r) ≡ refusal (number_of r.reason) r.place
 unfolding wanted_answer
-wanted_answer_refused number place = refl
+wanted_answer_refused r = refl
 
 -- ---- what a walk at its end gives
 

@@ -8,7 +8,7 @@ use native.Mathlib.Omega.{arith}
 use borrow.Author.Tests.{lt-ltb}
 use lib.IntN.{ℤ, pos}
 use lib.ListN.{length}
-use Rattle.network.specs.declared.Rating.{Rating}
+use Rattle.network.specs.Rating.{Rating}
 use Rattle.network.specs.Network.{Net, is_served, max_period}
 use Rattle.network.specs.Valid.{Valid}
 use Rattle.network.specs.Rating.{IsRating, rating}

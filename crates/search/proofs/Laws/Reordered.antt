@@ -11,7 +11,7 @@ use lib.IntN.{ℤ}
 use lib.ListN.{length}
 use borrow.Author.Tests.{eq-eqb, ne_eqb}
 use Rattle.network.specs.declared.Call.{Call}
-use Rattle.network.specs.declared.Rating.{Rating}
+use Rattle.network.specs.Rating.{Rating}
 use Rattle.network.specs.Archive.{SameOffsets}
 use Rattle.network.specs.Lists.{pick, least_of, pairs_of, sum_of, least_from}
 use Rattle.network.specs.Divisor.{gcd}

@@ -16,7 +16,7 @@ use Rattle.network.specs.Refusals.{Refuses, by_file, after_file, Unfit}
 use Rattle.search.specs.Search.{on_start_row}
 
 module _ {A : Type 0} (call : Net → A) (refuses : ℕ → ℕ → A) where
-  on_start_row_refused : (number place row : ℕ) → on_start_row call refuses (refused number place) row ≡ refuses number place
+  pub on_start_row_refused : (number place row : ℕ) → on_start_row call refuses (refused number place) row ≡ refuses number place
   unfolding on_start_row
   on_start_row_refused number place row = refl
 
@@ -25,7 +25,7 @@ module _ {A : Type 0} (call : Net → A) (refuses : ℕ → ℕ → A) where
     unfolding on_start_row
     on_start_row_fit fits = ap (λ (b : Bool). pick b (call n) (refuses 16 0)) (eq-eqb _ _ fits)
 
-    on_start_row_unfit : (row ≡ length n.periods → ⊥) → on_start_row call refuses (accepted n) row ≡ refuses 16 0
+    pub on_start_row_unfit : (row ≡ length n.periods → ⊥) → on_start_row call refuses (accepted n) row ≡ refuses 16 0
     unfolding on_start_row
     on_start_row_unfit unfit = ap (λ (b : Bool). pick b (call n) (refuses 16 0)) (ne_eqb _ _ unfit)
 

@@ -10,9 +10,12 @@ use borrow.Author.Tests.{eq-eqb, ne_eqb}
 use native.Mathlib.Numerals.{add-one}
 use native.Mathlib.Omega.{arith}
 use lib.IntN.{ℤ, pos}
+use Rattle.std.specs.Prelude.{Some}
 use lib.ListN.{length, get_or, drop}
-use Rattle.network.specs.declared.Rating.{Rating}
+use Rattle.network.specs.Rating.{Rating}
 use Rattle.network.specs.Network.{Net, max_period}
+use Rattle.network.specs.declared.Rating as held
+use Rattle.network.specs.Engine.Rated.{ranked}
 use Rattle.network.specs.Valid.{Valid}
 use Rattle.network.proofs.Laws.Lists.{zero_ne_one}
 use Rattle.search.specs.declared.Walk as code
@@ -83,12 +86,12 @@ module _ (n : Net) (rule : Rule) (budget : ℕ) where
 
     -- a walk that hasn't stopped
     module _ (e : w.stopped ≡ false) where
-      pub try_ended : (rule.ends_at_first && w.best.some) ≡ true → state_of n w ≡ try_at n rule budget k placed x (state_of n w)
+      pub try_ended : (rule.ends_at_first && (ranked w.best).some) ≡ true → state_of n w ≡ try_at n rule budget k placed x (state_of n w)
       unfolding try_at one_try is_over state_of state_by unless
       try_ended o = rw (e, o) refl
 
       -- and hasn't ended
-      module _ (o : (rule.ends_at_first && w.best.some) ≡ false) where
+      module _ (o : (rule.ends_at_first && (ranked w.best).some) ≡ false) where
         pub try_at_budget : w.tries ≡ budget
             → state_of n (record { tries = w.tries; stopped = true; best = w.best; starts = w.starts }) ≡ try_at n rule budget k placed x (state_of n w)
         unfolding try_at one_try is_over state_of state_by unless stop_if stop
@@ -99,70 +102,65 @@ module _ (n : Net) (rule : Rule) (budget : ℕ) where
           abbrev more : code.Walk
           more = record { tries = w.tries + 1; stopped = w.stopped; best = w.best; starts = w.starts }
 
-          pub try_dropped : rule.drops upper w.best ≡ true → state_of n more ≡ try_at n rule budget k placed x (state_of n w)
+          pub try_dropped : rule.drops upper (ranked w.best) ≡ true → state_of n more ≡ try_at n rule budget k placed x (state_of n w)
           unfolding try_at one_try is_over state_of state_by unless stop_if try_made
           try_dropped f = rw (e, o, ne_eqb w.tries budget b, f) refl
 
-          pub try_onward : rule.drops upper w.best ≡ false
+          pub try_onward : rule.drops upper (ranked w.best) ≡ false
               → walk_from n rule budget (suc k) (placed ++ (pos x ∷ [])) (state_of n more) ≡ try_at n rule budget k placed x (state_of n w)
           unfolding try_at one_try is_over state_of state_by unless stop_if try_made
           try_onward f = rw (e, o, ne_eqb w.tries budget b, f) refl
 
           -- on the last line
-          best_state : suc k ≡ length n.periods → (starts : List ℕ) → starts_of (suc k) starts ≡ placed ++ (pos x ∷ []) → upper.some ≡ true
-              → state_of n (record { tries = w.tries + 1; stopped = w.stopped; best = upper; starts = starts })
-              ≡ becomes_best upper (placed ++ (pos x ∷ [])) (state_of n more)
-          unfolding state_of state_by becomes_best
-          best_state last starts given some = rw (← last, some, given) refl
+          module _ (last : suc k ≡ length n.periods) (starts : List ℕ) (given : starts_of (suc k) starts ≡ placed ++ (pos x ∷ [])) (r : held.Rating)
+              (is_upper : ranked (Some r) ≡ upper) where
+            some : upper.some ≡ true
+            some = ap (λ (q : Rating). q.some) (sym is_upper)
 
-          pub try_best : rule.drops upper w.best ≡ false → suc k ≡ length n.periods
-              → (starts : List ℕ) → starts_of (suc k) starts ≡ placed ++ (pos x ∷ []) → upper.some ≡ true
-              → state_of n (record { tries = w.tries + 1; stopped = w.stopped; best = upper; starts = starts }) ≡ try_at n rule budget k placed x (state_of n w)
-          try_best f last starts given some =
-              best_state last starts given some
-              ∙ sym (walk_from_last (suc k) (placed ++ (pos x ∷ [])) (state_of n more) (omega (arith, last)))
-              ∙ try_onward f
+            best_state :
+                state_of n (record { tries = w.tries + 1; stopped = w.stopped; best = Some r; starts = starts })
+                ≡ becomes_best upper (placed ++ (pos x ∷ [])) (state_of n more)
+            unfolding state_of state_by becomes_best
+            best_state = rw (← last, is_upper, some, given) refl
+
+            pub try_best : rule.drops upper (ranked w.best) ≡ false
+                → state_of n (record { tries = w.tries + 1; stopped = w.stopped; best = Some r; starts = starts }) ≡ try_at n rule budget k placed x (state_of n w)
+            try_best f =
+                best_state
+                ∙ sym (walk_from_last (suc k) (placed ++ (pos x ∷ [])) (state_of n more) (omega (arith, last)))
+                ∙ try_onward f
 
 -- ---- the code's try, by the partial timetable that it makes
 
-pub can_place : {n : Net} {task : Task} {line : ℕ} {p : Placed} → CanTry n task line p
+pub can_place : {n : Net} {line : ℕ} {p : Placed} → CanTry n line p
     → (start : ℕ) → start < max_period → CanPlace n line start p
 can_place can start low = record { stated = can.stated; start_low = low; before = can.before }
 
-module _ {n : Net} {task : Task} {line : ℕ} {p : Placed} (can : CanTry n task line p)
-    {start : ℕ} {r : Placed} (more_placed : PlacedMore n line start p r) where
+pub can_try_next : {n : Net} {line : ℕ} {p : Placed} {start : ℕ} {r : Placed} → PlacedMore n line start p r → line + 1 < length n.periods
+    → CanTry n (line + 1) r
+can_try_next more_placed l = record { stated = l; before = more_placed.one_more }
+
+module _ {n : Net} (task : Task) {line : ℕ} {p : Placed} {start : ℕ} {r : Placed} (more_placed : PlacedMore n line start p r) where
   abbrev rule : Rule
   rule = rule_of task.rule
 
-  made_is : rated r.least r.sum ≡ upper_rating n (cap n) (with_start line start p)
+  made_is : rated r.upper.least r.upper.sum ≡ upper_rating n (cap n) (with_start line start p)
   made_is = more_placed.one_more.rating_of ∙ ap (upper_rating n (cap n)) more_placed.appended
 
-  pub can_try_next : line < task.last → CanTry n task (line + 1) r
-  can_try_next l =
-      record {
-        stated = omega (arith, l, can.last_of);
-        last_of = can.last_of;
-        before = more_placed.one_more;
-      }
-
-  -- the starts of the next line are few
-  pub next_few : Valid n → line < task.last → get_or (start_counts n.periods) (line + 1) 0 ≤ max_period
-  next_few v l = start_counts_low n v (line + 1) (omega (arith, l, can.last_of))
-
-  module _ (w : code.Walk) (e : w.stopped ≡ false) (o : (rule.ends_at_first && w.best.some) ≡ false) (b : w.tries ≡ task.budget → ⊥) where
+  module _ (w : code.Walk) (e : w.stopped ≡ false) (o : (rule.ends_at_first && (ranked w.best).some) ≡ false) (b : w.tries ≡ task.budget → ⊥) where
     abbrev made : code.Walk
     made = record { tries = w.tries + 1; stopped = w.stopped; best = w.best; starts = w.starts }
 
-    test_is : {q : Bool} → rule.drops (rated r.least r.sum) w.best ≡ q → rule.drops (upper_rating n (cap n) (with_start line start p)) w.best ≡ q
-    test_is f = ap (λ (u : Rating). rule.drops u w.best) (sym made_is) ∙ f
+    test_is : {q : Bool} → rule.drops (rated r.upper.least r.upper.sum) (ranked w.best) ≡ q → rule.drops (upper_rating n (cap n) (with_start line start p)) (ranked w.best) ≡ q
+    test_is f = ap (λ (u : Rating). rule.drops u (ranked w.best)) (sym made_is) ∙ f
 
     -- dropped
-    pub judged_dropped : rule.drops (rated r.least r.sum) w.best ≡ true
+    pub judged_dropped : rule.drops (rated r.upper.least r.upper.sum) (ranked w.best) ≡ true
         → state_of n made ≡ try_at n rule task.budget line (starts_of line p.starts) start (state_of n w)
     judged_dropped f = try_dropped n rule task.budget line (starts_of line p.starts) start w e o b (test_is f)
 
     -- sent to the next line
-    pub judged_next : rule.drops (rated r.least r.sum) w.best ≡ false → line < task.last
+    pub judged_next : rule.drops (rated r.upper.least r.upper.sum) (ranked w.best) ≡ false → line + 1 < length n.periods
         → (count : ℕ) → count ≡ get_or (start_counts n.periods) (line + 1) 0
         → (res : code.Walk)
         → state_of n res ≡ each_start (try_at n rule task.budget (line + 1) (starts_of (line + 1) r.starts)) 0 count (state_of n made)
@@ -170,44 +168,45 @@ module _ {n : Net} {task : Task} {line : ℕ} {p : Placed} (can : CanTry n task 
     judged_next f l count count_is res h =
         h
         ∙ ap (λ (count : ℕ). each_start (try_at n rule task.budget (line + 1) (starts_of (line + 1) r.starts)) 0 count (state_of n made)) count_is
-        ∙ sym (walk_from_next n rule task.budget (line + 1) (starts_of (line + 1) r.starts) (state_of n made) (omega (arith, l, can.last_of)))
+        ∙ sym (walk_from_next n rule task.budget (line + 1) (starts_of (line + 1) r.starts) (state_of n made) l)
         ∙ ap (λ (starts : List ℤ). walk_from n rule task.budget (line + 1) starts (state_of n made)) more_placed.appended
         ∙ ap (λ (k : ℕ). walk_from n rule task.budget k (with_start line start p) (state_of n made)) (add-one line)
         ∙ try_onward n rule task.budget line (starts_of line p.starts) start w e o b (test_is f)
 
     -- the best
-    pub judged_best : rule.drops (rated r.least r.sum) w.best ≡ false → task.last ≤ line
-        → state_of n (record { tries = w.tries + 1; stopped = w.stopped; best = rated r.least r.sum; starts = r.starts }) ≡ try_at n rule task.budget line (starts_of line p.starts) start (state_of n w)
-    judged_best f l =
-        ap (λ (u : Rating). state_of n (record { tries = w.tries + 1; stopped = w.stopped; best = u; starts = r.starts })) made_is
-        ∙ try_best n rule task.budget line (starts_of line p.starts) start w e o b (test_is f) (omega (arith, l, can.last_of, can.stated)) r.starts
+    pub judged_best : rule.drops (rated r.upper.least r.upper.sum) (ranked w.best) ≡ false → line < length n.periods → length n.periods ≤ line + 1
+        → state_of n (record { tries = w.tries + 1; stopped = w.stopped; best = Some r.upper; starts = r.starts }) ≡ try_at n rule task.budget line (starts_of line p.starts) start (state_of n w)
+    judged_best f stated l =
+        try_best n rule task.budget line (starts_of line p.starts) start w e o b (omega (arith, l, stated)) r.starts
         (subst (λ (k : ℕ). starts_of k r.starts ≡ with_start line start p) (add-one line) more_placed.appended)
-        (ap (λ (u : Rating). u.some) (sym made_is))
+        r.upper
+        made_is
+        (test_is f)
 
 -- ---- the same where a placing may have been given up
 
-module _ {n : Net} {task : Task} {line : ℕ} {p : Placed} (can : CanTry n task line p)
-    {cut : Cut} {start : ℕ} {r : Placed} (w : code.Walk) (is_cut : IsCut task.rule w.best cut) where
+module _ {n : Net} (task : Task) {line : ℕ} {p : Placed}
+    {cut : Cut} {start : ℕ} {r : Placed} (w : code.Walk) (is_cut : IsCut task.rule (ranked w.best) cut) where
   -- what a placing that is given up has come to is not kept
-  pub given_up_is_dropped : GivenUp n cut line start p r → (rule_of task.rule).drops (rated r.least r.sum) w.best ≡ true
-  given_up_is_dropped given_up = sym (is_cut r.least r.sum) ∙ given_up.come_to
+  pub given_up_is_dropped : GivenUp n cut line start p r → (rule_of task.rule).drops (rated r.upper.least r.upper.sum) (ranked w.best) ≡ true
+  given_up_is_dropped given_up = sym (is_cut r.upper.least r.upper.sum) ∙ given_up.come_to
 
   -- so that a placing that stands was not given up
   pub placed_of_stands : PlacedMore n line start p r ⊎ GivenUp n cut line start p r
-      → (rule_of task.rule).drops (rated r.least r.sum) w.best ≡ false → PlacedMore n line start p r
+      → (rule_of task.rule).drops (rated r.upper.least r.upper.sum) (ranked w.best) ≡ false → PlacedMore n line start p r
   placed_of_stands (inl more_placed) e = more_placed
   placed_of_stands (inr given_up) e = absurd (zero_ne_one (cc (given_up_is_dropped given_up)))
 
-  pub dropped_or_given_up : w.stopped ≡ false → ((rule_of task.rule).ends_at_first && w.best.some) ≡ false
+  pub dropped_or_given_up : w.stopped ≡ false → ((rule_of task.rule).ends_at_first && (ranked w.best).some) ≡ false
       → (w.tries ≡ task.budget → ⊥)
       → PlacedMore n line start p r ⊎ GivenUp n cut line start p r
-      → (rule_of task.rule).drops (rated r.least r.sum) w.best ≡ true
+      → (rule_of task.rule).drops (rated r.upper.least r.upper.sum) (ranked w.best) ≡ true
       → state_of n (record { tries = w.tries + 1; stopped = w.stopped; best = w.best; starts = w.starts })
       ≡ try_at n (rule_of task.rule) task.budget line (starts_of line p.starts) start (state_of n w)
-  dropped_or_given_up e o b (inl more_placed) f = judged_dropped can more_placed w e o b f
+  dropped_or_given_up e o b (inl more_placed) f = judged_dropped task more_placed w e o b f
   dropped_or_given_up e o b (inr given_up) f =
       try_dropped n (rule_of task.rule) task.budget line (starts_of line p.starts) start w e o b
-      (sym (ap (λ (q : Rating). (rule_of task.rule).drops q w.best) (upper_rating_numbers n (cap n) (with_start line start p))) ∙ sym (is_cut _ _) ∙ given_up.upper)
+      (sym (ap (λ (q : Rating). (rule_of task.rule).drops q (ranked w.best)) (upper_rating_numbers n (cap n) (with_start line start p))) ∙ sym (is_cut _ _) ∙ given_up.upper)
 
 -- ---- a line's starts in two halves
 

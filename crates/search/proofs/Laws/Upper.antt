@@ -11,7 +11,7 @@ use lib.Dec.{ltb}
 use lib.IntN.{ℤ, pos}
 use lib.ListN.{length, length-append, get_or-append}
 use Rattle.network.specs.declared.Call.{Call}
-use Rattle.network.specs.declared.Rating.{Rating}
+use Rattle.network.specs.Rating.{Rating}
 use Rattle.network.specs.Network.{Net, is_served}
 use Rattle.network.specs.Valid.{no_call, Valid}
 use Rattle.network.specs.Rating.{gap_of_calls, pair_gaps, gap_of_stop, calls_of_stop, stop_gap}

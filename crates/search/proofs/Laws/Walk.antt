@@ -11,7 +11,7 @@ use borrow.Author.Tests.{eqb-true, eqb-false}
 use lib.Dec.{eqb}
 use lib.IntN.{ℤ, pos}
 use lib.ListN.{length, get_or}
-use Rattle.network.specs.declared.Rating.{Rating}
+use Rattle.network.specs.Rating.{Rating}
 use Rattle.network.proofs.Laws.Lists.{zero_ne_one}
 use Rattle.network.proofs.Laws.Members.{All}
 use Rattle.search.specs.Walk.{State, Rule, is_over, try_made, stop, becomes_best, unless, stop_if, one_try, each_start, walk, most_tries}

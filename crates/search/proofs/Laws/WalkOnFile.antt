@@ -6,20 +6,21 @@ use mathlib.Core.Bool.{Bool, true, false}
 use mathlib.Core.List.{List, [], ◌∷◌, map}
 use native.Mathlib.Omega.{arith}
 use borrow.Author.Tests.{le-ltb}
+use Rattle.std.specs.Prelude.{None, Result, Ok, Err}
 use lib.Dec.{ltb}
 use lib.IntN.{ℤ}
 use lib.ListN.{length, get_or, replicate, length-replicate}
 use Rattle.network.specs.declared.Call.{Call}
-use Rattle.network.specs.declared.Check.{Check}
-use Rattle.network.specs.declared.Check.TheVariants as checks
-use Rattle.network.specs.declared.Network.{Network}
-use Rattle.network.specs.declared.Rating.{Rating}
+use Rattle.network.specs.declared.grounds.Refusal.{Refusal}
+use Rattle.network.specs.declared.Rows.{Rows}
+use Rattle.network.specs.Numbers.{number_of}
+use Rattle.network.specs.declared.Rating as held
+use Rattle.network.specs.Engine.Rated.{rated, ranked}
 use Rattle.network.specs.Divisor.{gcd}
-use Rattle.network.specs.Lists.{pick, sum_of, least_of, least_from}
+use Rattle.network.specs.Lists.{sum_of, least_of, least_from}
 use Rattle.network.specs.Network.{Net, is_served, max_stop, max_period}
-use Rattle.network.specs.Rating.{pair_gaps, calls_of_stop, served_list, counted, rating_by, no_rating}
-use Rattle.network.specs.Reading.{Reading, accepted, read_file}
-use Rattle.network.specs.Refusals.{Refuses, Unfit}
+use Rattle.network.specs.Rating.{Rating, pair_gaps, calls_of_stop, served_list, counted, rating_by}
+use Rattle.network.specs.Reading.{Reading}
 use Rattle.network.specs.Engine.Scan.{LeadsBack, counted_stops}
 use Rattle.network.specs.Engine.Stored.{net_of, calls_in, Sound, packed}
 use Rattle.network.specs.Valid.{Valid, no_call}
@@ -27,20 +28,19 @@ use Rattle.network.proofs.Laws.Lists.{get_d_zeros}
 use Rattle.network.proofs.Laws.Members.{keep_none}
 use Rattle.network.proofs.Laws.Packed.{call_in_row}
 use Rattle.network.proofs.Laws.Stored.{held_lines, held_calls, held_period, held_call}
-use Rattle.network.proofs.Laws.Gaps.{rating_by_same, counted_of_member, counted_served, rating_by_counted, leads_back_fewer, leads_back_same}
+use Rattle.network.proofs.Laws.Gaps.{rating_by_same, counted_of_member, counted_served, rating_by_counted, leads_back_fewer, leads_back_same, leads_back_at}
 use Rattle.network.proofs.Laws.Gaps.{least_from_pair_gaps_few, sum_of_served_le}
-use Rattle.search.specs.declared.Ended as code_ended
 use Rattle.search.specs.declared.Walk as code
 use Rattle.search.specs.Caps.{cap, placed_calls, upper_value, upper_rating}
 use Rattle.search.specs.Engine.Representation.{Represents, NetworkRows, first_in, count_in, starts_of, walk_from, try_at, with_reciprocal}
-use Rattle.search.specs.Engine.Representation.{state_by, state_of, ended, refusal, ending_by, ending_of, from_ending}
+use Rattle.search.specs.Engine.Representation.{state_by, state_of, ended, refusal, ending_of, from_ending}
 use Rattle.search.specs.Engine.Layout.{by_line, in_line_order}
 use Rattle.search.specs.Search.{start_counts, walked, on_start_row, row_after_walk}
 use Rattle.search.specs.Walk.{State, Rule, at_first, each_start}
 use Rattle.search.proofs.Laws.CapScan.{cap_le}
 use Rattle.search.proofs.Laws.Layout.{length_by_line_all}
 use Rattle.search.proofs.Laws.CallRows.{by_line_all}
-use Rattle.search.proofs.Laws.StartRow.{on_start_row_fit, on_start_row_refuses, on_start_row_made}
+use Rattle.search.proofs.Laws.StartRow.{on_start_row_made}
 use Rattle.search.proofs.Laws.Tries.{walk_from_next}
 
 -- ---- no line placed
@@ -64,9 +64,9 @@ module _ (n : Net) (valid : Valid n) where
 
   -- the rating that the rows of caps and of served stops give
   pub caps_rating :
-      (caps served weights : List ℕ)
+      (caps : List ℕ) (served : List Bool) (weights : List ℕ)
       → ((stop : ℕ) → stop < 64 → get_or caps stop 0 ≡ cap n stop)
-      → ((stop : ℕ) → stop < 64 → ltb 0 (get_or served stop 0) ≡ is_served stop n.calls)
+      → ((stop : ℕ) → stop < 64 → get_or served stop false ≡ is_served stop n.calls)
       → ((stop : ℕ) → stop < 64 → get_or weights stop 0 ≡ 1)
       → rating_by (λ stop. get_or caps stop 0) (counted_stops served weights) ≡ rating_by (cap n) (counted n)
   caps_rating caps served weights h k e =
@@ -75,11 +75,11 @@ module _ (n : Net) (valid : Valid n) where
 
   -- before the first try
   pub unplaced_represents :
-      (caps : List ℕ) (r : Rating)
+      (caps : List ℕ) (r : held.Rating)
       → length caps ≡ 64
       → ((stop : ℕ) → stop < 64 → get_or caps stop 0 ≡ cap n stop)
-      → r ≡ rating_by (cap n) (counted n)
-      → Represents n 0 (record { starts = replicate 16 0; values = caps; least = r.least; sum = r.sum })
+      → rated r ≡ rating_by (cap n) (counted n)
+      → Represents n 0 (record { starts = replicate 16 0; values = caps; upper = r })
   unfolding upper_rating
   unplaced_represents caps r row h e =
       record {
@@ -97,7 +97,7 @@ module _ (n : Net) (valid : Valid n) where
 -- ---- the rows of the calls in line order
 
 module _
-    (network by : Network)
+    (network by : Rows)
     (sound : Sound network)
     (valid : Valid (net_of network))
     (by_sound : Sound by)
@@ -153,17 +153,13 @@ module _
         (ap₂ (λ (a b : ℕ). with_reciprocal (gcd a b)) (held_period network j (omega (arith, k, held_lines network sound))) (held_period network i (omega (arith, h, held_lines network sound))))
 
     -- they hold the network
-    abbrev pub network_rows : NetworkRows by.list previous divisors lines
+    abbrev pub network_rows : NetworkRows (net_of network) by.list previous divisors lines
     network_rows =
         record {
-          call_rows =
-              record {
-                net = net_of network;
-                valid = valid;
-                code_of = λ i h. codes_are i (omega (arith, h, count_is)) ∙ ap packed (call_at i h);
-                leads = leads_in_order;
-                divisor_of = divisor_in_order;
-              };
+          valid = valid;
+          code_of = λ i h. codes_are i (omega (arith, h, count_is)) ∙ ap packed (call_at i h);
+          leads = leads_back_at previous calls_in_order (length (net_of network).calls) leads_in_order;
+          divisor_of = divisor_in_order;
           first_of = first_of;
           count_of = count_of;
         }
@@ -180,7 +176,7 @@ pub walked_by_tries :
     (n : Net)
     → Valid n
     → (rule : Rule) (budget : ℕ) (starts : List ℕ) (r : code.Walk)
-    → state_of n r ≡ each_start (try_at n rule budget 0 []) 0 1 (state_of n (record { tries = 0; stopped = false; best = no_rating; starts = starts }))
+    → state_of n r ≡ each_start (try_at n rule budget 0 []) 0 1 (state_of n (record { tries = 0; stopped = false; best = None; starts = starts }))
     → state_of n r ≡ walked n rule budget
 unfolding walked walk_from state_of state_by
 walked_by_tries n valid rule budget starts r e =
@@ -189,65 +185,33 @@ walked_by_tries n valid rule budget starts r e =
     (walk_from_next n rule budget 0 [] at_first valid.some_line
     ∙ ap (λ (k : ℕ). each_start (try_at n rule budget 0 []) 0 k at_first) (start_counts_first n.periods valid.some_line))
 
--- ---- the walk on a file
+-- ---- what a call makes of the ending of a walk
 
-pick_twice : (b : Bool) (x y z : List ℤ) → pick b (pick b x y) z ≡ pick b x z
-pick_twice true x y z = refl
-pick_twice false x y z = refl
-
--- How it ends, and what it leaves in the row
-module _ (file : List ℕ) (row : List ℤ) (rule : Rule) (budget : ℕ) where
-  abbrev Ends : code_ended.Ended → Type 0
-  Ends e = ending_of (length row) e ≡ on_start_row (λ (n : Net). ended (walked n rule budget)) refusal (read_file file) (length row)
-
-  abbrev Leaves : List ℤ → Type 0
-  Leaves exit =
-      exit ≡ on_start_row (λ (n : Net). row_after_walk (walked n rule budget) row) (λ (number place : ℕ). row) (read_file file) (length row)
-
-  -- A refused file, or a row that hasn't one place for each line
-  module _ {number place : ℕ} (refuses : Refuses file 16 (Unfit row) number place) where
-    pub ends_refused : (w : code.Walk) → Ends (record { check = checks.Refused number place; walk = w })
-    unfolding ending_of ending_by
-    ends_refused w = sym (on_start_row_refuses (λ (n : Net). ended (walked n rule budget)) refusal file row refuses)
-
-    pub leaves_refused : Leaves row
-    leaves_refused = sym (on_start_row_refuses (λ (n : Net). row_after_walk (walked n rule budget) row) (λ number place. row) file row refuses)
-
-  -- The walk
-  module _ {n : Net} (reads : read_file file ≡ accepted n) (fits : length row ≡ length n.periods) (w : code.Walk)
-      (is_walk : state_of n w ≡ walked n rule budget) where
-    state_fit : state_by (length row) w ≡ walked n rule budget
-    unfolding state_of
-    state_fit = ap (λ (k : ℕ). state_by k w) fits ∙ is_walk
-
-    pub ends_walked : Ends (record { check = checks.Passes; walk = w })
-    unfolding ending_of ending_by
-    ends_walked =
-        ap ended state_fit
-        ∙ sym (on_start_row_fit (λ (m : Net). ended (walked m rule budget)) refusal n (length row) fits)
-        ∙ ap (λ (k : Reading). on_start_row (λ (m : Net). ended (walked m rule budget)) refusal k (length row)) (sym reads)
-
-    pub leaves_walked : Leaves (pick w.best.some (starts_of (length row) w.starts) row)
-    unfolding row_after_walk state_by
-    leaves_walked =
-        sym (pick_twice w.best.some (starts_of (length row) w.starts) [] row)
-        ∙ ap (λ (s : State). row_after_walk s row) state_fit
-        ∙ sym (on_start_row_fit (λ (m : Net). row_after_walk (walked m rule budget) row) (λ number place. row) n (length row) fits)
-        ∙ ap (λ (k : Reading). on_start_row (λ (m : Net). row_after_walk (walked m rule budget) row) (λ number place. row) k (length row)) (sym reads)
-
--- What a call makes of its ending
-module _ {A : Type 0} (answers : State → A) (refuses : ℕ → ℕ → A) (walks : Net → State) (read : Reading) (row : ℕ) (e : code_ended.Ended)
+module _ {A : Type 0} (answers : State → A) (refuses : ℕ → ℕ → A) (walks : Net → State) (read : Reading) (row : ℕ) (e : Result code.Walk Refusal)
     (ends : ending_of row e ≡ on_start_row (λ (n : Net). ended (walks n)) refusal read row) where
   made_of : from_ending answers refuses (ending_of row e) ≡ on_start_row (λ (n : Net). answers (walks n)) refuses read row
   unfolding from_ending
   made_of =
       ap (from_ending answers refuses) ends ∙ on_start_row_made (from_ending answers refuses) (λ (n : Net). ended (walks n)) refusal read row
 
-  pub made_of_walk : e.check ≡ checks.Passes → answers (state_by row e.walk) ≡ on_start_row (λ (n : Net). answers (walks n)) refuses read row
-  unfolding from_ending ending_of ending_by
-  made_of_walk passes = sym (ap (λ (c : Check). from_ending answers refuses (ending_by c (state_by row e.walk))) passes) ∙ made_of
+module _ {A : Type 0} (answers : State → A) (refuses : ℕ → ℕ → A) (walks : Net → State) (read : Reading) (row : ℕ) where
+  pub made_of_walk : (w : code.Walk) → ending_of row (Ok w) ≡ on_start_row (λ (n : Net). ended (walks n)) refusal read row
+      → answers (state_by row w) ≡ on_start_row (λ (n : Net). answers (walks n)) refuses read row
+  unfolding from_ending ending_of
+  made_of_walk w ends = made_of answers refuses walks read row (Ok w) ends
 
-  pub made_of_refusal : {number place : ℕ} → e.check ≡ checks.Refused number place
-      → refuses number place ≡ on_start_row (λ (n : Net). answers (walks n)) refuses read row
-  unfolding from_ending ending_of ending_by
-  made_of_refusal is_refused = sym (ap (λ (c : Check). from_ending answers refuses (ending_by c (state_by row e.walk))) is_refused) ∙ made_of
+  pub made_of_refusal : (r : Refusal) → ending_of row (Err r) ≡ on_start_row (λ (n : Net). ended (walks n)) refusal read row
+      → refuses (number_of r.reason) r.place ≡ on_start_row (λ (n : Net). answers (walks n)) refuses read row
+  unfolding from_ending ending_of
+  made_of_refusal r ends = made_of answers refuses walks read row (Err r) ends
+
+-- ---- what it leaves in a row
+
+module _ (lines : ℕ) (w : code.Walk) (row : List ℤ) where
+  pub best_written : (ranked w.best).some ≡ true → starts_of lines w.starts ≡ row_after_walk (state_by lines w) row
+  unfolding row_after_walk state_by
+  best_written e = rw e refl
+
+  pub none_left_as_is : (ranked w.best).some ≡ false → row ≡ row_after_walk (state_by lines w) row
+  unfolding row_after_walk state_by
+  none_left_as_is e = rw e refl

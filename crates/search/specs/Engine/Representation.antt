@@ -1,18 +1,18 @@
 -- How the search's code holds the network, a partial timetable and a walk: rows over the calls in line order, and what they stand for.
-use Rattle.std.specs.Prelude.{ℕ, zero, suc, ◌+◌, ◌*◌, ◌/◌, ◌%◌, ◌<◌, ◌≤◌, ◌≡◌, Bool, true, ◌&&◌, ◌||◌, List, [], ◌∷◌, ◌++◌, map, ◌⊎◌, ltb, leb, ℤ, pos, length, get_or, take, drop}
+use Rattle.std.specs.Prelude.{ℕ, zero, suc, ◌+◌, ◌*◌, ◌/◌, ◌%◌, ◌<◌, ◌≤◌, ◌≡◌, Bool, true, false, ◌&&◌, ◌||◌, List, [], ◌∷◌, ◌++◌, map, ◌⊎◌, ltb, leb, ℤ, pos, length, get_or, take, drop, Option, Some, None, Result, Ok, Err}
 use Rattle.network.specs.declared.Call.{Call}
-use Rattle.network.specs.declared.Check.{Check}
-use Rattle.network.specs.declared.Check.TheVariants as checks
-use Rattle.network.specs.declared.Rating.{Rating}
+use Rattle.network.specs.declared.grounds.Refusal.{Refusal}
+use Rattle.network.specs.Numbers.{number_of}
+use Rattle.network.specs.Rating.{Rating}
 use Rattle.network.specs.Lists.{pick, least_from}
 use Rattle.network.specs.Divisor.{gcd}
 use Rattle.network.specs.Network.{Net, is_served, max_lines, max_period, stop_count}
 use Rattle.network.specs.Rating.{gap_of_calls}
-use Rattle.network.specs.Engine.Scan.{LeadsBack, calls_before}
+use Rattle.network.specs.Engine.Scan.{last_at, calls_before}
+use Rattle.network.specs.Engine.Rated.{ranked}
 use Rattle.network.specs.Engine.Stored.{packed}
 use Rattle.network.specs.Valid.{Valid, no_call}
 use Rattle.search.specs.declared.Cut.{Cut}
-use Rattle.search.specs.declared.Ended.{Ended}
 use Rattle.search.specs.declared.Placed.{Placed}
 use Rattle.search.specs.declared.Rule as declared_rule
 use Rattle.search.specs.declared.Rule.TheVariants as rules
@@ -43,28 +43,9 @@ unfoldable pub with_reciprocal : ℕ → ℕ
 with_reciprocal zero = 0
 with_reciprocal (suc g) = reciprocal (suc g) * 2048 + suc g
 
--- Rows that hold the calls, each packed, the way back at a stop and the divisors of a valid network, in the order of their lines
-pub record CallRows (codes previous divisors : List ℕ) : Type 0 where
-  pub net : Net
-  pub valid : Valid net
-  pub code_of : (i : ℕ) → i < length net.calls → get_or codes i 0 ≡ packed (get_or (by_line net.calls (length net.periods)) i no_call)
-  pub leads : LeadsBack previous (by_line net.calls (length net.periods)) (length net.calls)
-  pub divisor_of :
-      (i j : ℕ)
-      → i < length net.periods
-      → j < length net.periods
-      → get_or divisors (i * max_lines + j) 0 ≡ with_reciprocal (gcd (get_or net.periods j 0) (get_or net.periods i 0))
-
--- The calls in the order of their lines
-abbrev pub calls_by_line : {codes previous divisors : List ℕ} → CallRows codes previous divisors → List Call
-calls_by_line l = by_line l.net.calls (length l.net.periods)
-
--- The least of a value and the gaps of the call at a place to those before it at its stop
-abbrev pub lowered_at : {codes previous divisors : List ℕ} → CallRows codes previous divisors → List ℕ → ℕ → ℕ → ℕ
-lowered_at l starts at value =
-    least_from value
-    (map (λ d. gap_of_calls l.net (map pos starts) d (get_or (calls_by_line l) at no_call))
-    (calls_before (get_or (calls_by_line l) at no_call).stop (calls_by_line l) at))
+-- The calls of a network in the order of their lines
+abbrev pub calls_by_line : Net → List Call
+calls_by_line n = by_line n.calls (length n.periods)
 
 -- The place of a line's first call and the number of its starts, which stand in one number
 abbrev pub first_in : ℕ → ℕ
@@ -73,11 +54,26 @@ first_in code = code % 512
 abbrev pub count_in : ℕ → ℕ
 count_in code = code / 512
 
--- Beside them the first call of each line and the number of its starts
-pub record NetworkRows (codes previous divisors lines : List ℕ) : Type 0 where
-  pub call_rows : CallRows codes previous divisors
-  pub first_of : (k : ℕ) → k ≤ length call_rows.net.periods → first_in (get_or lines k 0) ≡ length (by_line call_rows.net.calls k)
-  pub count_of : (k : ℕ) → k < length call_rows.net.periods → count_in (get_or lines k 0) ≡ get_or (start_counts call_rows.net.periods) k 0
+-- Rows that hold a valid network in the order of its lines: the calls, each packed, the way back at a stop, the divisors of the periods, and the
+-- first call of each line with the number of its starts
+pub record NetworkRows (n : Net) (codes previous divisors lines : List ℕ) : Type 0 where
+  pub valid : Valid n
+  pub code_of : (i : ℕ) → i < length n.calls → get_or codes i 0 ≡ packed (get_or (calls_by_line n) i no_call)
+  pub leads : (j : ℕ) → j < length n.calls → get_or previous j 0 ≡ last_at (get_or (calls_by_line n) j no_call).stop (calls_by_line n) j
+  pub divisor_of :
+      (i j : ℕ)
+      → i < length n.periods
+      → j < length n.periods
+      → get_or divisors (i * max_lines + j) 0 ≡ with_reciprocal (gcd (get_or n.periods j 0) (get_or n.periods i 0))
+  pub first_of : (k : ℕ) → k ≤ length n.periods → first_in (get_or lines k 0) ≡ length (by_line n.calls k)
+  pub count_of : (k : ℕ) → k < length n.periods → count_in (get_or lines k 0) ≡ get_or (start_counts n.periods) k 0
+
+-- The least of a value and the gaps of the call at a place of that order to those before it at its stop
+abbrev pub lowered_at : Net → List ℕ → ℕ → ℕ → ℕ
+lowered_at n starts at value =
+    least_from value
+    (map (λ d. gap_of_calls n (map pos starts) d (get_or (calls_by_line n) at no_call))
+    (calls_before (get_or (calls_by_line n) at no_call).stop (calls_by_line n) at))
 
 -- The starts of the first `k` lines, as integers
 abbrev pub starts_of : ℕ → List ℕ → List ℤ
@@ -90,8 +86,8 @@ pub record Represents (n : Net) (k : ℕ) (p : Placed) : Type 0 where
   pub starts_low : (i : ℕ) → get_or p.starts i 0 < max_period
   pub value_of :
       (stop : ℕ) → stop < stop_count → is_served stop n.calls ≡ true → get_or p.values stop 0 ≡ upper_value n (cap n) (starts_of k p.starts) stop
-  pub sum_low : p.sum ≤ max_upper_sum
-  pub rating_of : ◌≡◌ {A = Rating} (record { some = true; least = p.least; sum = p.sum }) (upper_rating n (cap n) (starts_of k p.starts))
+  pub sum_low : p.upper.sum ≤ max_upper_sum
+  pub rating_of : ◌≡◌ {A = Rating} (record { some = true; least = p.upper.least; sum = p.upper.sum }) (upper_rating n (cap n) (starts_of k p.starts))
 
 -- ---- a walk's rule
 
@@ -105,10 +101,14 @@ rule_of (rules.BySum floor) = by_sum floor
 abbrev pub rated : ℕ → ℕ → Rating
 rated least sum = record { some = true; least = least; sum = sum }
 
+-- A sum that isn't above another, if there is another
+unfoldable pub is_no_above : Option ℕ → ℕ → Bool
+is_no_above None sum = false
+is_no_above (Some beside) sum = leb sum beside
+
 -- What falls short of a cut
 unfoldable pub is_short : Cut → ℕ → ℕ → Bool
-is_short cut least sum =
-    ltb least cut.floor || (cut.beside && ((cut.anywhere || leb least cut.floor) && leb sum cut.sum))
+is_short cut least sum = ltb least cut.floor || ((cut.anywhere || leb least cut.floor) && is_no_above cut.sum sum)
 
 -- The cut of a rule beside the best so far
 abbrev pub IsCut : declared_rule.Rule → Rating → Cut → Type 0
@@ -133,21 +133,13 @@ pub record PlacedMore (n : Net) (line start : ℕ) (p r : Placed) : Type 0 where
 
 -- Or it is given up: what it has come to falls short, and so does its upper rating
 pub record GivenUp (n : Net) (cut : Cut) (line start : ℕ) (p r : Placed) : Type 0 where
-  pub come_to : is_short cut r.least r.sum ≡ true
+  pub come_to : is_short cut r.upper.least r.upper.sum ≡ true
   pub upper :
       is_short cut (upper_rating n (cap n) (with_start line start p)).least (upper_rating n (cap n) (with_start line start p)).sum ≡ true
 
--- A try's line can be placed on the network that the rows hold
-abbrev pub MayPlace : (codes previous divisors lines : List ℕ) → Try → Placed → Type 0
-MayPlace codes previous divisors lines due p =
-    (l : NetworkRows codes previous divisors lines) × CanPlace l.call_rows.net due.line due.start p
-
--- On each such network it is placed or given up
-abbrev pub PlacedOr : (codes previous divisors lines : List ℕ) → Cut → Try → (p r : Placed) → Type 0
-PlacedOr codes previous divisors lines cut due p r =
-    (l : NetworkRows codes previous divisors lines)
-    → CanPlace l.call_rows.net due.line due.start p
-    → PlacedMore l.call_rows.net due.line due.start p r ⊎ GivenUp l.call_rows.net cut due.line due.start p r
+-- The one or the other
+abbrev pub PlacedOr : Net → Cut → Try → (p r : Placed) → Type 0
+PlacedOr n cut due p r = PlacedMore n due.line due.start p r ⊎ GivenUp n cut due.line due.start p r
 
 -- ---- the walk
 
@@ -157,8 +149,8 @@ state_by lines w =
     record {
       tries = w.tries;
       stopped = w.stopped;
-      best = w.best;
-      starts = pick w.best.some (starts_of lines w.starts) [];
+      best = ranked w.best;
+      starts = pick (ranked w.best).some (starts_of lines w.starts) [];
     }
 
 unfoldable pub state_of : Net → declared_walk.Walk → State
@@ -174,31 +166,17 @@ try_at n rule budget k placed x s =
     one_try rule budget (upper_rating n (cap n) (placed ++ (pos x ∷ []))) (walk_from n rule budget (suc k) (placed ++ (pos x ∷ []))) s
 
 -- One try, and each of a line's starts, by a task
-abbrev pub one_of : Task → Try → Placed → Net → State → State
-one_of task due p n = try_at n (rule_of task.rule) task.budget due.line (starts_of due.line p.starts) due.start
+abbrev pub one_of : Net → Task → Try → Placed → State → State
+one_of n task due p = try_at n (rule_of task.rule) task.budget due.line (starts_of due.line p.starts) due.start
 
-abbrev pub each_of : Task → Starts → Placed → Net → State → State
-each_of task starts p n =
+abbrev pub each_of : Net → Task → Starts → Placed → State → State
+each_of n task starts p =
     each_start (try_at n (rule_of task.rule) task.budget starts.line (starts_of starts.line p.starts)) starts.from starts.count
 
--- A line can be tried: the lines before it are placed, and the task has the last line
-pub record CanTry (n : Net) (task : Task) (line : ℕ) (p : Placed) : Type 0 where
+-- A line can be tried: the lines before it are placed
+pub record CanTry (n : Net) (line : ℕ) (p : Placed) : Type 0 where
   pub stated : line < length n.periods
-  pub last_of : task.last + 1 ≡ length n.periods
   pub before : Represents n line p
-
--- It can be tried on the network that the rows hold
-abbrev pub MayTry : (codes previous divisors lines : List ℕ) → Task → ℕ → Placed → Type 0
-MayTry codes previous divisors lines task line p =
-    (l : NetworkRows codes previous divisors lines) × CanTry l.call_rows.net task line p
-
--- On each such network a walk has become another by these steps
-abbrev pub Tried :
-    (codes previous divisors lines : List ℕ) → Task → ℕ → Placed → (Net → State → State) → (w r : declared_walk.Walk) → Type 0
-Tried codes previous divisors lines task line p steps w r =
-    (l : NetworkRows codes previous divisors lines)
-    → CanTry l.call_rows.net task line p
-    → state_of l.call_rows.net r ≡ steps l.call_rows.net (state_of l.call_rows.net w)
 
 -- ---- a walk on a file
 
@@ -207,13 +185,10 @@ pub data Ending : Type 0 where
   ended : State → Ending
   refusal : (number place : ℕ) → Ending
 
-unfoldable pub ending_by : Check → State → Ending
-ending_by checks.Passes s = ended s
-ending_by (checks.Refused number place) s = refusal number place
-
 -- The ending that an ending of the code stands for, with a start row of so many places
-unfoldable pub ending_of : ℕ → Ended → Ending
-ending_of lines e = ending_by e.check (state_by lines e.walk)
+unfoldable pub ending_of : ℕ → Result declared_walk.Walk Refusal → Ending
+ending_of lines (Ok w) = ended (state_by lines w)
+ending_of lines (Err r) = refusal (number_of r.reason) r.place
 
 -- What a call makes of it
 unfoldable pub from_ending : {A : Type 0} → (State → A) → (ℕ → ℕ → A) → Ending → A

@@ -1,4 +1,4 @@
--- The sum is at most 255 for each byte passed, and that of the running sums at most 255 × 2,048.
+-- `cases_archive::large::show_sums` keeps its sums within 64 bits: the one is at most 255 for each byte passed, and that of the running sums at most 255 × 2,048. Assumes nothing.
 use Rattle.std.proofs.Common.{◌*◌, ◌≤◌}
 use Rattle.cases_archive.proofs.large.show_sums.Given as goal
 

@@ -1,4 +1,4 @@
--- `end` is within the buffer; the measure is what is left of it.
+-- `cases_typed::input::read_full` meets its contract: `end` stays within the buffer; the measure is what is left of it. Assumes nothing.
 use Rattle.std.proofs.Common.{length, ◌-◌, ◌≤◌}
 use Rattle.cases_typed.proofs.input.read_full.Given as goal
 

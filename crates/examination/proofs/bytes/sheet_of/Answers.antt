@@ -1,9 +1,10 @@
 -- `examination::bytes::sheet_of` meets its contract. The loop's invariant: the places passed hold the starts that begin at every fourth byte.
 -- Assumes nothing.
-use Prim.Native.Nat.{ℕ, ◌+◌, ◌*◌, ◌/◌, ◌%◌, ◌<◌}
+use Prim.Native.Nat.{ℕ, ◌+◌, ◌*◌, ◌/◌, ◌%◌, ◌<◌, ◌≤◌}
 use mathlib.Core.Path.{◌≡◌, refl, sym, ap, ◌∙◌}
 use mathlib.Core.Bool.{Bool, true, false, ◌&&◌}
 use mathlib.Core.List.{List}
+use mathlib.Core.Logic.{◌⊎◌, inl, inr}
 use native.Mathlib.Omega.{arith}
 use borrow.Author.Count.{below_more}
 use borrow.Author.Tests.{eq-eqb, ne_eqb, lt-ltb, le-ltb}
@@ -31,33 +32,18 @@ small t = omega (arith, t.loop-i-test.true, t.if-count-lt-PLACES.true)
 pub loop-i-init : goal.loop-i-init
 loop-i-init c = (omega arith, length-replicate {A = ℤ} 17 (pos 0), λ j h. absurd (omega (arith, h)))
 
-pub overflow_mul-i : goal.overflow_mul-i
-overflow_mul-i c = omega (arith, small c)
-
 pub start_at-requires : goal.start_at-requires
 start_at-requires c = within c
-
-pub offset_bounds-starts-i : goal.offset_bounds-starts-i
-offset_bounds-starts-i c = omega (arith, small (goal.at.offset_bounds-starts-i c).In-loop-i)
-
-pub bounds-starts-i : goal.bounds-starts-i
-bounds-starts-i c = omega (arith, small (goal.at.bounds-starts-i c).In-loop-i, c.loop-i.invariant.1)
-
-pub overflow_step-i : goal.overflow_step-i
-overflow_step-i c = omega (arith, small (goal.at.overflow_step-i c).In-loop-i)
-
-pub loop-i-smaller : goal.loop-i-smaller
-loop-i-smaller c = omega (arith, c.loop-i-test.true)
 
 pub loop-i-preserved : goal.loop-i-preserved
 loop-i-preserved c = let l = c.loop-i in
     let bytes = c.args.bytes.now in
     let v : ℤ = to_z w32 (of_z w32 c.start_at.result) in (
       omega (arith, c.loop-i-test.true),
-      length-set l.starts l.i v ∙ l.invariant.1,
-      below_more (λ j. ◌≡◌ {A = ℤ} (get_or (set l.starts l.i v) j (pos 0)) (start_at bytes (j * 4))) l.i
-          (λ j h. get_or-set_other l.starts l.i j v (pos 0) (λ e. omega (arith, e, h)) ∙ l.invariant.2 j h)
-          (get_or-set_same l.starts l.i v (pos 0) (omega (arith, small (goal.at.loop-i-preserved c).In-loop-i, l.invariant.1)) ∙ to_z-of_z {w = w32} (record { sfits = c.start_at.type_inv }) ∙ c.start_at.ensures),
+      length-set l.row l.i v ∙ l.invariant.1,
+      below_more (λ j. ◌≡◌ {A = ℤ} (get_or (set l.row l.i v) j (pos 0)) (start_at bytes (j * 4))) l.i
+          (λ j h. get_or-set_other l.row l.i j v (pos 0) (λ e. omega (arith, e, h)) ∙ l.invariant.2 j h)
+          (get_or-set_same l.row l.i v (pos 0) (omega (arith, small (goal.at.loop-i-preserved c).In-loop-i, l.invariant.1)) ∙ to_z-of_z {w = w32} (record { sfits = c.start_at.type_inv }) ∙ c.start_at.ensures),
     )
 
 -- The bytes aren't a whole number of starts, or are too many
@@ -71,33 +57,25 @@ returns-then-count-lt-PLACES c = let l = c.loop-i in
     let bytes = c.args.bytes.now in
     let size = length bytes in
     let whole : (eqb (size % 4) 0 && ltb (size / 4) 17) ≡ true =
-    rw (eq-eqb (size % 4) 0 c.if-length-eq0.true, lt-ltb (size / 4) 17 c.if-count-lt-PLACES.true) refl in
-    let taken : length (take (size / 4) l.starts) ≡ size / 4 = length-take-le (size / 4) l.starts (omega (arith, l.invariant.1, c.if-count-lt-PLACES.true)) in (
-      omega (arith, c.if-count-lt-PLACES.true, l.invariant.1),
-      ext_get_or (pos 0) (take (size / 4) l.starts) (starts bytes) (taken ∙ sym (length_starts bytes))
-          (λ i h.
-          get_or-take (size / 4) l.starts i (pos 0) (omega (arith, h, taken))
-          ∙ l.invariant.2 i (omega (arith, h, taken, c.loop-i-test.false))
-          ∙ sym (start_is_at bytes i (omega (arith, h, taken))))
-          ∙ sym (ap (λ (b : Bool). pick b (starts bytes) (replicate 17 (pos 0))) whole),
-    )
+    rw (eq-eqb (size % 4) 0 c.if-bytes-eq0.true, lt-ltb (size / 4) 17 c.if-count-lt-PLACES.true) refl in
+    let taken : length (take (size / 4) l.row) ≡ size / 4 = length-take-le (size / 4) l.row (omega (arith, l.invariant.1, c.if-count-lt-PLACES.true)) in
+    ext_get_or (pos 0) (take (size / 4) l.row) (starts bytes) (taken ∙ sym (length_starts bytes))
+    (λ i h.
+    get_or-take (size / 4) l.row i (pos 0) (omega (arith, h, taken))
+    ∙ l.invariant.2 i (omega (arith, h, taken, c.loop-i-test.false))
+    ∙ sym (start_is_at bytes i (omega (arith, h, taken))))
+    ∙ sym (ap (λ (b : Bool). pick b (starts bytes) (replicate 17 (pos 0))) whole)
 
-pub returns-else-count-lt-PLACES : goal.returns-else-count-lt-PLACES
-unfolding held is_whole
-returns-else-count-lt-PLACES c = let bytes = c.args.bytes.now in
-    let size = length bytes in (
-      omega (arith, length-replicate {A = ℤ} 17 (pos 0)),
-      other bytes (rw (le-ltb (size / 4) 17 c.if-count-lt-PLACES.false) (and_false (eqb (size % 4) 0))),
-    )
+-- Bytes that are no whole number of starts, or too many
+not_whole : (size : ℕ) → ((size % 4 ≡ 0) × (17 ≤ size / 4)) ⊎ (size % 4 ≡ 0 → ⊥) → is_whole size ≡ false
+unfolding is_whole
+not_whole size (inl (e, h)) = rw (le-ltb (size / 4) 17 h) (and_false (eqb (size % 4) 0))
   where
     and_false : (b : Bool) → (b && false) ≡ false
     and_false true = refl
     and_false false = refl
+not_whole size (inr e) = rw (ne_eqb (size % 4) 0 e) refl
 
-pub returns-else-length-eq0 : goal.returns-else-length-eq0
-unfolding held is_whole
-returns-else-length-eq0 c = let bytes = c.args.bytes.now in
-    let size = length bytes in (
-      omega (arith, length-replicate {A = ℤ} 17 (pos 0)),
-      other bytes (rw (ne_eqb (size % 4) 0 c.if-length-eq0.false) refl),
-    )
+pub returns : goal.returns
+unfolding held
+returns c = other c.args.bytes.now (not_whole (length c.args.bytes.now) c.else-bytes-eq0.either)

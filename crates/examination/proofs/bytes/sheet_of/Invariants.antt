@@ -8,7 +8,7 @@ use Rattle.examination.specs.Engine.Taken.{start_at}
 use Rattle.examination.proofs.bytes.sheet_of.Given as goal
 
 abbrev pub invariant-loop-i : goal.invariant-loop-i
-invariant-loop-i l = (l.i ≤ l.count) × (length l.starts ≡ 17) × ((j : ℕ) → j < l.i → ◌≡◌ {A = ℤ} (get_or l.starts j (pos 0)) (start_at l.bytes (j * 4)))
+invariant-loop-i l = (l.i ≤ l.count) × (length l.row ≡ 17) × ((j : ℕ) → j < l.i → ◌≡◌ {A = ℤ} (get_or l.row j (pos 0)) (start_at l.bytes (j * 4)))
 
 abbrev pub decreases-loop-i : goal.decreases-loop-i
 decreases-loop-i l = l.count - l.i

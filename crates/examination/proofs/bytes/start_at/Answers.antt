@@ -1,58 +1,40 @@
--- `examination::bytes::start_at` meets its contract: a number below 2^31 stands for itself, a larger one for -1 less what it lacks of
--- 2^32 - 1. Assumes nothing.
-use Prim.Native.Nat.{ℕ, ◌+◌, ◌*◌, ◌-◌, ◌<◌}
-use mathlib.Core.Path.{◌≡◌, sym, ap₂, ◌∙◌}
+-- `examination::bytes::start_at` meets its contract: the number that the four bytes make is read in two's complement. Assumes nothing.
+use Prim.Native.Nat.{ℕ, ◌+◌, ◌-◌, ◌<◌}
+use mathlib.Core.Path.{◌≡◌, refl, sym, ap, ◌∙◌}
+use mathlib.Core.Bool.{Bool, true, false}
 use native.Mathlib.Omega.{arith}
-use lib.IntN.{ℤ, pos, negsuc, ◌-ℤ◌}
+use borrow.Author.Tests.{ltb-true, ltb-false}
+use lib.Dec.{ltb}
+use lib.IntN.{negsuc}
+use lib.ListN.{get_or}
 use mir.Syntax.{w32}
-use mir.Val.{SFits, to_z}
-use mir.Facts.{to_z-of_z, to_z_pos}
-use Rattle.network.proofs.Laws.Integers.{difference, difference_pos, difference_sub, eq_of_difference}
+use mir.Val.{to_z}
+use mir.Facts.{to_z-of_z, to_z_pos, to_z-neg}
+use Rattle.network.specs.Network.{word}
 use Rattle.examination.specs.Bytes.{signed}
 use Rattle.examination.specs.Engine.Taken.{start_at}
 use Rattle.examination.proofs.Laws.Bytes.{signed_low, signed_high}
 use Rattle.examination.proofs.bytes.start_at.Goals as goal
-use Rattle.examination.proofs.bytes.start_at.Goals.{After-word-low, Else-number-lt2147483648}
 
--- The number that the four bytes make
-abbrev number : After-word-low → ℕ
-number c = c.word-high.result * 65536 + c.word-low.result
+complement : (m k : ℕ) → k < 2147483648 → m ≡ 4294967296 - (k + 1) → to_z w32 m ≡ negsuc k
+complement m k h e = ap (to_z w32) (e ∙ omega arith) ∙ to_z-neg w32 k h
 
-below : (c : After-word-low) → number c < 4294967296
-below c = omega (arith, c.word-high.type_inv, c.word-low.type_inv)
-
-reads : (c : After-word-low) → start_at c.args.bytes.now c.args.at ≡ signed (number c)
-unfolding start_at
-reads c =
-    ap₂ (λ (high low : ℕ). signed (high * 65536 + low)) (sym c.word-high.ensures) (sym c.word-low.ensures)
-
--- -1 less a number
-minus_one : (m : ℕ) → negsuc m ≡ negsuc 0 -ℤ pos m
-minus_one m = eq_of_difference (difference (negsuc m)) (difference_sub (difference (negsuc 0)) (difference_pos m)) (omega arith)
-
--- .. below 2^31 is within 32 bits
-minus_one_fits : (m : ℕ) → m < 2147483648 → SFits w32 (negsuc 0 -ℤ pos m)
-minus_one_fits m h = subst_fits (minus_one m) (record { sfits = h })
+signed_is : (m : ℕ) → m < 4294967296 → to_z w32 m ≡ signed m
+signed_is m h = go (ltb m 2147483648) refl
   where
-    subst_fits : {x y : ℤ} → x ≡ y → SFits w32 x → SFits w32 y
-    subst_fits e f = rw (sym e) f
-
-missing : (c : Else-number-lt2147483648) → to_z w32 (4294967295 - number (record { before = c.before.before; type_inv = record { bytes = c.type_inv.bytes } })) ≡ pos (4294967295 - number (record { before = c.before.before; type_inv = record { bytes = c.type_inv.bytes } }))
-missing c = to_z_pos w32 (omega (arith, c.if-number-lt2147483648.false))
-
-fits : (c : Else-number-lt2147483648) → SFits w32 (negsuc 0 -ℤ pos (4294967295 - number (record { before = c.before.before; type_inv = record { bytes = c.type_inv.bytes } })))
-fits c = minus_one_fits (4294967295 - number (record { before = c.before.before; type_inv = record { bytes = c.type_inv.bytes } })) (omega (arith, c.if-number-lt2147483648.false))
-
-pub returns-then-number-lt2147483648 : goal.returns-then-number-lt2147483648
-returns-then-number-lt2147483648 c =
-    let u = (goal.at.returns-then-number-lt2147483648 c).After-word-low in
-    to_z_pos w32 c.if-number-lt2147483648.true ∙ sym (reads u ∙ signed_low (number u) c.if-number-lt2147483648.true)
-
-pub overflow_sub-result-2 : goal.overflow_sub-result-2
-overflow_sub-result-2 c = rw (missing c) (fits c)
+    go : (b : Bool) → ltb m 2147483648 ≡ b → to_z w32 m ≡ signed m
+    go true e = to_z_pos w32 (ltb-true m 2147483648 e) ∙ sym (signed_low m (ltb-true m 2147483648 e))
+    go false e =
+        complement m (4294967295 - m) (omega (arith, ltb-false m 2147483648 e)) (omega arith)
+        ∙ sym (signed_high m (ltb-false m 2147483648 e) h)
 
 pub returns : goal.returns
+unfolding start_at word
 returns c =
-    let u = (goal.at.returns c).After-word-low in
-    rw (missing c, to_z-of_z {w = w32} (fits c))
-    (sym (reads u ∙ signed_high (number u) c.if-number-lt2147483648.false (below u) ∙ minus_one (4294967295 - number u)))
+    let at = c.args.at in
+    let byte = λ (i : ℕ). (c.type_inv.bytes i).fits in
+    let last : get_or c.args.bytes.now (at + 2 + 1) 0 ≡ get_or c.args.bytes.now (at + 3) 0 = ap (λ (i : ℕ). get_or c.args.bytes.now i 0) (omega arith) in
+    to_z-of_z {w = w32} (record { sfits = c.from_be_bytes.type_inv })
+    ∙ c.from_be_bytes.ensures
+    ∙ ap (to_z w32) (omega arith)
+    ∙ signed_is _ (omega (arith, byte at, byte (at + 1), byte (at + 2), byte (at + 2 + 1)))

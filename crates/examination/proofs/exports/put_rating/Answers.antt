@@ -7,19 +7,19 @@ use Rattle.examination.proofs.exports.put_rating.Goals as goal
 
 pub refusal_code-requires : goal.refusal_code-requires
 unfolding rate_answer
-refusal_code-requires c = c.requires _ _ (ap rate_answer c.in-Refused.is)
+refusal_code-requires c = c.requires _ _ (ap rate_answer c.in-Err.is)
 
-pub returns-in-Refused : goal.returns-in-Refused
+pub returns-in-Err : goal.returns-in-Err
 unfolding status row_after rate_answer
-returns-in-Refused c = let told = sym (ap rate_answer c.in-Refused.is) in
+returns-in-Err c = let told = sym (ap rate_answer c.in-Err.is) in
     record {
       returned = c.refusal_code.ensures ∙ ap status told;
       row = ap (λ (o : Outcome). row_after o c.args.answer.now) told;
     }
 
-pub returns-in-Rated : goal.returns-in-Rated
+pub returns-in-Ok : goal.returns-in-Ok
 unfolding status row_after rate_answer
-returns-in-Rated c = let told = sym (ap rate_answer c.in-Rated.is) in
+returns-in-Ok c = let told = sym (ap rate_answer c.in-Ok.is) in
     record {
       returned = ap status told;
       row = ap (λ (o : Outcome). row_after o c.args.answer.now) told;

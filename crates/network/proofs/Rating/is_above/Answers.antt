@@ -1,16 +1,23 @@
--- `network::Rating::is_above` meets its contract: each return is a row of the order's table. Assumes nothing.
-use mathlib.Core.Path.{sym}
-use Rattle.network.proofs.Laws.Order.{above_none, above_same_least, above_other_least, none_above}
+-- `network::Rating::is_above` meets its contract: the derived order is that of the definition, first by the least gap and then by the sum,
+-- with none below every rating. Assumes nothing.
+use mathlib.Core.Path.{◌≡◌, refl, ◌∙◌}
+use native.Mathlib.Omega.{arith}
+use Rattle.std.proofs.Common.{Option, None, Some}
+use Rattle.std.proofs.lemmas.Bool.Decides.{nat_tests}
+use Rattle.std.specs.Ordering.{partial_gt}
+use Rattle.std.specs.Option.{option_partial_cmp}
+use Rattle.network.specs.contracts.RatingPartialOrd.TheImpl.{partial_cmp-value}
+use Rattle.network.specs.declared.Rating as held
+use Rattle.network.specs.Rating.{is_above}
+use Rattle.network.specs.Engine.Rated.{ranked}
 use Rattle.network.proofs.Rating.is_above.Goals as goal
 
-pub returns-then-other-self : goal.returns-then-other-self
-returns-then-other-self c = sym (above_same_least c.args.self c.args.other c.if-self.true c.if-other.true c.if-other-self.true)
-
-pub returns-then-other : goal.returns-then-other
-returns-then-other c = sym (above_other_least c.args.self c.args.other c.if-self.true c.if-other.true c.if-other-self.false)
-
-pub returns-then-self : goal.returns-then-self
-returns-then-self c = sym (above_none c.args.self c.args.other c.if-self.true c.if-other.false)
+derived : (one other : Option held.Rating) → partial_gt (option_partial_cmp partial_cmp-value.it) one other ≡ is_above (ranked one) (ranked other)
+unfolding is_above
+derived None None = refl
+derived None (Some r) = refl
+derived (Some r) None = refl
+derived (Some r) (Some q) = grind (arith, nat_tests)
 
 pub returns : goal.returns
-returns c = sym (none_above c.args.self c.args.other c.if-self.false)
+returns c = c.gt.ensures ∙ derived c.args.one c.args.other

@@ -1,13 +1,19 @@
 -- `network::Rating::sum_is_above` meets its contract: two ratings by their sums, a rating beside none, and none. Assumes nothing.
-use mathlib.Core.Path.{sym}
-use Rattle.network.proofs.Laws.Order.{none_sum_above, sum_above_none, sum_above_by_sum}
+use mathlib.Core.Path.{sym, ap, ap₂}
+use Rattle.std.proofs.Common.{Option}
+use Rattle.network.specs.declared.Rating as held
+use Rattle.network.specs.Rating.{is_sum_above}
+use Rattle.network.specs.Engine.Rated.{ranked}
 use Rattle.network.proofs.Rating.sum_is_above.Goals as goal
 
-pub returns-then-other : goal.returns-then-other
-returns-then-other c = sym (sum_above_by_sum c.args.self c.args.other c.if-self.true c.if-other.true)
+pub returns-in-Some-Some : goal.returns-in-Some-Some
+unfolding is_sum_above
+returns-in-Some-Some c = sym (ap₂ (λ (a b : Option held.Rating). is_sum_above (ranked a) (ranked b)) c.in-Some-Some.is-0 c.in-Some-Some.is-1)
 
-pub returns-then-self : goal.returns-then-self
-returns-then-self c = sym (sum_above_none c.args.self c.args.other c.if-self.true c.if-other.false)
+pub returns-in-Some-None : goal.returns-in-Some-None
+unfolding is_sum_above
+returns-in-Some-None c = sym (ap₂ (λ (a b : Option held.Rating). is_sum_above (ranked a) (ranked b)) c.in-Some-None.is-0 c.in-Some-None.is-1)
 
-pub returns : goal.returns
-returns c = sym (none_sum_above c.args.self c.args.other c.if-self.false)
+pub returns-in-None-default : goal.returns-in-None-default
+unfolding is_sum_above
+returns-in-None-default c = sym (ap (λ (a : Option held.Rating). is_sum_above (ranked a) (ranked c.args.other)) c.in-None-default.is-0)

@@ -34,7 +34,7 @@ overflow_sub-before c = rw (read c) (fits c)
 -- What the code subtracts is the difference of that minute and the arrival
 module _ (c : After-arrival) where
   abbrev earlier : Start
-  earlier = c.before
+  earlier = (goal.at.After-arrival c).Start
 
   abbrev difference : ℤ
   difference = before earlier -ℤ c.arrival.result

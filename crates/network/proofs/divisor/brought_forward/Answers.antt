@@ -6,9 +6,6 @@ use Rattle.network.specs.Divisor as divisor
 use Rattle.network.proofs.Laws.Divisor.{gcd_pos_left, lcm_is_least_common_multiple}
 use Rattle.network.proofs.divisor.brought_forward.Goals as goal
 
-pub gcd-requires : goal.gcd-requires
-gcd-requires c = tt
-
 pub nonzero_div-result : goal.nonzero_div-result
 nonzero_div-result c = rw c.gcd.ensures (gcd_pos_left c.args.cycle c.args.period c.requires.0)
 

@@ -23,12 +23,12 @@ module _ (s : Start) where
   subtracted : to_z w64 (of_z w64 s.args.a) -ℤ to_z w64 (of_z w64 s.args.b) ≡ difference
   subtracted = ap₂ ◌-ℤ◌ (to_z-of_z s.ranges.a) (to_z-of_z s.ranges.b)
 
-reduced : (c : After-residue-d) → c.residue-d.result ≡ gaps.residue (difference c.before) c.args.g
+reduced : (c : After-residue-d) → c.residue-d.result ≡ gaps.residue (difference (goal.at.After-residue-d c).Start) c.args.g
 reduced c =
-    c.residue-d.ensures ∙ ap (λ (z : ℤ). gaps.residue z c.args.g) (ap (λ (z : ℤ). to_z w64 (of_z w64 z)) (subtracted c.before) ∙ to_z-of_z (fits c.before))
+    c.residue-d.ensures ∙ ap (λ (z : ℤ). gaps.residue z c.args.g) (ap (λ (z : ℤ). to_z w64 (of_z w64 z)) (subtracted (goal.at.After-residue-d c).Start) ∙ to_z-of_z (fits (goal.at.After-residue-d c).Start))
 
 below : (c : After-residue-d) → c.residue-d.result < c.args.g
-below c = omega (arith, reduced c, residue_lt (difference c.before) c.args.g c.requires.2)
+below c = omega (arith, reduced c, residue_lt (difference (goal.at.After-residue-d c).Start) c.args.g c.requires.2)
 
 pub overflow_sub-a : goal.overflow_sub-a
 overflow_sub-a c = rw (subtracted c) (fits c)

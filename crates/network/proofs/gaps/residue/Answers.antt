@@ -2,7 +2,6 @@
 use Prim.Native.Nat.{ℕ, ◌-◌, ◌%◌, ◌^◌, ◌<◌}
 use mathlib.Core.Path.{◌≡◌, refl, sym, ap, subst, ◌∙◌}
 use mathlib.Core.Bool.{true, false}
-use native.Mathlib.Nat.{mod-lt}
 use native.Mathlib.Omega.{arith}
 use borrow.Author.Tests.{ltb-true}
 use lib.IntN.{ℤ, pos, negsuc, nat_abs, ◌-ℤ◌}
@@ -58,17 +57,8 @@ overflow_sub-below c = rw (below_zero c).moved (record { sfits = (below_zero c).
 pub overflow_cast-below : goal.overflow_cast-below
 overflow_cast-below c = rw (below_zero c).read (tt, omega (arith, (below_zero c).bound))
 
-pub overflow_cast-result : goal.overflow_cast-result
-overflow_cast-result c = omega (arith, mod-lt (nat_abs (to_z w64 (of_z w64 (negsuc 0 -ℤ to_z w64 (of_z w64 c.args.x))))) c.requires, c.ranges.g)
-
-pub overflow_sub-result-then-x-lt0 : goal.overflow_sub-result-then-x-lt0
-overflow_sub-result-then-x-lt0 c = omega (arith, mod-lt (nat_abs (to_z w64 (of_z w64 (negsuc 0 -ℤ to_z w64 (of_z w64 c.args.x))))) c.requires)
-
 pub overflow_cast-above : goal.overflow_cast-above
 overflow_cast-above c = rw (from_zero c).read (tt, omega (arith, (from_zero c).bound))
-
-pub overflow_cast-result-else-x-lt0 : goal.overflow_cast-result-else-x-lt0
-overflow_cast-result-else-x-lt0 c = omega (arith, mod-lt (nat_abs (to_z w64 (of_z w64 c.args.x))) c.requires, c.ranges.g)
 
 pub returns-then-x-lt0 : goal.returns-then-x-lt0
 unfolding gaps.residue

@@ -9,55 +9,13 @@ use lib.Dec.{leb}
 use lib.ListN.{get_or}
 use Rattle.network.specs.Divisor as divisor
 use Rattle.network.proofs.Laws.Divisor.{gcd_comm}
-use Rattle.network.proofs.Laws.Paired.{paired_none, paired_next, paired_passed}
+use Rattle.network.proofs.Laws.Paired.{paired_next, paired_passed}
 use Rattle.network.proofs.gaps.write_divisors.Goals as goal
 use Rattle.network.proofs.gaps.write_divisors.Goals.{In-loop-k, else-other-line, then-other-line}
 
 -- Every place is one of the row
 small : (t : In-loop-k) → t.loop-k.k < 256
 small t = omega (arith, t.loop-k-test.true, t.loop-k.invariant.1, t.requires.0)
-
-pub overflow_mul-places : goal.overflow_mul-places
-overflow_mul-places c = omega (arith, c.requires.0)
-
-pub loop-k-init : goal.loop-k-init
-loop-k-init c = (omega arith, omega arith, paired_none _ _ c.requires.1)
-
-pub offset_bounds-periods-line : goal.offset_bounds-periods-line
-offset_bounds-periods-line c = omega (arith, small (goal.at.offset_bounds-periods-line c).In-loop-k)
-
-pub bounds-periods-line : goal.bounds-periods-line
-bounds-periods-line c = omega (arith, small (goal.at.bounds-periods-line c).In-loop-k)
-
-pub offset_bounds-periods-other : goal.offset_bounds-periods-other
-offset_bounds-periods-other c = omega arith
-
-pub bounds-periods-other : goal.bounds-periods-other
-bounds-periods-other c = omega arith
-
-pub offset_bounds-row-k : goal.offset_bounds-row-k
-offset_bounds-row-k c = omega (arith, small (goal.at.offset_bounds-row-k c).In-loop-k)
-
-pub bounds-row-k : goal.bounds-row-k
-bounds-row-k c = omega (arith, small (goal.at.bounds-row-k c).In-loop-k)
-
-pub overflow_mul-row : goal.overflow_mul-row
-overflow_mul-row c = omega arith
-
-pub overflow_add-row : goal.overflow_add-row
-overflow_add-row c = omega (arith, small (goal.at.overflow_add-row c).In-loop-k)
-
-pub offset_bounds-row-other : goal.offset_bounds-row-other
-offset_bounds-row-other c = omega (arith, small (goal.at.offset_bounds-row-other c).In-loop-k)
-
-pub bounds-row-other : goal.bounds-row-other
-bounds-row-other c = omega (arith, small (goal.at.bounds-row-other c).In-loop-k)
-
-pub overflow_step-k : goal.overflow_step-k
-overflow_step-k c = omega (arith, small (goal.at.overflow_step-k c).In-loop-k)
-
-pub loop-k-smaller : goal.loop-k-smaller
-loop-k-smaller c = omega (arith, c.loop-k-test.true)
 
 pub loop-k-preserved : goal.loop-k-preserved
 loop-k-preserved c = let l = c.loop-k in (

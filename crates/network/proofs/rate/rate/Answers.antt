@@ -1,51 +1,22 @@
--- `network::rate::rate` meets its contract: it answers the file's refusal, then ground 15, then the rating. Assumes nothing.
-use mathlib.Core.Path.{◌≡◌, sym, ap, ◌∙◌}
-use Rattle.network.specs.declared.Check.{Check}
-use Rattle.network.specs.Reading.{Reading, accepted, read_file}
+-- `network::rate::rate` meets its contract: it answers the file's refusal, or what rate answers on the network that was read. Assumes nothing.
+use mathlib.Core.Path.{sym, ap, ◌∙◌}
+use Rattle.std.proofs.lemmas.Result.{err_from_is_err_and}
+use Rattle.network.specs.Reading.{Reading}
 use Rattle.network.specs.Rate.{rate_outcome}
-use Rattle.network.specs.Engine.Scan.{Lent}
-use Rattle.network.specs.Engine.Stored.{net_of, reading_of}
-use Rattle.network.specs.Valid.{Valid, IsBytes}
-use Rattle.network.proofs.Laws.Valid.{accepted_valid}
-use Rattle.network.proofs.Laws.Stored.{lent_rows}
 use Rattle.network.proofs.Laws.Refusals.{rate_refused}
+use Rattle.network.proofs.Laws.Stored.{bytes_of, reading_of_network, reading_of_refused}
 use Rattle.network.proofs.rate.rate.Goals as goal
-use Rattle.network.proofs.rate.rate.Goals.{After-read_network-step, In-Passes}
 
--- What was lent are bytes
-bytes_here : (c : After-read_network-step) → IsBytes c.args.file.now
-unfolding IsBytes
-bytes_here c i = (c.type_inv.file i).fits
-
--- In the arm of `Passes` the file is accepted, as a valid network
-accepted_here : (c : In-Passes) → read_file c.args.file.now ≡ accepted (net_of c.read_network-step.result.network)
-unfolding reading_of
-accepted_here c =
-    sym c.read_network-step.ensures.1 ∙ ap (λ (k : Check). reading_of k c.read_network-step.result.network) c.in-Passes.is
-
-valid_here : (c : In-Passes) → Valid (net_of c.read_network-step.result.network)
-valid_here c = accepted_valid c.args.file.now _ (bytes_here (record { before = c.before.before; type_inv = record { file = c.type_inv.file } })) (accepted_here c)
-
--- What is lent in the network's place
-lent : (c : In-Passes) → let n = c.read_network-step.result.network in Lent n.periods n.list n.lines n.count
-lent c = let r = c.read_network-step in lent_rows r.result.network r.ensures.0 (valid_here c)
-
-pub rate_held-requires : goal.rate_held-requires
-rate_held-requires c = lent (goal.at.rate_held-requires c).In-Passes
-
-pub returns-in-Refused : goal.returns-in-Refused
-unfolding reading_of
-returns-in-Refused c = let r = c.read_network-step in
-    record {
-      answer = rate_refused c.args.file.now c.args.sheet.now (sym r.ensures.1 ∙ ap (λ (k : Check). reading_of k r.result.network) c.in-Refused.is);
-      bytes = bytes_here (goal.at.returns-in-Refused c).After-read_network-step;
+pub returns-in_err-network : goal.returns-in_err-network
+returns-in_err-network c = let u = c.in_err-network.field-0.0 in
+    let p = err_from_is_err_and c.from_residual.result c.from_residual.ensures.1 in record {
+      answer = rw (p.1, p.2) (rate_refused c.args.file.now c.args.sheet.now u.refusal (sym c.in_err-network.ensures.1 ∙ reading_of_refused u));
+      bytes = bytes_of c.args.file.now (λ i. (c.type_inv.file i).fits);
     }
 
-pub returns-in-Passes : goal.returns-in-Passes
-unfolding lent
-returns-in-Passes c =
-    let u = (goal.at.returns-in-Passes c).In-Passes in
-    let sheet = c.args.sheet.now in record {
-      answer = c.rate_held.ensures (lent u) ∙ ap (λ (k : Reading). rate_outcome k sheet) (sym (accepted_here u));
-      bytes = bytes_here (goal.at.returns-in-Passes c).After-read_network-step;
-    }
+pub returns : goal.returns
+returns c = record {
+  answer = c.rate_held.ensures
+      ∙ ap (λ (k : Reading). rate_outcome k c.args.sheet.now) (sym (reading_of_network c.in_ok-network.network) ∙ c.in_ok-network.ensures.1);
+  bytes = bytes_of c.args.file.now (λ i. (c.type_inv.file i).fits);
+}

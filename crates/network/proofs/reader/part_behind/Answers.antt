@@ -6,4 +6,4 @@ use Rattle.network.proofs.Laws.Lists.{take_rest}
 use Rattle.network.proofs.reader.part_behind.Goals as goal
 
 pub returns : goal.returns
-returns c = take_rest c.operand_bytes-operands.result c.args.behind.now ∙ ap (λ (k : ℕ). drop k c.args.behind.now) c.operand_bytes-operands.ensures
+returns c = take_rest c.operand_bytes.result c.args.behind.now ∙ ap (λ (k : ℕ). drop k c.args.behind.now) c.operand_bytes.ensures

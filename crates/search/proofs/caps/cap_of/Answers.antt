@@ -18,46 +18,40 @@ use Rattle.search.proofs.caps.cap_of.Goals.{After-bounds_of-bounds}
 -- The bounds that come back, by the definitions
 module _ (a : After-bounds_of-bounds) where
   abbrev calls : List Call
-  calls = calls_of_stop (net_of a.args.network) a.args.stop
+  calls = calls_of_stop (net_of a.args.network.now.rows) a.args.stop
 
   calls_are : a.bounds_of-bounds.result.calls ≡ length calls
   unfolding bounds_of
   calls_are = ap (λ (b : Bounds). b.calls) a.bounds_of-bounds.ensures
 
-  visits_are : a.bounds_of-bounds.result.visits ≡ visits_of (net_of a.args.network) calls
+  visits_are : a.bounds_of-bounds.result.visits ≡ visits_of (net_of a.args.network.now.rows) calls
   unfolding bounds_of
   visits_are = ap (λ (b : Bounds). b.visits) a.bounds_of-bounds.ensures
 
-  pair_is : a.bounds_of-bounds.result.pair ≡ least_pair_cap (net_of a.args.network) calls
+  pair_is : a.bounds_of-bounds.result.pair ≡ least_pair_cap (net_of a.args.network.now.rows) calls
   unfolding bounds_of
   pair_is = ap (λ (b : Bounds). b.pair) a.bounds_of-bounds.ensures
 
   lesser_is :
       2 ≤ a.bounds_of-bounds.result.calls
-      → min a.bounds_of-bounds.result.pair (a.args.network.cycle / a.bounds_of-bounds.result.visits) ≡ cap (net_of a.args.network) a.args.stop
+      → min a.bounds_of-bounds.result.pair (a.args.network.now.rows.cycle / a.bounds_of-bounds.result.visits) ≡ cap (net_of a.args.network.now.rows) a.args.stop
   lesser_is h =
-      ap₂ min pair_is (ap₂ ◌/◌ a.requires.0.cycle_is visits_are)
-      ∙ cap_many (net_of a.args.network) a.requires.1 a.args.stop (omega (arith, calls_are, h))
-
-pub bounds_of-bounds-requires : goal.bounds_of-bounds-requires
-bounds_of-bounds-requires c = c.requires
+      ap₂ min pair_is (ap₂ ◌/◌ a.args.network.now.sound.cycle_is visits_are)
+      ∙ cap_many (net_of a.args.network.now.rows) a.args.network.now.valid a.args.stop (omega (arith, calls_are, h))
 
 pub returns-then-bounds-lt2 : goal.returns-then-bounds-lt2
 returns-then-bounds-lt2 c =
     let u = (goal.at.returns-then-bounds-lt2 c).After-bounds_of-bounds in
-    pair_is u ∙ cap_few (net_of c.args.network) c.requires.1 c.args.stop (omega (arith, calls_are u, c.if-bounds-lt2.true))
+    pair_is u ∙ cap_few (net_of c.args.network.now.rows) c.args.network.now.valid c.args.stop (omega (arith, calls_are u, c.if-bounds-lt2.true))
 
-pub nonzero_div-spacing : goal.nonzero_div-spacing
-nonzero_div-spacing c =
-    let u = (goal.at.nonzero_div-spacing c).After-bounds_of-bounds in
+pub nonzero_div-network : goal.nonzero_div-network
+nonzero_div-network c =
+    let u = (goal.at.nonzero_div-network c).After-bounds_of-bounds in
     omega (
       arith,
       visits_are u,
-      visits_pos (net_of c.args.network) c.requires.1 c.args.stop (omega (arith, calls_are u, c.if-bounds-lt2.false)),
+      visits_pos (net_of c.args.network.now.rows) c.args.network.now.valid c.args.stop (omega (arith, calls_are u, c.if-bounds-lt2.false)),
     )
 
-pub returns-then-bounds-spacing : goal.returns-then-bounds-spacing
-returns-then-bounds-spacing c = omega (arith, c.if-bounds-spacing.true, lesser_is (goal.at.returns-then-bounds-spacing c).After-bounds_of-bounds c.if-bounds-lt2.false)
-
-pub returns-else-bounds-spacing : goal.returns-else-bounds-spacing
-returns-else-bounds-spacing c = omega (arith, c.if-bounds-spacing.false, lesser_is (goal.at.returns-else-bounds-spacing c).After-bounds_of-bounds c.if-bounds-lt2.false)
+pub returns : goal.returns
+returns c = c.min.ensures ∙ lesser_is (goal.at.returns c).After-bounds_of-bounds c.if-bounds-lt2.false

@@ -1,21 +1,21 @@
 -- `search::place::cut_of` meets its contract, rule by rule. Assumes nothing.
-use mathlib.Core.Path.{sym, ap, ◌∙◌}
-use Rattle.search.specs.Engine.Representation.{rule_of, rated}
-use Rattle.search.proofs.Laws.Cuts.{above_best_cut, no_best_cut, at_least_cut, by_sum_cut}
+use mathlib.Core.Path.{refl}
+use Rattle.std.specs.Prelude.{Some, None}
+use Rattle.network.specs.Engine.Rated.{ranked}
+use Rattle.search.proofs.Laws.Cuts.{above_best_cut, no_best_cut, at_least_cut, by_sum_cut, by_sum_alone_cut}
 use Rattle.search.proofs.place.cut_of.Goals as goal
 
-pub returns-then-best : goal.returns-then-best
-returns-then-best c least sum = let best = c.args.best in
-    above_best_cut best c.if-best.true least sum ∙ ap (λ r. (rule_of r).drops (rated least sum) best) (sym c.in-AboveBest.is)
+pub returns-in-Some : goal.returns-in-Some
+returns-in-Some c least sum = rw (c.in-AboveBest.is, c.in-Some.is) (above_best_cut (ranked (Some c.in-Some.rating)) refl least sum)
 
-pub returns-else-best : goal.returns-else-best
-returns-else-best c least sum = let best = c.args.best in
-    no_best_cut best c.if-best.false least sum ∙ ap (λ r. (rule_of r).drops (rated least sum) best) (sym c.in-AboveBest.is)
+pub returns-in-None : goal.returns-in-None
+returns-in-None c least sum = rw (c.in-AboveBest.is, c.in-None.is) (no_best_cut (ranked None) refl least sum)
 
 pub returns-in-AtLeast : goal.returns-in-AtLeast
-returns-in-AtLeast c least sum = let best = c.args.best in
-    at_least_cut best _ least sum ∙ ap (λ r. (rule_of r).drops (rated least sum) best) (sym c.in-AtLeast.is)
+returns-in-AtLeast c least sum = rw c.in-AtLeast.is (at_least_cut (ranked c.args.best) _ least sum)
 
-pub returns-in-BySum : goal.returns-in-BySum
-returns-in-BySum c least sum = let best = c.args.best in
-    by_sum_cut best _ least sum ∙ ap (λ r. (rule_of r).drops (rated least sum) best) (sym c.in-BySum.is)
+pub returns-in-Some-best : goal.returns-in-Some-best
+returns-in-Some-best c least sum = rw (c.in-BySum.is, c.in-Some-best.is) (by_sum_cut (ranked (Some c.in-Some-best.rating)) _ refl least sum)
+
+pub returns-in-None-best : goal.returns-in-None-best
+returns-in-None-best c least sum = rw (c.in-BySum.is, c.in-None-best.is) (by_sum_alone_cut (ranked None) _ refl least sum)

@@ -1,83 +1,75 @@
 -- `search::walking::walk_on_file` meets its contract: it ends with the file's refusal, then ground 16, then the walk, and writes the row only
 -- where the walk has a best. Assumes nothing.
-use mathlib.Core.Path.{◌≡◌, sym, ap, ◌∙◌}
-use mathlib.Core.Bool.{Bool}
+use Prim.Native.Nat.{ℕ}
+use mathlib.Core.Path.{sym, ap, ◌∙◌}
+use mathlib.Core.List.{List}
+use native.Mathlib.Omega.{arith}
+use lib.IntN.{ℤ}
 use lib.ListN.{length}
-use Rattle.network.specs.declared.Check.{Check}
-use Rattle.network.specs.Lists.{pick}
-use Rattle.network.specs.Reading.{accepted, read_file}
-use Rattle.network.specs.Refusals.{Refuses, by_file, after_file, Unfit}
-use Rattle.network.specs.Engine.Stored.{net_of, reading_of}
-use Rattle.network.specs.Valid.{Valid, IsBytes}
-use Rattle.network.proofs.Laws.Stored.{held_lines, bytes_of, reading_of_passes, reading_of_refused}
-use Rattle.network.proofs.Laws.Gaps.{accepted_valid}
-use Rattle.search.specs.Engine.Representation.{starts_of, rule_of}
-use Rattle.search.proofs.Laws.WalkOnFile.{ends_refused, leaves_refused, ends_walked, leaves_walked}
+use Rattle.network.specs.Network.{Net}
+use Rattle.network.specs.Reading.{Reading, read_file}
+use Rattle.network.proofs.Laws.Results.{error_is}
+use Rattle.network.proofs.Laws.Stored.{held_lines, bytes_of, reading_of_network, reading_of_refused}
+use Rattle.search.specs.declared.Rule as code
+use Rattle.search.specs.Search.{walked, on_start_row, row_after_walk}
+use Rattle.search.specs.Walk.{State}
+use Rattle.search.specs.Engine.Representation.{rule_of, Ending, ended, refusal, ending_of}
+use Rattle.search.proofs.Laws.Cuts.{some_is}
+use Rattle.search.proofs.Laws.WalkOnFile.{made_of_walk, made_of_refusal, best_written, none_left_as_is}
 use Rattle.search.proofs.walking.walk_on_file.Goals as goal
-use Rattle.search.proofs.walking.walk_on_file.Goals.{After-read_network-step, In-Passes, Then-row-network}
 
--- What was lent are bytes
-bytes_here : (c : After-read_network-step) → IsBytes c.args.file.now
-bytes_here c = bytes_of c.args.file.now (λ i. (c.type_inv.file i).fits)
+-- How a call ends, and what it leaves in the row, by what reading the file gives
+module _ (row : List ℤ) (rule : code.Rule) (budget : ℕ) where
+  abbrev walks : Net → State
+  walks n = walked n (rule_of rule) budget
 
--- In the arm of `Passes` the file is accepted, as a valid network
-accepted_here : (c : In-Passes) → read_file c.args.file.now ≡ accepted (net_of c.read_network-step.result.network)
-accepted_here c =
-    let n = c.read_network-step.result.network in
-    sym c.read_network-step.ensures.1 ∙ ap (λ (k : Check). reading_of k n) c.in-Passes.is ∙ reading_of_passes n
+  abbrev ends : Reading → Ending
+  ends read = on_start_row (λ (n : Net). ended (walks n)) refusal read (length row)
 
-valid_here : (c : In-Passes) → Valid (net_of c.read_network-step.result.network)
-valid_here c = accepted_valid c.args.file.now _ (bytes_here (record { before = c.before.before.before; type_inv = record { file = c.type_inv.file } })) (accepted_here c)
+  abbrev leaves : Reading → List ℤ
+  leaves read = on_start_row (λ (n : Net). row_after_walk (walks n) row) (λ (number place : ℕ). row) read (length row)
 
--- There the row has one place for each line
-fits_here : (c : Then-row-network) → length c.args.row.now ≡ length (net_of c.read_network-step.result.network).periods
-fits_here c =
-    let r = c.read_network-step in
-    c.if-row-network.true ∙ sym (held_lines r.result.network r.ensures.0)
+pub returns-in_err-network : goal.returns-in_err-network
+unfolding ending_of on_start_row
+returns-in_err-network c = let u = c.in_err-network.field-0.0 in
+    let refuses = sym c.in_err-network.ensures.1 ∙ reading_of_refused u in record {
+      ended = rw (error_is c.from_residual.result c.from_residual.ensures.1) (sym (ap (ends c.args.row.now c.args.rule c.args.budget) refuses));
+      starts = sym (ap (leaves c.args.row.now c.args.rule c.args.budget) refuses);
+      bytes = bytes_of c.args.file.now (λ i. (c.type_inv.file i).fits);
+    }
 
-pub walked-walk-requires : goal.walked-walk-requires
-walked-walk-requires c = (c.read_network-step.ensures.0, valid_here (goal.at.walked-walk-requires c).In-Passes)
+pub returns-in_err-walk : goal.returns-in_err-walk
+returns-in_err-walk c = let row = c.args.row.now in
+    let reads = sym (reading_of_network c.in_ok-network.network) ∙ c.in_ok-network.ensures.1 in
+    let here = c.in_err-walk.ensures.ended ∙ ap (ends row c.args.rule c.args.budget) reads in record {
+      ended = rw (error_is c.from_residual-in_err-walk.result c.from_residual-in_err-walk.ensures.1) here;
+      starts = made_of_refusal (λ (s : State). row_after_walk s row) (λ (number place : ℕ). row) (walks row c.args.rule c.args.budget) (read_file c.args.file.now) (length row) _ here;
+      bytes = bytes_of c.args.file.now (λ i. (c.type_inv.file i).fits);
+    }
 
-pub returns-then-best : goal.returns-then-best
-returns-then-best c =
-    let u = (goal.at.returns-then-best c).Then-row-network in
-    let row = c.args.row.now in
-    let walk = c.walked-walk in
-    let reads = accepted_here (goal.at.returns-then-best c).In-Passes in
-    let rule = rule_of c.args.rule in record {
-      ended = ends_walked c.args.file.now row rule c.args.budget reads (fits_here u) walk.result walk.ensures;
+pub write_starts-requires : goal.write_starts-requires
+write_starts-requires c = let n = c.in_ok-network.network in
+    omega (arith, c.in_ok-walk.ensures.fits, held_lines n.rows n.sound, n.sound.lines)
+
+pub returns-then-is_some : goal.returns-then-is_some
+returns-then-is_some c = let row = c.args.row.now in
+    let w = c.in_ok-walk.walk in
+    let reads = sym (reading_of_network c.in_ok-network.network) ∙ c.in_ok-network.ensures.1 in
+    let here = c.in_ok-walk.ensures.ended ∙ ap (ends row c.args.rule c.args.budget) reads in record {
+      ended = here;
       starts = c.write_starts.ensures
-          ∙ sym (ap (λ (b : Bool). pick b (starts_of (length row) walk.result.starts) row) c.if-best.true)
-          ∙ leaves_walked c.args.file.now row rule c.args.budget reads (fits_here u) walk.result walk.ensures;
-      bytes = bytes_here (goal.at.returns-then-best c).After-read_network-step;
+          ∙ best_written (length row) w row (sym (some_is w.best) ∙ sym c.is_some.ensures ∙ c.if-is_some.true)
+          ∙ made_of_walk (λ (s : State). row_after_walk s row) (λ (number place : ℕ). row) (walks row c.args.rule c.args.budget) (read_file c.args.file.now) (length row) w here;
+      bytes = bytes_of c.args.file.now (λ i. (c.type_inv.file i).fits);
     }
 
-pub returns-else-best : goal.returns-else-best
-returns-else-best c =
-    let u = (goal.at.returns-else-best c).Then-row-network in
-    let row = c.args.row.now in
-    let walk = c.walked-walk in
-    let reads = accepted_here (goal.at.returns-else-best c).In-Passes in
-    let rule = rule_of c.args.rule in record {
-      ended = ends_walked c.args.file.now row rule c.args.budget reads (fits_here u) walk.result walk.ensures;
-      starts = sym (ap (λ (b : Bool). pick b (starts_of (length row) walk.result.starts) row) c.if-best.false)
-          ∙ leaves_walked c.args.file.now row rule c.args.budget reads (fits_here u) walk.result walk.ensures;
-      bytes = bytes_here (goal.at.returns-else-best c).After-read_network-step;
-    }
-
-pub returns-in-Refused : goal.returns-in-Refused
-returns-in-Refused c = let r = c.read_network-step in
-    let refused_here = sym r.ensures.1 ∙ ap (λ (k : Check). reading_of k r.result.network) c.in-Refused.is ∙ reading_of_refused r.result.network _ _ in record {
-      ended = ends_refused c.args.file.now c.args.row.now (rule_of c.args.rule) c.args.budget (by_file refused_here) _;
-      starts = leaves_refused c.args.file.now c.args.row.now (rule_of c.args.rule) c.args.budget (by_file refused_here);
-      bytes = bytes_here (goal.at.returns-in-Refused c).After-read_network-step;
-    }
-
-pub returns-else-row-network : goal.returns-else-row-network
-returns-else-row-network c = let r = c.read_network-step in
-    let unfit : Refuses c.args.file.now 16 (Unfit c.args.row.now) 16 0
-    = after_file (accepted_here (goal.at.returns-else-row-network c).In-Passes) (λ e. c.if-row-network.false (e ∙ held_lines r.result.network r.ensures.0)) in record {
-      ended = ends_refused c.args.file.now c.args.row.now (rule_of c.args.rule) c.args.budget unfit _;
-      starts = leaves_refused c.args.file.now c.args.row.now (rule_of c.args.rule) c.args.budget unfit;
-      bytes = bytes_here (goal.at.returns-else-row-network c).After-read_network-step;
+pub returns-else-is_some : goal.returns-else-is_some
+returns-else-is_some c = let row = c.args.row.now in
+    let w = c.in_ok-walk.walk in
+    let reads = sym (reading_of_network c.in_ok-network.network) ∙ c.in_ok-network.ensures.1 in
+    let here = c.in_ok-walk.ensures.ended ∙ ap (ends row c.args.rule c.args.budget) reads in record {
+      ended = here;
+      starts = none_left_as_is (length row) w row (sym (some_is w.best) ∙ sym c.is_some.ensures ∙ c.if-is_some.false)
+          ∙ made_of_walk (λ (s : State). row_after_walk s row) (λ (number place : ℕ). row) (walks row c.args.rule c.args.budget) (read_file c.args.file.now) (length row) w here;
+      bytes = bytes_of c.args.file.now (λ i. (c.type_inv.file i).fits);
     }

@@ -3,27 +3,27 @@ use mathlib.Core.Path.{◌∙◌}
 use lib.ListN.{length}
 use Rattle.network.specs.Network.{Net}
 use Rattle.network.specs.Reading.{read_file}
+use Rattle.network.proofs.Laws.Results.{error_is}
 use Rattle.search.specs.Engine.Representation.{rule_of}
 use Rattle.search.specs.Search.{walked}
 use Rattle.search.specs.Wanted.{at_least, refusal, wanted_answer, reached_of, wanted_outcome, wanted_row_after}
 use Rattle.search.proofs.Laws.WalkOnFile.{made_of_walk, made_of_refusal}
 use Rattle.search.proofs.wanted.wanted.Goals as goal
 
-pub returns-in-Refused : goal.returns-in-Refused
+pub returns-in_err-walk : goal.returns-in_err-walk
 unfolding wanted_answer wanted_outcome wanted_row_after rule_of
-returns-in-Refused c = let w = c.walk_on_file-ended in record {
-  answer = made_of_refusal reached_of refusal (λ (n : Net). walked n (at_least c.args.gap) c.args.budget) (read_file c.args.file.now) (length c.args.row.now) w.result w.ensures.ended
-      c.in-Refused.is;
+returns-in_err-walk c = let w = c.walk_on_file in record {
+  answer = rw (error_is c.from_residual.result c.from_residual.ensures.1)
+      (made_of_refusal reached_of refusal (λ (n : Net). walked n (at_least c.args.gap) c.args.budget) (read_file c.args.file.now) (length c.args.row.now) _ c.in_err-walk.ensures.ended);
   starts = w.ensures.starts;
   bytes = w.ensures.bytes;
 }
 
-pub returns-in-Passes : goal.returns-in-Passes
+pub returns : goal.returns
 unfolding wanted_outcome wanted_row_after rule_of
-returns-in-Passes c = let w = c.walk_on_file-ended in record {
+returns c = let w = c.walk_on_file in record {
   answer = c.reached.ensures (length c.args.row.now)
-      ∙ made_of_walk reached_of refusal (λ (n : Net). walked n (at_least c.args.gap) c.args.budget) (read_file c.args.file.now) (length c.args.row.now) w.result w.ensures.ended
-      c.in-Passes.is;
+      ∙ made_of_walk reached_of refusal (λ (n : Net). walked n (at_least c.args.gap) c.args.budget) (read_file c.args.file.now) (length c.args.row.now) _ c.in_ok-walk.ensures.ended;
   starts = w.ensures.starts;
   bytes = w.ensures.bytes;
 }
