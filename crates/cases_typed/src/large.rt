@@ -1,5 +1,5 @@
 // Files with many lines and many calls.
-ghost use Rattle.std.specs.Prelude.{◌<◌, ◌≤◌, ◌*◌};
+ghost use Rattle.std.specs.Prelude.{◌<◌, ◌≤◌};
 
 // So many lines of one period, and behind them 256 calls that go round the first `callers` lines: each of these at stop 0, then each at
 // stop 1, and so on. All have offset 1, so that lines which start together meet at every stop; or, sloping, the line's number times the

@@ -1,5 +1,5 @@
 // The gaps call: the gap of each stop in a lent row, beside the rating.
-ghost use Rattle.std.specs.Prelude.{◌≡◌, ℕ, suc, ◌<◌, ◌≤◌, true, false, length, get_or};
+ghost use Rattle.std.specs.Prelude.{◌≡◌, ℕ, suc, ◌<◌, ◌≤◌, true, false, get_or};
 ghost use Rattle.network.specs.GapRow as gap;
 ghost use Rattle.network.specs.GapRow.{no_gap};
 ghost use Rattle.network.specs.Lists.{pick, table};

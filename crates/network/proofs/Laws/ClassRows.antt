@@ -60,14 +60,7 @@ class_at_le {n} v t = go (is_served t n.calls) refl
     go false e h = absurd (omega arith)
 
 module _ (n : Net) (t : ℕ) where
-  pub class_at_byte : class_at n t < 256
-  class_at_byte = go (is_served t n.calls)
-    where
-      go : (x : Bool) → pick x (lowest_alike n t) 255 < 256
-      go true = omega (arith, (first_alike n t).at_most)
-      go false = omega arith
-
-  -- it tells the stop's class
+  -- A stop's class number tells its class
   pub class_at_in : (s : ℕ) → s < 64 → is_in_class_of n s t ≡ eqb (class_at n t) s
   class_at_in s h = go (is_served t n.calls)
     where
