@@ -43,7 +43,8 @@ fn written(times: &[i64; PLACES], lines: &[u8; PLACES]) -> usize
         .map_or(0, |last| last + 1)
 }
 
-// An arrival: its time, of either sign, a stroke, and its line.
+// An arrival: its time, of either sign, and behind a stroke its line. Two writes, as ever.
 fn show_arrival(rt: &impl Print, time: i64, line: u8) -> io::Result<()> {
-    print!(rt; " {time}/{line}")
+    print!(rt; " {time}")?;
+    print!(rt; "/{line}")
 }

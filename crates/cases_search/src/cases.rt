@@ -71,9 +71,15 @@ fn show_best(rt: &impl Print, best: Rating, tries: u32) -> io::Result<()> {
 // What is answered to a wanted gap.
 fn show_wanted(rt: &impl Print, answer: Result<WantedAnswer, Refusal>) -> io::Result<()> {
     match answer {
-        Ok(WantedAnswer::Found { tries }) => print!(rt; " found, tries {tries}"),
-        Ok(WantedAnswer::None { tries }) => print!(rt; " none, tries {tries}"),
-        Ok(WantedAnswer::Stopped { tries }) => print!(rt; " stopped, tries {tries}"),
+        Ok(WantedAnswer::Found { tries }) => show_ended(rt, " found", tries),
+        Ok(WantedAnswer::None { tries }) => show_ended(rt, " none", tries),
+        Ok(WantedAnswer::Stopped { tries }) => show_ended(rt, " stopped", tries),
         Err(refusal) => show_refusal(rt, refusal.reason.number(), refusal.place),
     }
+}
+
+// How it ended, and the tries. Two writes, as ever.
+fn show_ended(rt: &impl Print, how: &str, tries: u32) -> io::Result<()> {
+    print!(rt; "{how}")?;
+    print!(rt; ", tries {tries}")
 }
