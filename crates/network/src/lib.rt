@@ -201,7 +201,11 @@ impl Rating {
     pub fn is_equal(one: Option<Rating>, other: Option<Rating>) -> bool
         ensures { result ≡ rating.is_equal (ranked one) (ranked other) }
     {
-        one == other
+        match (one, other) {
+            (Some(rating), Some(beside)) => rating == beside,
+            (None, None) => true,
+            _ => false,
+        }
     }
 
     // Whether a rating's least gap is a wanted one or larger. None reaches nothing, not even 0.

@@ -1,20 +1,22 @@
--- `network::Rating::is_equal` meets its contract: the derived test is that of the definition, by both numbers, with none equal to none alone.
+-- `network::Rating::is_equal` meets its contract: two ratings are equal where both their numbers are, none is equal to none alone.
 -- Assumes nothing.
-use mathlib.Core.Path.{◌≡◌, refl, ◌∙◌}
-use Rattle.std.proofs.Common.{Option, None, Some}
-use Rattle.std.specs.Option.{option_eq}
-use Rattle.network.specs.contracts.RatingPartialEq.TheImpl.{eq-value}
-use Rattle.network.specs.declared.Rating as held
+use mathlib.Core.Path.{refl}
 use Rattle.network.specs.Rating.{is_equal}
 use Rattle.network.specs.Engine.Rated.{ranked}
 use Rattle.network.proofs.Rating.is_equal.Goals as goal
 
-derived : (one other : Option held.Rating) → option_eq eq-value.it one other ≡ is_equal (ranked one) (ranked other)
+pub returns-in-Some-Some : goal.returns-in-Some-Some
 unfolding is_equal
-derived None None = refl
-derived None (Some r) = refl
-derived (Some r) None = refl
-derived (Some r) (Some q) = refl
+returns-in-Some-Some c = rw (c.in-Some-Some.is-0, c.in-Some-Some.is-1, c.eq.ensures) refl
 
-pub returns : goal.returns
-returns c = c.eq.ensures ∙ derived c.args.one c.args.other
+pub returns-in-None-None : goal.returns-in-None-None
+unfolding is_equal
+returns-in-None-None c = rw (c.in-None-None.is-0, c.in-None-None.is-1) refl
+
+pub returns-in_default : goal.returns-in_default
+unfolding is_equal
+returns-in_default c = rw (c.in_default.is-0, c.in_default.is-1) refl
+
+pub returns-in_default-2 : goal.returns-in_default-2
+unfolding is_equal
+returns-in_default-2 c = rw (c.in_default.is-0, c.in_default.is-1) refl
