@@ -2,10 +2,10 @@
 -- rating; that order turned round; and the tests by one of the two numbers. Assumes nothing.
 use Prim.Native.Nat.{ℕ, ◌≤◌, ◌<◌}
 use mathlib.Core.Path.{◌≡◌, refl, sym, ap₂, ◌∙◌}
-use mathlib.Core.Bool.{Bool, true, false, not, ◌&&◌, ◌||◌, and-true}
+use mathlib.Core.Bool.{Bool, true, false, not, ◌&&◌, ◌||◌, and-true, or-false}
 use mathlib.Core.Logic.{◌⊎◌, inl, inr}
 use native.Mathlib.Omega.{arith}
-use borrow.Author.Tests.{ltb-true, ltb-false, eqb-true, eqb-false, lt-ltb, le-ltb, eq-eqb}
+use borrow.Author.Tests.{ltb-true, ltb-false, eqb-true, eqb-false, lt-ltb, le-ltb, eq-eqb, ne_eqb}
 use lib.Dec.{eqb, ltb, leb}
 use Rattle.network.specs.Rating.{Rating}
 use Rattle.network.specs.Rating.{no_rating, is_above, is_equal, reaches, is_sum_above}
@@ -116,18 +116,41 @@ is_above_transitive r q s e f = go s.some refl
         is_above_of_above r s some_r g (above_transitive r q s (above_of_is_above r q some_r some_q e) (above_of_is_above q s some_q g f))
     go false g = ap₂ (λ a b. a && (not b || is_more r.least r.sum s.least s.sum)) some_r g
 
--- Some rating is above none
-pub above_none : (r q : Rating) → r.some ≡ true → q.some ≡ false → is_above r q ≡ true
-unfolding is_above
-above_none r q e f = rw (e, f)
+-- ---- the order by its table
+
+module _ (r q : Rating) where
+  pub none_above : r.some ≡ false → is_above r q ≡ false
+  unfolding is_above
+  none_above e = rw e
+
+  pub above_none : r.some ≡ true → q.some ≡ false → is_above r q ≡ true
+  unfolding is_above
+  above_none e f = rw (e, f)
+
+  pub above_same_least : r.some ≡ true → q.some ≡ true → q.least ≡ r.least → is_above r q ≡ ltb q.sum r.sum
+  unfolding is_above
+  above_same_least e f g = rw (e, f, eq-eqb q.least r.least g, le-ltb q.least r.least (omega arith))
+
+  pub above_other_least : r.some ≡ true → q.some ≡ true → (q.least ≡ r.least → ⊥) → is_above r q ≡ ltb q.least r.least
+  unfolding is_above
+  above_other_least e f g = rw (e, f, ne_eqb q.least r.least g) (or-false _)
 
 -- ---- by the least gap alone, and by the sum alone
 
-pub reaches_by_least : (r : Rating) (wanted : ℕ) → r.some ≡ true → reaches r wanted ≡ leb wanted r.least
-unfolding reaches
-reaches_by_least r wanted e = rw e
+module _ (r : Rating) (wanted : ℕ) where
+  pub none_reaches : r.some ≡ false → reaches r wanted ≡ false
+  unfolding reaches
+  none_reaches e = rw e
+
+  pub reaches_by_least : r.some ≡ true → reaches r wanted ≡ leb wanted r.least
+  unfolding reaches
+  reaches_by_least e = rw e
 
 module _ (r q : Rating) where
+  pub none_sum_above : r.some ≡ false → is_sum_above r q ≡ false
+  unfolding is_sum_above
+  none_sum_above e = rw e
+
   pub sum_above_none : r.some ≡ true → q.some ≡ false → is_sum_above r q ≡ true
   unfolding is_sum_above
   sum_above_none e f = rw (e, f)

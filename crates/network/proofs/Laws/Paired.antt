@@ -33,6 +33,9 @@ kept row m v k h e = go (ℕ_discrete k m)
     go (no f) = get_or-set_other row m k v 0 f ∙ e
 
 module _ (f : ℕ → ℕ → ℕ) where
+  pub paired_none : (row : List ℕ) → length row ≡ 256 → Paired f row 0
+  paired_none row e = record { row_length = e; both = λ i j h l k. absurd (omega arith) }
+
   -- one pair more
   pub paired_next :
       (row : List ℕ) (k v : ℕ)

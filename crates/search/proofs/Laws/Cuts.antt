@@ -85,6 +85,10 @@ module _ (cut : Cut) (least sum : ℕ) where
       pub short_at_floor : sum ≤ beside → cut.anywhere ≡ false → leb least cut.floor ≡ is_short cut least sum
       short_at_floor h e = sym (ap (λ (t : Bool). t || leb least cut.floor) e) ∙ below_beside h
 
+    pub stands_above_floor : cut.anywhere ≡ false → cut.floor < least → false ≡ is_short cut least sum
+    unfolding is_short
+    stands_above_floor e h = rw (le-ltb least cut.floor reached, e, lt-leb least cut.floor h) refl
+
     pub stands_alone : cut.sum ≡ None → false ≡ is_short cut least sum
     unfolding is_short is_no_above
     stands_alone e = rw (le-ltb least cut.floor reached, e) (and-false (cut.anywhere || leb least cut.floor))
