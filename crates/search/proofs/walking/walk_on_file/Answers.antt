@@ -6,9 +6,9 @@ use mathlib.Core.List.{List}
 use native.Mathlib.Omega.{arith}
 use lib.IntN.{ℤ}
 use lib.ListN.{length}
+use Rattle.std.proofs.lemmas.Result.{err_from_is_err_and}
 use Rattle.network.specs.Network.{Net}
 use Rattle.network.specs.Reading.{Reading, read_file}
-use Rattle.network.proofs.Laws.Results.{error_is}
 use Rattle.network.proofs.Laws.Stored.{held_lines, bytes_of, reading_of_network, reading_of_refused}
 use Rattle.search.specs.declared.Rule as code
 use Rattle.search.specs.Search.{walked, on_start_row, row_after_walk}
@@ -32,8 +32,9 @@ module _ (row : List ℤ) (rule : code.Rule) (budget : ℕ) where
 pub returns-in_err-network : goal.returns-in_err-network
 unfolding ending_of on_start_row
 returns-in_err-network c = let u = c.in_err-network.field-0.0 in
-    let refuses = sym c.in_err-network.ensures.1 ∙ reading_of_refused u in record {
-      ended = rw (error_is c.from_residual.result c.from_residual.ensures.1) (sym (ap (ends c.args.row.now c.args.rule c.args.budget) refuses));
+    let refuses = sym c.in_err-network.ensures.1 ∙ reading_of_refused u in
+    let (_, is, gives) = err_from_is_err_and c.from_residual.result c.from_residual.ensures.1 in record {
+      ended = rw (is, gives) (sym (ap (ends c.args.row.now c.args.rule c.args.budget) refuses));
       starts = sym (ap (leaves c.args.row.now c.args.rule c.args.budget) refuses);
       bytes = bytes_of c.args.file.now (λ i. (c.type_inv.file i).fits);
     }
@@ -41,8 +42,9 @@ returns-in_err-network c = let u = c.in_err-network.field-0.0 in
 pub returns-in_err-walk : goal.returns-in_err-walk
 returns-in_err-walk c = let row = c.args.row.now in
     let reads = sym (reading_of_network c.in_ok-network.network) ∙ c.in_ok-network.ensures.1 in
-    let here = c.in_err-walk.ensures.ended ∙ ap (ends row c.args.rule c.args.budget) reads in record {
-      ended = rw (error_is c.from_residual-in_err-walk.result c.from_residual-in_err-walk.ensures.1) here;
+    let here = c.in_err-walk.ensures.ended ∙ ap (ends row c.args.rule c.args.budget) reads in
+    let (_, is, gives) = err_from_is_err_and c.from_residual-in_err-walk.result c.from_residual-in_err-walk.ensures.1 in record {
+      ended = rw (is, gives) here;
       starts = made_of_refusal (λ (s : State). row_after_walk s row) (λ (number place : ℕ). row) (walks row c.args.rule c.args.budget) (read_file c.args.file.now) (length row) _ here;
       bytes = bytes_of c.args.file.now (λ i. (c.type_inv.file i).fits);
     }
