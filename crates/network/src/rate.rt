@@ -26,7 +26,7 @@ impl Timetable<'_> {
 }
 
 // Rate on a network that has been read: the rating of a sheet, or ground 15 where it hasn't one start for each line.
-pub fn rate_held(network: &Network, sheet: &[i32]) -> Result<Rating, Refusal>
+pub fn rate_network(network: &Network, sheet: &[i32]) -> Result<Rating, Refusal>
     ensures { rate_answer result ≡ rate_outcome (accepted (net_of network.now.rows)) sheet.now }
 {
     Ok(timetable_of(network, sheet)?.rating())
@@ -38,7 +38,7 @@ pub fn rate(file: &[u8], sheet: &[i32]) -> Result<Rating, Refusal>
     ensures bytes { IsBytes file.now }
 {
     let network = read_network(file)?;
-    rate_held(&network, sheet)
+    rate_network(&network, sheet)
 }
 
 // Rate for each of two sheets, the file being read once.
@@ -53,8 +53,8 @@ pub fn rate_both(file: &[u8], first: &[i32], second: &[i32]) -> RatedBoth
             second: Err(refusal),
         },
         Ok(network) => RatedBoth {
-            first: rate_held(&network, first),
-            second: rate_held(&network, second),
+            first: rate_network(&network, first),
+            second: rate_network(&network, second),
         },
     }
 }

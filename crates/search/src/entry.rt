@@ -10,7 +10,7 @@ ghost use Rattle.search.specs.Search as spec;
 use crate::walking::{walk_held, walk_on_file};
 use crate::{RatedAndSearched, Rule, SearchAnswer, Walk};
 use network::grounds::Refusal;
-use network::rate::rate_held;
+use network::rate::rate_network;
 use network::reader::read_network;
 use network::{Network, Rating, Unread};
 
@@ -61,7 +61,7 @@ pub fn rate_and_search(file: &[u8], sheet: &[i32], budget: u32) -> RatedAndSearc
             found: Err(refusal),
         },
         Ok(network) => RatedAndSearched {
-            rated: rate_held(&network, sheet),
+            rated: rate_network(&network, sheet),
             found: search_held(&network, sheet.len(), budget),
         },
     }

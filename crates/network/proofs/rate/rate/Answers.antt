@@ -16,7 +16,7 @@ returns-in_err-network c = let u = c.in_err-network.field-0.0 in
 
 pub returns : goal.returns
 returns c = record {
-  answer = c.rate_held.ensures
+  answer = c.rate_network.ensures
       ∙ ap (λ (k : Reading). rate_outcome k c.args.sheet.now) (sym (reading_of_network c.in_ok-network.network) ∙ c.in_ok-network.ensures.1);
   bytes = bytes_of c.args.file.now (λ i. (c.type_inv.file i).fits);
 }

@@ -17,7 +17,7 @@ returns-in-Err c = let u = c.in-Err.field-0 in
 
 pub returns-in-Ok : goal.returns-in-Ok
 returns-in-Ok c = let reads = sym (reading_of_network c.in-Ok.network) ∙ c.in-Ok.ensures.1 in record {
-  first = c.rate_held.ensures ∙ ap (λ (k : Reading). rate_outcome k c.args.first.now) reads;
-  second = c.rate_held-in-Ok.ensures ∙ ap (λ (k : Reading). rate_outcome k c.args.second.now) reads;
+  first = c.rate_network.ensures ∙ ap (λ (k : Reading). rate_outcome k c.args.first.now) reads;
+  second = c.rate_network-in-Ok.ensures ∙ ap (λ (k : Reading). rate_outcome k c.args.second.now) reads;
   bytes = bytes_of c.args.file.now (λ i. (c.type_inv.file i).fits);
 }

@@ -20,7 +20,7 @@ returns-in-Err c = let u = c.in-Err.field-0 in
 
 pub returns-in-Ok : goal.returns-in-Ok
 returns-in-Ok c = let reads = sym (reading_of_network c.in-Ok.network) ∙ c.in-Ok.ensures.1 in record {
-  rated = c.rate_held.ensures ∙ ap (λ (k : Reading). rate_outcome k c.args.sheet.now) reads;
+  rated = c.rate_network.ensures ∙ ap (λ (k : Reading). rate_outcome k c.args.sheet.now) reads;
   found = c.search_held.ensures ∙ ap (λ (k : Reading). search_outcome k (length c.args.sheet.now) c.args.budget) reads;
   bytes = bytes_of c.args.file.now (λ i. (c.type_inv.file i).fits);
 }

@@ -1,4 +1,4 @@
--- `network::rate::rate_held` meets its contract: it answers ground 15, or the rating. Assumes nothing.
+-- `network::rate::rate_network` meets its contract: it answers ground 15, or the rating. Assumes nothing.
 use mathlib.Core.Path.{sym, ap, ◌∙◌}
 use Rattle.std.proofs.lemmas.Result.{err_from_is_err_and}
 use Rattle.network.specs.Numbers.{number_of}
@@ -6,7 +6,7 @@ use Rattle.network.specs.Reading.{refusal}
 use Rattle.network.specs.Rate.{rate_answer, rating_values, rate_outcome}
 use Rattle.network.specs.Engine.Stored.{net_of}
 use Rattle.network.proofs.Laws.Refusals.{on_sheet_fits, on_sheet_unfit}
-use Rattle.network.proofs.rate.rate_held.Goals as goal
+use Rattle.network.proofs.rate.rate_network.Goals as goal
 
 pub returns-in_err-timetable_of : goal.returns-in_err-timetable_of
 unfolding rate_answer rate_outcome number_of
