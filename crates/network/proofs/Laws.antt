@@ -37,6 +37,7 @@ pub mod Trips
 pub mod Tidy
 pub mod Scan
 pub mod Rate
+pub mod Lent
 pub mod GapRow
 pub mod Joined
 pub mod Sorted

@@ -16,7 +16,8 @@ pub mod ratings;
 pub mod reader;
 pub mod timetable;
 
-ghost use Rattle.std.specs.Prelude.{◌≡◌, ◌+◌, ◌*◌, ◌^◌, ◌<◌, ◌≤◌};
+ghost use Rattle.std.specs.Prelude.{◌≡◌, ℕ, ◌+◌, ◌*◌, ◌^◌, ◌<◌, ◌≤◌, length, get_or};
+ghost use Rattle.network.specs.Divisor as divisor;
 ghost use Rattle.network.specs.Network as net;
 ghost use Rattle.network.specs.Rating as rating;
 ghost use Rattle.network.specs.Engine.Scan as scan;
@@ -24,6 +25,7 @@ ghost use Rattle.network.specs.Engine.Rated.{rated, ranked};
 ghost use Rattle.network.specs.Engine.Stored.{net_of, packed, call_in, Sound};
 ghost use Rattle.network.specs.Valid.{Valid};
 
+use crate::divisor::brought_forward;
 use crate::grounds::Refusal;
 
 // A line calls at a stop, `offset` minutes after its start.
@@ -152,6 +154,42 @@ impl Network {
 
     // The longest board of a stop.
     pub const MAX_MINUTES: u32 = 10080;
+
+    // The network whose rows are lent, in the first edition: neither gaps nor ratings ask for the edition. The common cycle isn't lent, and is
+    // computed from the periods.
+    fn lent(
+        periods: &[u16; Network::MAX_LINES],
+        list: &[u32; Network::MAX_CALLS],
+        lines: usize,
+        calls: usize,
+    ) -> Network
+        requires { scan.Lent periods.now list.now lines calls }
+        ensures { (h : scan.Lent periods.now list.now lines calls) → net_of result.rows ≡ net.with_edition (net_of h.network) net.first_edition }
+    {
+        Network {
+            rows: Rows {
+                lines,
+                periods: *periods,
+                count: calls,
+                list: *list,
+                cycle: common_cycle(&periods[..lines]),
+                edition: Network::FIRST_EDITION,
+            },
+        }
+    }
+}
+
+// The common cycle of periods, where it is known to be within its limit.
+fn common_cycle(periods: &[u16]) -> u32
+    requires cycle_le { divisor.common_cycle periods.now ≤ net.max_cycle }
+    requires in_range { (i : ℕ) → i < length periods.now → (0 < get_or periods.now i 0) × (get_or periods.now i 0 ≤ net.max_period) }
+    ensures { result ≡ divisor.common_cycle periods.now }
+{
+    let mut cycle = 1;
+    for period in periods {
+        cycle = brought_forward(cycle, *period);
+    }
+    cycle
 }
 
 // Why a file is refused, and what was read up to there.

@@ -4,6 +4,7 @@ ghost use Rattle.network.specs.Rate.{rate_answer, rate_outcome};
 ghost use Rattle.network.specs.Rating as rating;
 ghost use Rattle.network.specs.Reading.{read_file, accepted};
 ghost use Rattle.network.specs.Engine.Rated.{rated};
+ghost use Rattle.network.specs.Engine.Scan as scan;
 ghost use Rattle.network.specs.Engine.Stored.{net_of};
 ghost use Rattle.network.specs.Valid.{IsBytes};
 
@@ -30,6 +31,21 @@ pub fn rate_network(network: &Network, sheet: &[i32]) -> Result<Rating, Refusal>
     ensures { rate_answer result ≡ rate_outcome (accepted (net_of network.now.rows)) sheet.now }
 {
     Ok(timetable_of(network, sheet)?.rating())
+}
+
+// Rate on a network whose rows are lent: the rating of a sheet, or ground 15 where it hasn't one start for each line.
+pub fn rate_held(
+    periods: &[u16; Network::MAX_LINES],
+    list: &[u32; Network::MAX_CALLS],
+    lines: usize,
+    calls: usize,
+    sheet: &[i32],
+) -> Result<Rating, Refusal>
+    requires { scan.Lent periods.now list.now lines calls }
+    ensures { (h : scan.Lent periods.now list.now lines calls) → rate_answer result ≡ rate_outcome (accepted (net_of h.network)) sheet.now }
+{
+    let network = Network::lent(periods, list, lines, calls);
+    rate_network(&network, sheet)
 }
 
 // Rate: a file and a sheet of starts; its rating, or the file's refusal, or ground 15 where the sheet hasn't one start for each line.

@@ -108,6 +108,37 @@ impl Timetable<'_> {
     }
 }
 
+// Whether each stop counts, by a row that says how often. A loop: an array's `map` takes longer than the gaps of a small network.
+fn counted(counts: &[u8; Network::STOPS]) -> [bool; Network::STOPS]
+    ensures { (stop : ℕ) → stop < net.stop_count → 0 < get_or counts.now stop 0 → get_or result stop false ≡ true }
+{
+    let mut flags = [false; Network::STOPS];
+    for (stop, count) in counts.iter().enumerate() {
+        flags[stop] = 0 < *count;
+    }
+    flags
+}
+
+// The gaps of the stops that count, on a sheet with one start for each line of a network whose rows are lent.
+pub fn stop_gaps(
+    periods: &[u16; Network::MAX_LINES],
+    list: &[u32; Network::MAX_CALLS],
+    calls: usize,
+    sheet: &[i32],
+    counts: &[u8; Network::STOPS],
+) -> [u32; Network::STOPS]
+    requires { scan.Lent periods.now list.now (length sheet.now) calls }
+    ensures { (h : scan.Lent periods.now list.now (length sheet.now) calls) → (stop : ℕ) → stop < net.stop_count → 0 < get_or counts.now stop 0 → get_or result stop 0 ≡ rating.stop_gap (net_of h.network) sheet.now stop }
+{
+    let network = Network::lent(periods, list, sheet.len(), calls);
+    let timetable = Timetable {
+        network: &network,
+        starts: sheet,
+    };
+    let flags = counted(counts);
+    timetable.stop_gaps(&flags)
+}
+
 // The rating of stops with these gaps: those that count, with their weights in the sum. Where no stop counts, both numbers are 0.
 pub fn rating_over(
     gaps: &[u32; Network::STOPS],

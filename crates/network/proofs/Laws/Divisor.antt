@@ -6,6 +6,7 @@ use native.Mathlib.Nat.{dvd_trans, dvd-mul_left, dvd-add, dvd-add_iff_right, dvd
 use native.Mathlib.Nat.{div-mul_cancel, le_of_dvd, pos_of_dvd_of_pos, eq-zero-or-pos, div-add-mod', mod-lt, mul-pos, mul_comm, mul-one}
 use native.Mathlib.Nat.{le-div_iff_mul-le, zero-lt-suc, le_refl, le_of_suc-le-suc, not-suc-le-zero}
 use native.Mathlib.Nat.{mod-eq_of_lt, mod_self, add-mul-mod_self_right, add-mul-div_right, div-eq_of_lt}
+use native.Mathlib.Numerals.{add-one}
 use native.Mathlib.Omega.{arith}
 use mathlib.Core.Path.{◌≡◌, refl, sym, ap, subst, ◌∙◌}
 use mathlib.Core.Bool.{Bool, true, false}
@@ -13,7 +14,8 @@ use mathlib.Core.Logic.{◌⊎◌, inl, inr}
 use mathlib.Core.List.{List, [], ◌∷◌, ◌++◌}
 use borrow.Author.Tests.{eqb-true, eqb-false}
 use lib.Dec.{eqb}
-use lib.ListN.{length, get_or, length-append, get_or-append}
+use lib.ListN.{length, get_or, take, drop, length-append, length-take, get_or-append, take-append-drop}
+use lib.Seq.{take-suc, get_or-take}
 use Rattle.network.specs.Lists.{pick}
 use Rattle.network.specs.Divisor.{Divides, gcd_within, gcd, lcm, cycle_from, common_cycle, IsLeastCommonMultiple}
 
@@ -285,6 +287,24 @@ common_cycle_prefix_le ps qs all e positive =
     subst (λ (t : ℕ). Divides t (common_cycle all)) (ap (λ (l : List ℕ). get_or l i 0) (sym e) ∙ get_or-append ps qs 0 i h)
     (period_divides_common_cycle all i (omega (arith, h, ap length e, length-append ps qs)))))
     (common_cycle_pos all positive)
+
+-- the common cycle of the first so many periods: it is positive, no longer than that of all, and brought forward by the next period
+module _ (periods : List ℕ) (positive : (i : ℕ) → i < length periods → 0 < get_or periods i 0) (i : ℕ) where
+  pub first_cycle_pos : 0 < common_cycle (take i periods)
+  first_cycle_pos =
+      common_cycle_pos (take i periods)
+      (λ j h.
+      let low : j < i = omega (arith, length-take i periods) in
+      rw (get_or-take i periods j 0 low) (positive j (omega (arith, length-take i periods))))
+
+  pub first_cycle_le : common_cycle (take i periods) ≤ common_cycle periods
+  first_cycle_le = common_cycle_prefix_le (take i periods) (drop i periods) periods (take-append-drop i periods) positive
+
+pub first_cycle_next : (periods : List ℕ) (i : ℕ) → i < length periods
+    → common_cycle (take (i + 1) periods) ≡ lcm (common_cycle (take i periods)) (get_or periods i 0)
+first_cycle_next periods i h =
+    ap common_cycle (ap (λ (k : ℕ). take k periods) (add-one i) ∙ take-suc periods i 0 h)
+    ∙ common_cycle_snoc (take i periods) (get_or periods i 0)
 
 -- ---- a number and one more, divided by a number
 

@@ -9,7 +9,7 @@ use native.Mathlib.Nat.{le_trans, zero-lt-suc}
 use native.Mathlib.Omega.{arith}
 use lib.Dec.{eqb}
 use lib.IntN.{ℤ}
-use lib.ListN.{length, get_or, replicate, get_or-replicate}
+use lib.ListN.{length, get_or, take, replicate, get_or-replicate}
 use Rattle.network.specs.declared.Call.{Call}
 use Rattle.network.specs.Lists.{below, least_of, keep}
 use Rattle.network.specs.Network.{Net, max_stop, max_period, is_served}
@@ -27,7 +27,8 @@ use Rattle.network.specs.Rating.{
   rating_over,
   rating,
 }
-use Rattle.network.specs.Engine.Scan.{counted_stops}
+use Rattle.network.specs.Engine.Scan.{counted_stops, Lent}
+use Rattle.network.specs.Engine.Stored.{net_of, calls_in}
 use Rattle.network.proofs.Laws.Lists.{map_same}
 use Rattle.network.proofs.Laws.Members.{keep_all}
 use Rattle.network.proofs.Laws.Tables.{below_of_member, below_same}
@@ -106,3 +107,19 @@ unfolding rating
 served_rating n counts flags starts gaps are =
     rating_of_rows n starts gaps counts (replicate 64 1) are
     ∙ ap (rating_over n starts) (counted_served n counts (replicate 64 1) flags ones_are)
+
+-- ---- rows of a network that is lent: which stops its calls serve, and their gaps
+
+module _ {periods list : List ℕ} {lines calls : ℕ} (h : Lent periods list lines calls) (counts : List Bool)
+    (flags : (stop : ℕ) → stop < 64 → get_or counts stop false ≡ is_served stop (take calls (calls_in list))) where
+  pub lent_served : (stop : ℕ) → stop < 64 → get_or counts stop false ≡ is_served stop (net_of h.network).calls
+  unfolding net_of
+  lent_served stop low =
+      flags stop low ∙ ap₂ (λ (k : ℕ) (l : List ℕ). is_served stop (take k (calls_in l))) h.calls_are h.list_is
+
+  -- the rating of each served stop once is the network's
+  pub lent_rating :
+      (starts : List ℤ) (gaps : List ℕ)
+      → ((stop : ℕ) → stop < 64 → get_or counts stop false ≡ true → get_or gaps stop 0 ≡ stop_gap (net_of h.network) starts stop)
+      → rating_by (λ s. get_or gaps s 0) (counted_stops counts (replicate 64 1)) ≡ rating (net_of h.network) starts
+  lent_rating = served_rating (net_of h.network) counts lent_served

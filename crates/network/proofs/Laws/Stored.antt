@@ -22,6 +22,7 @@ use Rattle.network.specs.Reading.{accepted, refused}
 use Rattle.network.specs.Grounds.{first, grounds}
 use Rattle.network.specs.Engine.Stored.{net_of, packed, call_in, calls_in, Sound, HasTotals, IsParsed}
 use Rattle.network.specs.Engine.Read.{reading_of, rows_read}
+use Rattle.network.specs.Engine.Scan.{Lent}
 use Rattle.network.specs.declared.grounds.Ground.TheVariants.{StartRowLength}
 use Rattle.network.specs.Numbers.{number_of}
 use Rattle.network.proofs.Laws.Lists.{zero_ne_one, map_set, take_set_next}
@@ -232,6 +233,32 @@ edition_of_parsed c f p behind edition (passes, is, stated) =
 pub held_periods : (n : Rows) → (net_of n).periods ≡ take n.lines n.periods
 unfolding net_of
 held_periods n = refl
+
+-- its rows, lent in its place
+abbrev pub lent_rows : (n : Rows) → Sound n → Valid (net_of n) → Lent n.periods n.list n.lines n.count
+lent_rows n s v =
+    record {
+      network = n;
+      sound = s;
+      valid = v;
+      periods_are = refl;
+      list_is = refl;
+      lines_are = sym (held_lines n s);
+      calls_are = refl;
+    }
+
+-- .. the number of lines being told by another that is the same
+abbrev pub lent_fits : {periods list : List ℕ} {lines other calls : ℕ} → other ≡ lines → Lent periods list lines calls → Lent periods list other calls
+lent_fits e h =
+    record {
+      network = h.network;
+      sound = h.sound;
+      valid = h.valid;
+      periods_are = h.periods_are;
+      list_is = h.list_is;
+      lines_are = e ∙ h.lines_are;
+      calls_are = h.calls_are;
+    }
 
 -- without its calls
 abbrev pub calls_dropped : Rows → Rows

@@ -4,8 +4,8 @@ use Rattle.network.specs.declared.Call.{Call}
 use Rattle.network.specs.declared.Rows.{Rows}
 use Rattle.network.specs.Lists.{pick, keep, below}
 use Rattle.network.specs.Network.{max_lines, max_stop}
-use Rattle.network.specs.Engine.Stored.{net_of, calls_in}
-use Rattle.network.specs.Valid.{no_call}
+use Rattle.network.specs.Engine.Stored.{net_of, calls_in, Sound}
+use Rattle.network.specs.Valid.{Valid, no_call}
 use Rattle.network.specs.Divisor.{gcd}
 use Rattle.network.specs.Gap.{residue, fold}
 use Rattle.network.specs.Rating.{Rating, Counted, arrival_of, no_rating, rating_by}
@@ -41,6 +41,16 @@ rating_so_far gap (s ∷ rest) = rating_by gap (s ∷ rest)
 unfoldable pub with_stop : Rating → ℕ → ℕ → Rating
 with_stop r gap weight =
     record { some = true; least = pick r.some (min r.least gap) gap; sum = r.sum + weight * gap }
+
+-- Rows that are lent in place of a network: its periods and its calls, with how many of each count
+pub record Lent (periods list : List ℕ) (lines calls : ℕ) : Type 0 where
+  pub network : Rows
+  pub sound : Sound network
+  pub valid : Valid (net_of network)
+  pub periods_are : periods ≡ network.periods
+  pub list_is : list ≡ network.list
+  pub lines_are : lines ≡ length (net_of network).periods
+  pub calls_are : calls ≡ network.count
 
 -- A row that has for each two lines the greatest common divisor of their periods, the pairs of a line side by side
 unfoldable pub DivisorsOf : List ℕ → List ℕ → Type 0
