@@ -183,7 +183,8 @@ pub fn board(
     ensures lines { line_row.new ≡ board.line_row_after (board.window stop from minutes) time_row.old line_row.old (read_file file.now) sheet.now }
     ensures bytes { IsBytes file.now }
 {
-    let network = read_network(file)?;
-    let timetable = check_asked(&network, sheet, stop, minutes)?;
+    let read = read_network(file);
+    let network = read.as_ref()?;
+    let timetable = check_asked(network, sheet, stop, minutes)?;
     timetable.list(stop as usize, from, minutes, time_row, line_row)
 }

@@ -93,14 +93,15 @@ pub fn classes(file: &[u8], class_row: &mut [u8], weight_row: &mut [u16]) -> Res
     ensures weights { weight_row.new ≡ call.weight_row_after (read_file file.now) class_row.old weight_row.old }
     ensures bytes { IsBytes file.now }
 {
-    let network = read_network(file)?;
+    let read = read_network(file);
+    let network = read.as_ref()?;
     if class_row.len() != Network::STOPS {
         return Err(Ground::ClassRowLength.at(0));
     }
     if weight_row.len() != Network::STOPS {
         return Err(Ground::ClassRowLength.at(0));
     }
-    Ok(fill_rows(&network, class_row, weight_row))
+    Ok(fill_rows(network, class_row, weight_row))
 }
 
 // The weighted rating, a call on a file and a sheet: it refuses as rate does.
@@ -108,6 +109,7 @@ pub fn weighted(file: &[u8], sheet: &[i32]) -> Result<Rating, Refusal>
     ensures answer { rate_answer result ≡ call.weighted_outcome (read_file file.now) sheet.now }
     ensures bytes { IsBytes file.now }
 {
-    let network = read_network(file)?;
-    Ok(timetable_of(&network, sheet)?.weighted_rating())
+    let read = read_network(file);
+    let network = read.as_ref()?;
+    Ok(timetable_of(network, sheet)?.weighted_rating())
 }

@@ -55,6 +55,7 @@ pub fn gaps(file: &[u8], sheet: &[i32], row: &mut [u16; Network::STOPS]) -> Resu
     ensures row { row.new ≡ gap.gap_row_after row.old (read_file file.now) sheet.now }
     ensures bytes { IsBytes file.now }
 {
-    let network = read_network(file)?;
-    Ok(timetable_of(&network, sheet)?.put_gaps(row))
+    let read = read_network(file);
+    let network = read.as_ref()?;
+    Ok(timetable_of(network, sheet)?.put_gaps(row))
 }

@@ -207,6 +207,15 @@ impl From<Unread> for Refusal {
     }
 }
 
+// What was read is looked at where it lies (`as_ref`): by value `?` moves a kilobyte of rows at each call.
+impl From<&Unread> for Refusal {
+    ghost from_gives = { λ unread refusal. refusal ≡ unread.now.refusal };
+
+    fn from(unread: &Unread) -> Refusal {
+        unread.refusal
+    }
+}
+
 // What a command states where no ground refuses it: a line, a call or an edition, or that the file ends.
 #[derive(Clone, Copy)]
 enum Stated {

@@ -53,8 +53,9 @@ pub fn rate(file: &[u8], sheet: &[i32]) -> Result<Rating, Refusal>
     ensures answer { rate_answer result ≡ rate_outcome (read_file file.now) sheet.now }
     ensures bytes { IsBytes file.now }
 {
-    let network = read_network(file)?;
-    rate_network(&network, sheet)
+    let read = read_network(file);
+    let network = read.as_ref()?;
+    rate_network(network, sheet)
 }
 
 // Rate for each of two sheets, the file being read once.

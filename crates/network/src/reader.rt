@@ -319,10 +319,11 @@ pub fn read(file: &[u8]) -> Result<Accepted, Refusal>
     ensures answer { reading.read_answer result ≡ reading.read_outcome (reading.read_file file.now) }
     ensures bytes { IsBytes file.now }
 {
-    let network = read_network(file)?;
+    let read = read_network(file);
+    let network = read.as_ref()?;
     Ok(Accepted {
         lines: network.rows.lines as u32,
-        stops: count_served(&network),
+        stops: count_served(network),
         calls: network.rows.count as u32,
         cycle: network.rows.cycle,
     })

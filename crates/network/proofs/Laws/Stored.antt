@@ -18,7 +18,7 @@ use Rattle.network.specs.declared.Stated.TheVariants as stated
 use Rattle.network.specs.Network.{Net, net_with, SoFar, with_network, with_edition, with_calls, Command, calls_by_offset, calls_by_ride, ends, extend}
 use Rattle.network.specs.Network.{max_lines, max_cycle, max_stop, max_calls, max_calls_at_stop, cycle, how_often_at, word, call_of, with_line, with_call}
 use Rattle.network.specs.Valid.{Valid, IsBytes, no_call}
-use Rattle.network.specs.Reading.{accepted, refused}
+use Rattle.network.specs.Reading.{Reading, accepted, refused}
 use Rattle.network.specs.Grounds.{first, grounds}
 use Rattle.network.specs.Engine.Stored.{net_of, packed, call_in, calls_in, Sound, HasTotals, IsParsed}
 use Rattle.network.specs.Engine.Read.{reading_of, rows_read}
@@ -300,6 +300,14 @@ reading_of_network n = refl
 pub reading_of_refused : (u : Unread) → reading_of (Err u) ≡ refused (number_of u.refusal.reason) u.refusal.place
 unfolding reading_of
 reading_of_refused u = refl
+
+-- .. told of a result that is looked at where it lies
+pub reads_network : {r : Result Network Unread} {n : Network} {read : Reading} → Ok n ≡ r → reading_of r ≡ read → read ≡ accepted (net_of n.rows)
+reads_network {n = n} is gives = sym gives ∙ ap reading_of (sym is) ∙ reading_of_network n
+
+pub reads_refusal : {r : Result Network Unread} {u : Unread} {read : Reading} → Err u ≡ r → reading_of r ≡ read
+    → read ≡ refused (number_of u.refusal.reason) u.refusal.place
+reads_refusal {u = u} is gives = sym gives ∙ ap reading_of (sym is) ∙ reading_of_refused u
 
 -- The rows that reading comes to
 pub same_rows_of_network : {r : Result Network Unread} {n : Network} → r ≡ Ok n → rows_read r ≡ n.rows

@@ -8,7 +8,7 @@ use Rattle.network.specs.Rate.{rate_answer, rating_values, on_sheet, rated_on_sh
 use Rattle.network.specs.ClassCall.{weighted_rating, weighted_outcome}
 use Rattle.network.specs.Engine.Stored.{net_of}
 use Rattle.network.specs.Numbers.{number_of}
-use Rattle.network.proofs.Laws.Stored.{bytes_of, reading_of_network, reading_of_refused}
+use Rattle.network.proofs.Laws.Stored.{bytes_of, reads_network, reads_refusal}
 use Rattle.network.proofs.classes.weighted.Goals as goal
 
 pub returns-in_err-network : goal.returns-in_err-network
@@ -19,7 +19,7 @@ returns-in_err-network c =
       answer = rw (is, gives)
           (sym
           (ap (λ (k : Reading). rated_on_sheet weighted_rating k c.args.sheet.now)
-          (sym c.in_err-network.ensures.1 ∙ reading_of_refused c.in_err-network.field-0.0)));
+          (reads_refusal c.in_err-network.ensures.value c.read_network-read.ensures.1)));
       bytes = bytes_of _ (λ i. (c.type_inv.file i).fits);
     }
 
@@ -28,8 +28,8 @@ unfolding rate_answer weighted_outcome on_sheet number_of
 returns-in_err-timetable_of c =
     let (_, is, gives) = err_from_is_err_and c.from_residual-in_err-timetable_of.result c.from_residual-in_err-timetable_of.ensures.1 in
     let (sheet, unfit) = c.in_err-timetable_of.ensures.err in
-    let n = net_of c.in_ok-network.network.rows in
-    let reads = sym c.in_ok-network.ensures.1 ∙ reading_of_network c.in_ok-network.network in
+    let n = net_of c.in_ok-network.network.now.rows in
+    let reads = reads_network c.in_ok-network.ensures.value c.read_network-read.ensures.1 in
     record {
       answer = rw (is, gives, sheet)
           (sym
@@ -41,8 +41,8 @@ returns-in_err-timetable_of c =
 pub returns : goal.returns
 unfolding rate_answer rating_values weighted_outcome on_sheet
 returns c =
-    let n = net_of c.in_ok-network.network.rows in
-    let reads = sym c.in_ok-network.ensures.1 ∙ reading_of_network c.in_ok-network.network in
+    let n = net_of c.in_ok-network.network.now.rows in
+    let reads = reads_network c.in_ok-network.ensures.value c.read_network-read.ensures.1 in
     let (same, starts) = c.in_ok-timetable_of.ensures.ok in
     record {
       answer = ap rating_values (rw (same, starts) at c.weighted_rating.ensures)

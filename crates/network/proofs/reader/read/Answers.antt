@@ -23,10 +23,10 @@ values_are n stops s e = cc (held_lines n s, held_calls n s, s.cycle_is)
 pub returns-in_err-network-clause-answer : goal.returns-in_err-network-clause-answer
 unfolding read_answer read_outcome reading_of
 returns-in_err-network-clause-answer c =
-    rw (error_is c.from_residual.result c.from_residual.ensures.1) (ap read_outcome c.in_err-network.ensures.1)
+    rw (error_is c.from_residual.result c.from_residual.ensures.1) (ap read_outcome (ap reading_of c.in_err-network.ensures.value ∙ c.read_network-read.ensures.1))
 
 pub returns-clause-answer : goal.returns-clause-answer
 unfolding read_answer read_outcome reading_of
 returns-clause-answer c =
-    let n = c.in_ok-network.network in
-    values_are n.rows c.count_served.result n.sound c.count_served.ensures ∙ ap read_outcome c.in_ok-network.ensures.1
+    let n = c.in_ok-network.network.now in
+    values_are n.rows c.count_served.result n.sound c.count_served.ensures ∙ ap read_outcome (ap reading_of c.in_ok-network.ensures.value ∙ c.read_network-read.ensures.1)

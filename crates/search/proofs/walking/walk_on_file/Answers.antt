@@ -9,7 +9,7 @@ use lib.ListN.{length}
 use Rattle.std.proofs.lemmas.Result.{err_from_is_err_and}
 use Rattle.network.specs.Network.{Net}
 use Rattle.network.specs.Reading.{Reading, read_file}
-use Rattle.network.proofs.Laws.Stored.{held_lines, bytes_of, reading_of_network, reading_of_refused}
+use Rattle.network.proofs.Laws.Stored.{held_lines, bytes_of, reads_network, reads_refusal}
 use Rattle.search.specs.declared.Rule as code
 use Rattle.search.specs.Search.{walked, on_start_row, row_after_walk}
 use Rattle.search.specs.Walk.{State}
@@ -31,8 +31,8 @@ module _ (row : List ℤ) (rule : code.Rule) (budget : ℕ) where
 
 pub returns-in_err-network : goal.returns-in_err-network
 unfolding ending_of on_start_row
-returns-in_err-network c = let u = c.in_err-network.field-0.0 in
-    let refuses = sym c.in_err-network.ensures.1 ∙ reading_of_refused u in
+returns-in_err-network c = let u = c.in_err-network.field-0.0.now in
+    let refuses = reads_refusal c.in_err-network.ensures.value c.read_network-read.ensures.1 in
     let (_, is, gives) = err_from_is_err_and c.from_residual.result c.from_residual.ensures.1 in record {
       ended = rw (is, gives) (sym (ap (ends c.args.row.now c.args.rule c.args.budget) refuses));
       starts = sym (ap (leaves c.args.row.now c.args.rule c.args.budget) refuses);
@@ -41,7 +41,7 @@ returns-in_err-network c = let u = c.in_err-network.field-0.0 in
 
 pub returns-in_err-walk : goal.returns-in_err-walk
 returns-in_err-walk c = let row = c.args.row.now in
-    let reads = sym (reading_of_network c.in_ok-network.network) ∙ c.in_ok-network.ensures.1 in
+    let reads = sym (reads_network c.in_ok-network.ensures.value c.read_network-read.ensures.1) in
     let here = c.in_err-walk.ensures.ended ∙ ap (ends row c.args.rule c.args.budget) reads in
     let (_, is, gives) = err_from_is_err_and c.from_residual-in_err-walk.result c.from_residual-in_err-walk.ensures.1 in record {
       ended = rw (is, gives) here;
@@ -50,13 +50,13 @@ returns-in_err-walk c = let row = c.args.row.now in
     }
 
 pub write_starts-requires : goal.write_starts-requires
-write_starts-requires c = let n = c.in_ok-network.network in
+write_starts-requires c = let n = c.in_ok-network.network.now in
     omega (arith, c.in_ok-walk.ensures.fits, held_lines n.rows n.sound, n.sound.lines)
 
 pub returns-then-is_some : goal.returns-then-is_some
 returns-then-is_some c = let row = c.args.row.now in
     let w = c.in_ok-walk.walk in
-    let reads = sym (reading_of_network c.in_ok-network.network) ∙ c.in_ok-network.ensures.1 in
+    let reads = sym (reads_network c.in_ok-network.ensures.value c.read_network-read.ensures.1) in
     let here = c.in_ok-walk.ensures.ended ∙ ap (ends row c.args.rule c.args.budget) reads in record {
       ended = here;
       starts = c.write_starts.ensures
@@ -68,7 +68,7 @@ returns-then-is_some c = let row = c.args.row.now in
 pub returns-else-is_some : goal.returns-else-is_some
 returns-else-is_some c = let row = c.args.row.now in
     let w = c.in_ok-walk.walk in
-    let reads = sym (reading_of_network c.in_ok-network.network) ∙ c.in_ok-network.ensures.1 in
+    let reads = sym (reads_network c.in_ok-network.ensures.value c.read_network-read.ensures.1) in
     let here = c.in_ok-walk.ensures.ended ∙ ap (ends row c.args.rule c.args.budget) reads in record {
       ended = here;
       starts = none_left_as_is (length row) w row (sym (some_is w.best) ∙ sym c.is_some.ensures ∙ c.if-is_some.false)
