@@ -102,7 +102,7 @@ impl Rows {
     }
 }
 
-// A network that has been read: its rows fit one another, and it is within the limits.
+// A network that has been read, or whose rows are lent: its rows fit one another, and it is within the limits.
 #[derive(Clone, Copy)]
 pub struct Network {
     pub rows: Rows,
@@ -237,7 +237,7 @@ impl Rating {
     pub const NONE: Option<Rating> = None;
 
     // Whether a rating is above another: its least gap is larger, or that is equal and its sum is larger. A function, and the next too, since the
-    // promises go by these names; both are the derived order.
+    // promises go by these names; this is the derived order, the next the derived equality of two ratings.
     pub fn is_above(one: Option<Rating>, other: Option<Rating>) -> bool
         ensures { result ≡ rating.is_above (ranked one) (ranked other) }
     {

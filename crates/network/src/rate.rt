@@ -26,7 +26,7 @@ impl Timetable<'_> {
     }
 }
 
-// Rate on a network that has been read: the rating of a sheet, or ground 15 where it hasn't one start for each line.
+// Rate on a network that is held: the rating of a sheet, or ground 15 where it hasn't one start for each line.
 pub fn rate_network(network: &Network, sheet: &[i32]) -> Result<Rating, Refusal>
     ensures { rate_answer result ≡ rate_outcome (accepted (net_of network.now.rows)) sheet.now }
 {

@@ -1,15 +1,16 @@
 -- What the pass over the calls and the pass over the stops compute is the rating: the rows hold the stops' gaps, and count the stops that
 -- the definition counts. Assumes nothing.
 use Prim.Native.Nat.{ℕ, suc, ◌*◌, ◌<◌, ◌≤◌}
-use mathlib.Core.Path.{◌≡◌, ap, ap₂, ◌∙◌}
+use mathlib.Core.Path.{◌≡◌, sym, ap, ap₂, ◌∙◌}
 use mathlib.Core.Bool.{Bool, true, false}
 use mathlib.Core.List.Memᴰ
 use mathlib.Core.List.{List, [], ◌∷◌, map, Memᴰ}
 use native.Mathlib.Nat.{le_trans, zero-lt-suc}
 use native.Mathlib.Omega.{arith}
-use lib.Dec.{eqb}
+use borrow.Author.Tests.{ltb-true}
+use lib.Dec.{eqb, ltb}
 use lib.IntN.{ℤ}
-use lib.ListN.{length, get_or, take, replicate, get_or-replicate}
+use lib.ListN.{length, get_or, take, replicate, get_or-replicate, get_or-map}
 use Rattle.network.specs.declared.Call.{Call}
 use Rattle.network.specs.Lists.{below, least_of, keep}
 use Rattle.network.specs.Network.{Net, max_stop, max_period, is_served}
@@ -110,16 +111,26 @@ served_rating n counts flags starts gaps are =
 
 -- ---- rows of a network that is lent: which stops its calls serve, and their gaps
 
-module _ {periods list : List ℕ} {lines calls : ℕ} (h : Lent periods list lines calls) (counts : List Bool)
-    (flags : (stop : ℕ) → stop < 64 → get_or counts stop false ≡ is_served stop (take calls (calls_in list))) where
-  pub lent_served : (stop : ℕ) → stop < 64 → get_or counts stop false ≡ is_served stop (net_of h.network).calls
+module _ {periods list : List ℕ} {lines calls : ℕ} (h : Lent periods list lines calls) where
+  pub lent_served :
+      (served : ℕ → Bool)
+      → ((stop : ℕ) → stop < 64 → served stop ≡ is_served stop (take calls (calls_in list)))
+      → (stop : ℕ) → stop < 64 → served stop ≡ is_served stop (net_of h.network).calls
   unfolding net_of
-  lent_served stop low =
+  lent_served served flags stop low =
       flags stop low ∙ ap₂ (λ (k : ℕ) (l : List ℕ). is_served stop (take k (calls_in l))) h.calls_are h.list_is
 
   -- the rating of each served stop once is the network's
   pub lent_rating :
-      (starts : List ℤ) (gaps : List ℕ)
-      → ((stop : ℕ) → stop < 64 → get_or counts stop false ≡ true → get_or gaps stop 0 ≡ stop_gap (net_of h.network) starts stop)
-      → rating_by (λ s. get_or gaps s 0) (counted_stops counts (replicate 64 1)) ≡ rating (net_of h.network) starts
-  lent_rating = served_rating (net_of h.network) counts lent_served
+      (counts : List ℕ)
+      → ((stop : ℕ) → stop < 64 → ltb 0 (get_or counts stop 0) ≡ is_served stop (take calls (calls_in list)))
+      → (starts : List ℤ) (gaps : List ℕ)
+      → ((stop : ℕ) → stop < 64 → 0 < get_or counts stop 0 → get_or gaps stop 0 ≡ stop_gap (net_of h.network) starts stop)
+      → rating_by (λ s. get_or gaps s 0) (counted_stops (map (ltb 0) counts) (replicate 64 1)) ≡ rating (net_of h.network) starts
+  lent_rating counts flags starts gaps are =
+      let flag : (stop : ℕ) → get_or (map (ltb 0) counts) stop false ≡ ltb 0 (get_or counts stop 0) = λ stop. get_or-map (ltb 0) counts stop 0 in
+      served_rating (net_of h.network) (map (ltb 0) counts)
+      (λ stop low. flag stop ∙ lent_served (λ s. ltb 0 (get_or counts s 0)) flags stop low)
+      starts
+      gaps
+      (λ stop low k. are stop low (ltb-true _ _ (sym (flag stop) ∙ k)))
