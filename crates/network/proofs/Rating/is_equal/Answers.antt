@@ -2,7 +2,6 @@
 -- Assumes nothing.
 use mathlib.Core.Path.{refl}
 use Rattle.network.specs.Rating.{is_equal}
-use Rattle.network.specs.Engine.Rated.{ranked}
 use Rattle.network.proofs.Rating.is_equal.Goals as goal
 
 pub returns-in-Some-Some : goal.returns-in-Some-Some

@@ -1,5 +1,5 @@
 -- `network::board::board` meets its contract: it answers the file's refusal, then the grounds that need no list, and then lists. Assumes nothing.
-use mathlib.Core.Path.{sym, ◌∙◌}
+use mathlib.Core.Path.{sym}
 use native.Mathlib.Omega.{arith}
 use mir.Facts.{to_z-of_z}
 use Rattle.std.proofs.lemmas.Result.{err_from_is_err_and}

@@ -1,5 +1,4 @@
 -- `network::classes::classes` meets its contract: it answers the file's refusal, then ground 17, and then fills the rows. Assumes nothing.
-use mathlib.Core.Path.{sym, ◌∙◌}
 use borrow.Author.Tests.{eq-eqb, ne_eqb}
 use lib.Dec.{eqb}
 use lib.ListN.{length}
